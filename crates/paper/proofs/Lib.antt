@@ -1,0 +1,11 @@
+pub mod Lists
+pub mod Tables
+pub mod Firsts
+pub mod Texts
+pub mod Decimal
+pub mod Locate
+pub mod Marks
+pub mod Inside
+pub mod Once
+pub mod Tries
+pub mod Samples

@@ -1,0 +1,74 @@
+-- Laws of lists: elements and counts, also through a map.
+use Prim.Native.Nat.{ℕ, zero, suc, _+_, _<_}
+use native.Mathlib.Omega.{arith}
+use mathlib.Core.Path.{_≡_, refl, sym, ap, _∙_, subst}
+use mathlib.Core.List.{List, [], _∷_, _++_, map}
+use lib.ListN.{length}
+use Rattle.paper.specs.Lists.{Nth, _∈_, Numbered, Count, end, has, lacks}
+
+pub nth-once : {A : Type 0} (l : List A) (i : ℕ) (x y : A) → Nth l i x → Nth l i y → x ≡ y
+nth-once [] i x y h k = absurd h
+nth-once (z ∷ l) zero x y h k = h ∙ sym k
+nth-once (z ∷ l) (suc i) x y h k = nth-once l i x y h k
+
+pub nth-inside : {A : Type 0} (l : List A) (i : ℕ) (x : A) → Nth l i x → i < length l
+nth-inside [] i x h = absurd h
+nth-inside (y ∷ l) zero x h = omega arith
+nth-inside (y ∷ l) (suc i) x h = omega (arith, nth-inside l i x h)
+
+-- a number stands for one element
+pub numbered-once : {A : Type 0} (l : List A) (k : ℕ) (x y : A) → Numbered l k x → Numbered l k y → x ≡ y
+numbered-once l k x y a b = nth-once l (a .0) x y (a .2) (subst (λ (i : ℕ). Nth l i y) (omega (arith, a .1, b .1)) (b .2))
+
+-- a property counts once
+pub count-once : {A : Type 0} {C : A → Type 0} {l : List A} {n m : ℕ} → Count C l n → Count C l m → n ≡ m
+count-once end end = refl
+count-once (has c r) (has d s) = ap suc (count-once r s)
+count-once (has c r) (lacks d s) = absurd (d c)
+count-once (lacks c r) (has d s) = absurd (c d)
+count-once (lacks c r) (lacks d s) = count-once r s
+
+module _ {A B : Type 0} (f : A → B) where
+  nth-map : (l : List A) (i : ℕ) (x : A) → Nth l i x → Nth (map f l) i (f x)
+  nth-map [] i x h = absurd h
+  nth-map (y ∷ l) zero x h = ap f h
+  nth-map (y ∷ l) (suc i) x h = nth-map l i x h
+
+  map-nth : (l : List A) (i : ℕ) (y : B) → Nth (map f l) i y → (x : A) × Nth l i x × (y ≡ f x)
+  map-nth [] i y h = absurd h
+  map-nth (x ∷ l) zero y h = (x, refl, h)
+  map-nth (x ∷ l) (suc i) y h = map-nth l i y h
+
+  pub numbered-map : (l : List A) (k : ℕ) (x : A) → Numbered l k x → Numbered (map f l) k (f x)
+  numbered-map l k x h = (h .0, h .1, nth-map l (h .0) x (h .2))
+
+  -- what holds of the image of each numbered element holds of each numbered element of the image
+  pub of-numbered : (l : List A) (R : ℕ → B → Type 0) → ((k : ℕ) (x : A) → Numbered l k x → R k (f x))
+      → (k : ℕ) (y : B) → Numbered (map f l) k y → R k y
+  of-numbered l R g k y h =
+      let x = map-nth l (h .0) y (h .2) in subst (R k) (sym (x .2)) (g k (x .0) (h .0, h .1, x .1))
+
+  pub in-map : (l : List A) (x : A) → x ∈ l → f x ∈ map f l
+  in-map l x h = (h .0, nth-map l (h .0) x (h .1))
+
+  pub of-map : (l : List A) (R : B → Type 0) → ((x : A) → x ∈ l → R (f x)) → (y : B) → y ∈ map f l → R y
+  of-map l R g y h = let x = map-nth l (h .0) y (h .1) in subst R (sym (x .2)) (g (x .0) (h .0, x .1))
+
+  module _ (C : A → Type 0) (D : B → Type 0) where
+    pub count-map : ((a : A) → C a → D (f a)) → ((a : A) → D (f a) → C a) → {l : List A} {n : ℕ} → Count C l n → Count D (map f l) n
+    count-map to of end = end
+    count-map to of (has {a = a} c r) = has (to a c) (count-map to of r)
+    count-map to of (lacks {a = a} c r) = lacks (λ d. c (of a d)) (count-map to of r)
+
+    pub map-count : ((a : A) → C a → D (f a)) → ((a : A) → D (f a) → C a) → (l : List A) {n : ℕ} → Count D (map f l) n → Count C l n
+    map-count to of [] end = end
+    map-count to of (a ∷ l) (has d r) = has (of a d) (map-count to of l r)
+    map-count to of (a ∷ l) (lacks d r) = lacks (λ c. d (to a c)) (map-count to of l r)
+
+  pub length-map : (l : List A) → length (map f l) ≡ length l
+  length-map [] = refl
+  length-map (x ∷ l) = ap suc (length-map l)
+
+  pub map-append : (l k : List A) → map f (l ++ k) ≡ map f l ++ map f k
+  map-append [] k = refl
+  map-append (x ∷ l) k = ap (_∷_ (f x)) (map-append l k)

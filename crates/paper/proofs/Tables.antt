@@ -1,0 +1,25 @@
+-- A table's rule at each of its entries, from one equation of lists that antt computes over the whole table.
+use Prim.Native.Nat.{ℕ, zero, suc, _+_, _<_}
+use native.Mathlib.Nat.{le-of-suc-le-suc, not-suc-le-zero}
+use native.Mathlib.Omega.{arith}
+use mathlib.Core.Path.{_≡_, sym, ap, _∙_}
+use mathlib.Core.List.{List, [], _∷_, map}
+use lib.ListN.{getD, List·getD-map}
+
+-- what f gives for n numbers from i on
+abbrev pub listed : {A : Type 0} → (ℕ → A) → ℕ → ℕ → List A
+listed f i zero = []
+listed f i (suc n) = f i ∷ listed f (suc i) n
+
+listed-at : {A : Type 0} (f : ℕ → A) (i n k : ℕ) (d : A) → k < n → getD (listed f i n) k d ≡ f (i + k)
+listed-at f i zero k d h = absurd (not-suc-le-zero h)
+listed-at f i (suc n) zero d h = ap f (omega arith)
+listed-at f i (suc n) (suc k) d h = listed-at f (suc i) n k d (le-of-suc-le-suc h) ∙ ap f (omega arith)
+
+-- the test: what g makes of the n entries is what f makes of their places. A right table passes it by `refl`
+abbrev pub Test : {A : Type 0} → (ℕ → A) → (ℕ → A) → List ℕ → ℕ → Type 0
+Test g f t n = map g t ≡ listed f 0 n
+
+pub at-each : {A : Type 0} (g f : ℕ → A) (t : List ℕ) (n : ℕ) → Test g f t n → (k : ℕ) → k < n → g (getD t k 0) ≡ f k
+at-each g f t n test k h =
+    sym (List·getD-map g t k 0) ∙ ap (λ (l : List _). getD l k (g 0)) test ∙ listed-at f 0 n k (g 0) h ∙ ap f (omega arith)

@@ -1,0 +1,76 @@
+-- Texts: bytes are written from at most one text.
+use Prim.Native.Nat.{ℕ, suc}
+use mathlib.Core.Path.{_≡_, refl, sym, ap, _∙_, subst}
+use mathlib.Core.Bool.{Bool, true, false, cond}
+use mathlib.Core.List.{List, [], _∷_, _++_, cons≢nil}
+use lib.ListN.{getD, drop}
+use lib.Dec.{eqb}
+use borrow.Author.Tests.{eqb-true}
+use Rattle.paper.specs.Bytes.{bytes, spell, raw, all}
+use Rattle.paper.specs.Tree.{Text}
+use Rattle.paper.specs.Layout.{text}
+
+-- what the first character of a written text is, and what follows it
+abbrev pub unspell : List ℕ → ℕ × List ℕ
+unspell w =
+    cond (eqb (getD w 0 0) 38)
+    (cond (eqb (getD w 1 0) 108) (60, drop 4 w)
+    (cond (eqb (getD w 1 0) 103) (62, drop 4 w)
+    (cond (eqb (getD w 1 0) 113) (34, drop 6 w)
+    (cond (eqb (getD w 2 0) 109) (38, drop 5 w) (39, drop 6 w)))))
+    (getD w 0 0, drop 1 w)
+
+pub unspell-spell : (b : ℕ) (r : List ℕ) → unspell (spell b ++ r) ≡ (b, r)
+unspell-spell b r = lt (eqb b 60) refl
+  where
+    is : (c : ℕ) → eqb b c ≡ true → unspell (spell c ++ r) ≡ (c, r) → unspell (spell b ++ r) ≡ (b, r)
+    is c e h = subst (λ (k : ℕ). unspell (spell k ++ r) ≡ (k, r)) (sym (eqb-true b c e)) h
+
+    plain : eqb b 60 ≡ false → eqb b 62 ≡ false → eqb b 38 ≡ false → eqb b 34 ≡ false → (t : Bool) → eqb b 39 ≡ t
+        → unspell (spell b ++ r) ≡ (b, r)
+    plain e f g h true k = is 39 k refl
+    plain e f g h false k = rw (e, f, g, h, k, g)
+
+    quot : eqb b 60 ≡ false → eqb b 62 ≡ false → eqb b 38 ≡ false → (t : Bool) → eqb b 34 ≡ t → unspell (spell b ++ r) ≡ (b, r)
+    quot e f g true h = is 34 h refl
+    quot e f g false h = plain e f g h (eqb b 39) refl
+
+    amp : eqb b 60 ≡ false → eqb b 62 ≡ false → (t : Bool) → eqb b 38 ≡ t → unspell (spell b ++ r) ≡ (b, r)
+    amp e f true g = is 38 g refl
+    amp e f false g = quot e f g (eqb b 34) refl
+
+    gt : eqb b 60 ≡ false → (t : Bool) → eqb b 62 ≡ t → unspell (spell b ++ r) ≡ (b, r)
+    gt e true f = is 62 f refl
+    gt e false f = amp e f (eqb b 38) refl
+
+    lt : (t : Bool) → eqb b 60 ≡ t → unspell (spell b ++ r) ≡ (b, r)
+    lt true e = is 60 e refl
+    lt false e = gt e (eqb b 62) refl
+
+front-empty : (u v : List ℕ) → u ++ v ≡ [] → u ≡ []
+front-empty [] v e = refl
+front-empty (a ∷ u) v e = absurd (cons≢nil e)
+
+-- a character is written as one byte or more
+pub spell-some : (b : ℕ) (r : List ℕ) → spell b ++ r ≡ [] → ⊥
+spell-some b r e =
+    let q : _≡_ {A = ℕ × List ℕ} (7, []) (b, 7 ∷ []) = rw (front-empty (spell b) r e) at (unspell-spell b (7 ∷ [])) in
+    cons≢nil (sym (ap (λ (x : ℕ × List ℕ). x .1) q))
+
+-- a written text is read in one way
+pub raw-once : (v w : List ℕ) → raw v ≡ raw w → v ≡ w
+raw-once [] [] e = refl
+raw-once [] (c ∷ w) e = absurd (spell-some c (raw w) (sym e))
+raw-once (b ∷ v) [] e = absurd (spell-some b (raw v) e)
+raw-once (b ∷ v) (c ∷ w) e =
+    let q : _≡_ {A = ℕ × List ℕ} (b, raw v) (c, raw w) = sym (unspell-spell b (raw v)) ∙ ap unspell e ∙ unspell-spell c (raw w) in
+    let h : b ≡ c = ap (λ (x : ℕ × List ℕ). x .0) q in
+    let t : v ≡ w = raw-once v w (ap (λ (x : ℕ × List ℕ). x .1) q) in
+    λ i. h i ∷ t i
+
+-- a text has at most one reading
+pub text-once : (allowed : ℕ → Bool) {at : ℕ} {w : List ℕ} (t u : Text ℕ) → text allowed t at w → text allowed u at w → t ≡ u
+text-once allowed t u a b =
+    let p : t .place ≡ u .place = a .0 ∙ sym (b .0) in
+    let r : t .read ≡ u .read = raw-once (t .read) (u .read) (sym (a .2) ∙ b .2) in
+    λ i. record { place = p i; read = r i }

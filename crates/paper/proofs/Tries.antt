@@ -1,0 +1,75 @@
+-- The definitions tried where a slip would be likely: small theorems that they mean what document 01 says.
+use Prim.Native.Nat.{ℕ, suc, _+_}
+use native.Mathlib.Omega.{arith}
+use mathlib.Core.Path.{_≡_, refl, sym, ap, _∙_}
+use mathlib.Core.Bool.{true, false}
+use mathlib.Core.Logic.{inl, inr}
+use mathlib.Core.List.{List, [], _∷_, _++_, append-assoc, append-nil}
+use mathlib.Core.Option.{none, some}
+use lib.ListN.{length, length-append}
+use Rattle.paper.specs.Bytes.{bytes, raw}
+use Rattle.paper.specs.Lists.{Count, end, has, lacks}
+use Rattle.paper.specs.Tree.{Text, Qualifier, Sequence, Listing, markText}
+use Rattle.paper.specs.Layout.{leaf}
+use Rattle.paper.specs.Locations.{Member, Operator, Location, many, Locates, spans, spanOf, breaks25}
+use Rattle.paper.specs.Rules.{L, Skipped, valueRead}
+use Rattle.paper.specs.Answers.{Counts, page}
+use Rattle.paper.specs.declared.Verdict.the-variants.{Accepted, Refused}
+use Rattle.paper.proofs.Locate.{locate-sound}
+
+-- a complement of a join or order reverses its members and complements each
+reverses : (op : Operator) (a b c : Member)
+    → spans (many true op (a ∷ b ∷ c ∷ [])) ≡ spanOf true (c .piece) ∷ spanOf true (b .piece) ∷ spanOf true (a .piece) ∷ []
+reverses op a b c = refl
+
+-- L is taken from the text, whatever INSDSeq_length declares
+length-of-text : {P : Type 0} (s t : Sequence P) → s .residues .read ≡ t .residues .read → L s ≡ L t
+length-of-text s t e = ap length e
+
+-- `<X/>` and `<X></X>` write the same text: both read as empty, each with its own place
+abbrev no-text : ℕ → Text ℕ
+no-text at = record { place = at; read = [] }
+
+short-spelling : (name : List ℕ) (at : ℕ) → leaf name (no-text at) at ((bytes "<" ++ name) ++ bytes "/>")
+short-spelling name at = (bytes "<" ++ name, bytes "/>", refl, refl, ([], bytes "/>", refl, tt, inl ((refl, refl), refl)))
+
+long-spelling : (name : List ℕ) (at : ℕ) → (p : ℕ) × leaf name (no-text p) at ((bytes "<" ++ name) ++ (bytes ">" ++ ((bytes "</" ++ name) ++ bytes ">")))
+long-spelling name at =
+    let e = bytes "</" ++ name in (
+      _,
+      (
+        bytes "<" ++ name,
+        _,
+        refl,
+        refl,
+        ([], _, refl, tt, inr (bytes ">", _, refl, (bytes ">", [], refl, refl, (refl, tt, refl)), (e, bytes ">", refl, (e, [], sym (append-nil e), refl, tt), refl))),
+      ),
+    )
+
+read-alike : (p q : ℕ) → _≡_ {A = Text (Unit {0})} (markText (λ n. tt) (no-text p)) (markText (λ n. tt) (no-text q))
+read-alike p q = refl
+
+-- an absent value and an empty one differ
+absent-or-empty : {P : Type 0} (name : Text P) (p : P)
+    → ¬ (valueRead (record { name = name; value = none }) ≡ valueRead (record { name = name; value = some (record { place = p; read = [] }) }))
+absent-or-empty name p e = let z : _≡_ {A = ℕ} 0 1 = cc in omega arith
+
+-- skipped sequences count in the total
+total-has-skipped : {P : Type 0} (l : Listing P) {t k f j u n : ℕ} → Counts l t k f j u → Count (λ (s : Sequence P). ¬ Skipped s) (l .sequences) n → t ≡ k + n
+total-has-skipped {P} l c d = c .totals ∙ go (l .sequences) (c .skips) d
+  where
+    go : (l : List (Sequence P)) {k n : ℕ} → Count Skipped l k → Count (λ (s : Sequence P). ¬ Skipped s) l n → length l ≡ k + n
+    go [] end end = refl
+    go (s ∷ l) (has a c) (has b d) = absurd (b a)
+    go (s ∷ l) (has a c) (lacks b d) = omega (arith, go l c d)
+    go (s ∷ l) (lacks a c) (has b d) = omega (arith, go l c d)
+    go (s ∷ l) (lacks a c) (lacks b d) = absurd (b a)
+
+-- the lines that the program prints
+pages : (page (Accepted 2 1 2 1 0) ≡ bytes "verdict accepted\ntotal 2\nskipped 1\nfeatures 2\njudged 1\nunjudged 0\n")
+    × (page (Refused 2 0) ≡ bytes "verdict refused\nrule 2\nplace 0\n")
+pages = (refl, refl)
+
+-- a position of thirty digits is read as it stands, and breaks rule 25 in the longest listing
+thirty-digits : (t : Location) × Locates t (bytes "100000000000000000000000000012") × (breaks25 16777216 t ≡ true)
+thirty-digits = (_, locate-sound _ _ refl, refl)

@@ -1,0 +1,10 @@
+pub mod Bytes
+pub mod Form
+pub mod Lists
+pub mod Tree
+pub mod Layout
+pub mod Values
+pub mod Locations
+pub mod Translation
+pub mod Rules
+pub mod Answers

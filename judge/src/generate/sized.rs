@@ -1,0 +1,420 @@
+//! Listings of an exact size, and large ones that are traps for a slow reader.
+
+use super::rng::Rng;
+use super::valid::CODONS;
+use super::{Case, Expectation};
+use crate::layout::LONGEST;
+use crate::{Counts, Refusal};
+
+/// What a listing of an exact size is mostly made of.
+#[derive(Clone, Copy, Debug)]
+pub enum Mix {
+    Features,
+    Sequences,
+    Residues,
+}
+
+/// All mixes.
+pub const MIXES: [Mix; 3] = [Mix::Features, Mix::Sequences, Mix::Residues];
+
+/// A listing of exactly this size, at least 600; it is valid unless too long.
+pub fn sized(mix: Mix, size: usize, seed: u64) -> Case {
+    let rng = &mut Rng::new(seed);
+    let mut counts = Counts::default();
+    // Room for the frame, one sequence and one item more.
+    let filling = size.saturating_sub(3000);
+    let mut sequences = Vec::new();
+    match mix {
+        _ if filling == 0 => {
+            counts.skipped = 1;
+            sequences.push(skipped_sequence());
+        }
+        Mix::Features => {
+            let residues = open_frame(rng, 1000);
+            let mut table = source("DNA", residues.len());
+            counts.features = 1;
+            while table.len() < filling.saturating_sub(residues.len()) {
+                table += &any_feature(rng, &mut counts);
+            }
+            sequences.push(sequence("DNA", &table, &residues));
+        }
+        Mix::Sequences => {
+            let mut filled = 0;
+            while filled < filling {
+                let next = any_sequence(rng, &mut counts);
+                // The tags of SequenceData come on top.
+                filled += next.len() + 60;
+                sequences.push(next);
+            }
+        }
+        Mix::Residues => {
+            let residues = open_frame(rng, filling);
+            let mut table = source("DNA", residues.len());
+            table += &any_feature(rng, &mut counts);
+            counts.features += 1;
+            sequences.push(sequence("DNA", &table, &residues));
+        }
+    }
+    counts.total = sequences.len() as u64;
+    let bare_size = listing("", &sequences).len();
+    let title = "t".repeat(size - bare_size);
+    let expectation = if size > LONGEST {
+        refused(1, 0)
+    } else {
+        Expectation::Accepted(counts)
+    };
+    case(
+        &format!("{mix:?} {size}"),
+        listing(&title, &sequences),
+        expectation,
+    )
+}
+
+/// Every trap: valid or invalid listings of nearly the greatest size.
+pub const TRAPS: [fn() -> Case; 17] = [
+    right_translations,
+    wrong_translations,
+    wide_join,
+    wide_join_without_value,
+    complement_of_wide_join,
+    complement_of_long_join,
+    single_residue_join,
+    open_complements,
+    closed_complements,
+    many_features,
+    many_sequences,
+    many_qualifiers,
+    long_length,
+    long_total,
+    long_position,
+    long_site,
+    entities,
+];
+
+/// Many right translations of one join with thousands of members.
+fn right_translations() -> Case {
+    let rng = &mut Rng::new(1);
+    let (residues, letters) = codons(rng, 1000);
+    let location = join((1..=3000).map(|position| position.to_string()));
+    let qualifiers = qualifier("translation", &letters).repeat(14_700);
+    let table = source("DNA", 3000) + &feature("CDS", &location, &qualifiers);
+    let text = listing("", &[sequence("DNA", &table, &residues)]);
+    case("14,700 right translations", text, one_cds())
+}
+
+/// Many translations that are wrong in their last letter.
+fn wrong_translations() -> Case {
+    let rng = &mut Rng::new(2);
+    let (residues, letters) = codons(rng, 1000);
+    let location = join((1..=3000).map(|position| position.to_string()));
+    let wrong = format!("{}%", &letters[..99]);
+    let qualifiers = qualifier("translation", &wrong).repeat(70_000);
+    let table = source("DNA", 3000) + &feature("CDS", &location, &qualifiers);
+    let text = listing("", &[sequence("DNA", &table, &residues)]);
+    let place = text.find(&wrong).unwrap_or(0);
+    case("70,000 wrong translations", text, refused(28, place))
+}
+
+/// A join of 700,000 times eight million residues.
+fn wide_join_text(qualifiers: &str, operator: &str, close: &str) -> String {
+    let residues = "atg".to_string() + &"gcc".repeat(2_666_665);
+    let length = residues.len();
+    let member = format!("1..{length}");
+    let members = vec![member.as_str(); 700_000].join(",");
+    let location = format!("{operator}({members}{close}");
+    let table = source("DNA", length) + &feature("CDS", &location, qualifiers);
+    listing("", &[sequence("DNA", &table, &residues)])
+}
+
+/// One letter where 1.9 million million would be right.
+fn wide_join() -> Case {
+    let text = wide_join_text(&qualifier("translation", "M"), "join", ")");
+    let place = text.find(">M<").unwrap_or(0) + 1;
+    case("one letter for a wide join", text, refused(28, place))
+}
+
+fn wide_join_without_value() -> Case {
+    let text = wide_join_text("", "join", ")");
+    case("wide join without translation", text, one_cds())
+}
+
+fn complement_of_wide_join() -> Case {
+    let text = wide_join_text(&qualifier("translation", "G"), "complement(join", "))");
+    let place = text.find(">G<").unwrap_or(0) + 1;
+    case("complement of a wide join", text, refused(28, place))
+}
+
+/// A right translation over the complement of a join of 700,000 members.
+fn complement_of_long_join() -> Case {
+    let residues = "cataaagggcccttt";
+    let members = vec!["1..3,4..6"; 350_000].join(",");
+    let location = format!("complement(join({members}))");
+    // Backwards and complemented, `4..6` is ttt and `1..3` is atg.
+    let translation = qualifier("translation", &"FM".repeat(350_000));
+    let table = source("DNA", 15) + &feature("CDS", &location, &translation);
+    let text = listing("", &[sequence("DNA", &table, residues)]);
+    case("complement of a long join", text, one_cds())
+}
+
+/// As many members as a location can hold.
+fn single_residue_join() -> Case {
+    let location = join(std::iter::repeat("1".to_string()).take(8_000_000));
+    let translation = qualifier("translation", "KKK");
+    let table = source("RNA", 10) + &feature("CDS", &location, &translation);
+    let text = listing("", &[sequence("RNA", &table, "aaaaaccccc")]);
+    let place = text.find(">KKK<").unwrap_or(0) + 1;
+    case("join of 8,000,000 residues", text, refused(28, place))
+}
+
+fn open_complements() -> Case {
+    located("open complements", &"complement(".repeat(1_400_000), 24)
+}
+
+fn closed_complements() -> Case {
+    let (open, close) = ("complement(".repeat(1_300_000), ")".repeat(1_300_000));
+    located("closed complements", &format!("{open}1{close}"), 24)
+}
+
+fn long_position() -> Case {
+    located("position of 16,000,000 digits", &"9".repeat(16_000_000), 25)
+}
+
+fn long_site() -> Case {
+    let number = "1".repeat(8_000_000);
+    located(
+        "site of 16,000,000 digits",
+        &format!("{number}^{number}"),
+        25,
+    )
+}
+
+/// A listing whose second feature has this location, which breaks the rule.
+fn located(name: &str, location: &str, rule: u32) -> Case {
+    let table = source("DNA", 12) + &feature("gene", location, "");
+    let text = listing("", &[sequence("DNA", &table, "atgaaatgctaa")]);
+    let place = text.find(location).unwrap_or(0);
+    case(name, text, refused(rule, place))
+}
+
+fn many_features() -> Case {
+    let mut table = source("DNA", 12);
+    table += &feature("CDS", "1..12", "").repeat(140_000);
+    let counts = Counts {
+        total: 1,
+        features: 140_001,
+        judged: 140_000,
+        ..Counts::default()
+    };
+    let text = listing("", &[sequence("DNA", &table, "atgaaatgctaa")]);
+    case("140,000 features", text, Expectation::Accepted(counts))
+}
+
+fn many_sequences() -> Case {
+    let table = source("AA", 4);
+    let sequences = vec![sequence("AA", &table, "MKCA"); 24_000];
+    let counts = Counts {
+        total: 24_000,
+        features: 24_000,
+        ..Counts::default()
+    };
+    case(
+        "24,000 sequences",
+        listing("", &sequences),
+        Expectation::Accepted(counts),
+    )
+}
+
+fn many_qualifiers() -> Case {
+    let qualifiers = "<INSDQualifier><INSDQualifier_name/></INSDQualifier>".repeat(300_000);
+    let table = source("DNA", 12) + &feature("CDS", "1..12", &qualifiers);
+    let text = listing("", &[sequence("DNA", &table, "atgaaatgctaa")]);
+    case("300,000 qualifiers", text, one_cds())
+}
+
+fn long_length() -> Case {
+    long_number("length of 16,000,000 digits", "<INSDSeq_length>", "4", 20)
+}
+
+fn long_total() -> Case {
+    long_number(
+        "total of 16,000,000 digits",
+        "<SequenceTotalQuantity>",
+        "1",
+        14,
+    )
+}
+
+/// A listing with a long number in place of the right one.
+fn long_number(name: &str, tag: &str, right: &str, rule: u32) -> Case {
+    let digits = "1".repeat(16_000_000);
+    let text = listing("", &[sequence("AA", &source("AA", 4), "MKCA")]);
+    let text = text.replace(&format!("{tag}{right}<"), &format!("{tag}{digits}<"));
+    let place = text.find(&digits).unwrap_or(0);
+    case(name, text, refused(rule, place))
+}
+
+/// Millions of foreign residues, each written as an entity.
+fn entities() -> Case {
+    let residues = "&amp;".repeat(3_000_000);
+    let text = listing("", &[sequence("AA", &source("AA", 3_000_000), &residues)]);
+    let text = text.replace("<INSDSeq_length>15000000</", "<INSDSeq_length>3000000</");
+    let place = text.find("&amp;").unwrap_or(0);
+    case("3,000,000 entities", text, refused(18, place))
+}
+
+fn case(name: &str, text: String, expectation: Expectation) -> Case {
+    Case {
+        name: name.into(),
+        bytes: text.into_bytes(),
+        expectation: Some(expectation),
+    }
+}
+
+fn refused(rule: u32, place: usize) -> Expectation {
+    Expectation::Refused(Refusal { rule, place })
+}
+
+/// One sequence with its source and one judged CDS.
+fn one_cds() -> Expectation {
+    Expectation::Accepted(Counts {
+        total: 1,
+        features: 2,
+        judged: 1,
+        ..Counts::default()
+    })
+}
+
+/// A listing of these sequences, which get their numbers here.
+fn listing(title: &str, sequences: &[String]) -> String {
+    let count = sequences.len();
+    let mut text = format!(
+        "<?xml version=\"1.0\" encoding=\"UTF-8\"?>\n\
+         <!DOCTYPE ST26SequenceListing PUBLIC \"-//WIPO//DTD Sequence Listing 1.2//EN\" \
+         \"ST26SequenceListing_V1_2.dtd\">\n\
+         <ST26SequenceListing dtdVersion=\"1_2\"><ApplicantFileReference/>\
+         <InventionTitle languageCode=\"en\">{title}</InventionTitle>\
+         <SequenceTotalQuantity>{count}</SequenceTotalQuantity>\n"
+    );
+    for (number, sequence) in (1..).zip(sequences) {
+        text += &format!("<SequenceData sequenceIDNumber=\"{number}\">");
+        text += sequence;
+        text += "</SequenceData>\n";
+    }
+    text + "</ST26SequenceListing>\n"
+}
+
+fn sequence(moltype: &str, table: &str, residues: &str) -> String {
+    format!(
+        "<INSDSeq><INSDSeq_length>{}</INSDSeq_length>\
+         <INSDSeq_moltype>{moltype}</INSDSeq_moltype><INSDSeq_division>PAT</INSDSeq_division>\
+         <INSDSeq_feature-table>{table}</INSDSeq_feature-table>\
+         <INSDSeq_sequence>{residues}</INSDSeq_sequence></INSDSeq>",
+        residues.len()
+    )
+}
+
+fn skipped_sequence() -> String {
+    "<INSDSeq><INSDSeq_length/><INSDSeq_moltype/><INSDSeq_division/>\
+     <INSDSeq_sequence>000</INSDSeq_sequence></INSDSeq>"
+        .into()
+}
+
+fn feature(key: &str, location: &str, qualifiers: &str) -> String {
+    let location = location.replace('<', "&lt;").replace('>', "&gt;");
+    let qualifiers = match qualifiers {
+        "" => String::new(),
+        _ => format!("<INSDFeature_quals>{qualifiers}</INSDFeature_quals>"),
+    };
+    format!(
+        "<INSDFeature><INSDFeature_key>{key}</INSDFeature_key>\
+         <INSDFeature_location>{location}</INSDFeature_location>{qualifiers}</INSDFeature>"
+    )
+}
+
+fn qualifier(name: &str, value: &str) -> String {
+    format!(
+        "<INSDQualifier><INSDQualifier_name>{name}</INSDQualifier_name>\
+         <INSDQualifier_value>{value}</INSDQualifier_value></INSDQualifier>"
+    )
+}
+
+fn source(moltype: &str, length: usize) -> String {
+    let [key, organism, mol_type] = match moltype {
+        "AA" => ["SOURCE", "ORGANISM", "MOL_TYPE"],
+        _ => ["source", "organism", "mol_type"],
+    };
+    let qualifiers = qualifier(organism, "synthetic") + &qualifier(mol_type, "other");
+    feature(key, &format!("1..{length}"), &qualifiers)
+}
+
+fn join(members: impl Iterator<Item = String>) -> String {
+    let members: Vec<String> = members.collect();
+    format!("join({})", members.join(","))
+}
+
+/// Random plain codons that are no stops, with their letters.
+fn codons(rng: &mut Rng, count: usize) -> (String, String) {
+    let mut residues = String::new();
+    let mut letters = String::new();
+    for _ in 0..count {
+        let (letter, patterns) = CODONS[rng.below(19)];
+        residues += &patterns[..3];
+        letters.push(letter);
+    }
+    (residues, letters)
+}
+
+/// `atgaaatgctaa`, which gives `MKC`, and random bases up to this length.
+fn open_frame(rng: &mut Rng, length: usize) -> String {
+    let mut residues = "atgaaatgctaa".to_string();
+    while residues.len() < length {
+        residues.push(char::from(*rng.pick(b"acgtn")));
+    }
+    residues
+}
+
+/// Some feature of a sequence that begins with the open frame.
+fn any_feature(rng: &mut Rng, counts: &mut Counts) -> String {
+    counts.features += 1;
+    match rng.below(4) {
+        0 => {
+            counts.judged += 1;
+            feature("CDS", "1..12", &qualifier("translation", "MKC"))
+        }
+        1 => {
+            counts.judged += 1;
+            let qualifiers = qualifier("codon_start", "3") + &qualifier("translation", "EML");
+            feature("CDS", "join(1..5,6..>12)", &qualifiers)
+        }
+        2 => {
+            counts.unjudged += 1;
+            feature("CDS", "order(<3,complement(1..12))", "")
+        }
+        _ => {
+            let first = rng.between(1, 11);
+            let location = format!("{first}^{}", first + 1);
+            feature("misc_feature", &location, &qualifier("note", "a &lt; b"))
+        }
+    }
+}
+
+/// Some short sequence, skipped ones too.
+fn any_sequence(rng: &mut Rng, counts: &mut Counts) -> String {
+    match rng.below(3) {
+        0 => {
+            counts.skipped += 1;
+            skipped_sequence()
+        }
+        1 => {
+            counts.features += 1;
+            sequence("AA", &source("AA", 6), "MKCXXA")
+        }
+        _ => {
+            let residues = open_frame(rng, 30);
+            let mut table = source("RNA", residues.len());
+            counts.features += 1;
+            table += &any_feature(rng, counts);
+            sequence("RNA", &table, &residues)
+        }
+    }
+}
