@@ -1,0 +1,4 @@
+pub mod Runs
+pub mod Elements
+pub mod Header
+pub mod Wholes

@@ -1,0 +1,54 @@
+-- `layout::document` meets its contract: its parts one after another, up to the end.
+use Prim.Native.Nat.{ℕ}
+use mathlib.Core.Path.{sym, ap}
+use Rattle.scan.specs.declared.Step.the-variants.{Ok}
+use Rattle.scan.proofs.Steps.{step-from}
+use Rattle.layout.proofs.Wholes.{document-reads}
+use borrow.Author.Needs.{needs}
+use Rattle.layout.proofs.document.Statement.{statement}
+use Rattle.layout.proofs.document.Tie as tie
+
+slice-aggregate-lit : tie.Need-slice-aggregate-lit
+slice-aggregate-lit c = search needs
+
+lit-requires : tie.Need-lit-requires
+lit-requires c κs = search needs
+
+blanks-requires : tie.Need-blanks-requires
+blanks-requires c κs = search needs
+
+doctype-requires : tie.Need-doctype-requires
+doctype-requires c κs = search needs
+
+blanks-requires-2 : tie.Need-blanks-requires-2
+blanks-requires-2 c κs = search needs
+
+root-requires : tie.Need-root-requires
+root-requires c κs = search needs
+
+blanks-requires-3 : tie.Need-blanks-requires-3
+blanks-requires-3 c κs = search needs
+
+end-requires : tie.Need-end-requires
+end-requires c κs = search needs
+
+returns : tie.Need-returns
+returns c = (
+  document-reads (step-from (ap (λ (n : ℕ). Ok n n) (sym (c .before .before .before .before .before .before .before .before .before .pre .1))) (c .before .before .before .before .before .before .lit .ensures)) (c .before .before .before .before .before .blanks .ensures) (c .before .before .before .before .doctype .ensures) (c .before .before .before .blanks2 .ensures)
+      (c .before .before .root .ensures) (c .before .blanks3 .ensures) (c .end .ensures .0),
+  c .end .ensures .1,
+)
+
+pub document-spec : {M : Type 1} → statement M
+document-spec =
+    tie.close
+    (tie.spec
+    slice-aggregate-lit
+    lit-requires
+    blanks-requires
+    doctype-requires
+    blanks-requires-2
+    root-requires
+    blanks-requires-3
+    end-requires
+    returns)

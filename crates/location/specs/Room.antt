@@ -1,0 +1,33 @@
+-- What is promised of the spans in lent room.
+use Prim.Native.Nat.{ℕ, _≤_, _<_}
+use mathlib.Core.Path.{_≡_}
+use mathlib.Core.Bool.{true, false}
+use mathlib.Core.List.{List}
+use lib.ListN.{length}
+use Rattle.paper.specs.Bytes.{raw}
+use Rattle.paper.specs.Locations.{Location, Locates, Span, spans, operatorNumber, breaks25}
+use Rattle.paper.specs.Answers.{triples, front}
+use Rattle.location.specs.Walking.{Left}
+use Rattle.location.specs.declared.walking.Walk.{Walk}
+use Rattle.location.specs.declared.room.Answer.{Answer}
+use Rattle.location.specs.declared.room.Answer.the-variants as answer
+
+-- whichever `count` spans are left of the walk stand at the front
+abbrev pub Puts : List ℕ → ℕ → Walk → ℕ → List ℕ → List ℕ → Type 0
+Puts s L w count out after = (l : List Span) → Left s L w l → length l ≡ count → after ≡ front (triples l) out
+
+-- the spans of a location that keeps rule 25 are asked
+pub record Asked (L : ℕ) (w : List ℕ) (t : Location) : Type 0 where
+  pub located : Locates t w
+  pub right : breaks25 L t ≡ false
+
+-- of whichever text as read the bytes are written from; a refusal "changes no lent output"
+abbrev pub Answers : List ℕ → ℕ → List ℕ → Answer → List ℕ → Type 0
+Answers s L out answer.Bad after = (after ≡ out) × ((w : List ℕ) → s ≡ raw w → (t : Location) → Locates t w → ⊥)
+Answers s L out answer.Wrong after = (after ≡ out) × ((w : List ℕ) → s ≡ raw w → (t : Location) × Locates t w × (breaks25 L t ≡ true))
+Answers s L out answer.Short after =
+    (after ≡ out) × ((w : List ℕ) → s ≡ raw w → (t : Location) × Asked L w t × (length out < length (triples (spans t))))
+Answers s L out (answer.Are operator count) after =
+    (w : List ℕ) → s ≡ raw w
+    → (t : Location) × Asked L w t × (operator ≡ operatorNumber t) × (count ≡ length (spans t)) × (length (triples (spans t)) ≤ length out)
+    × (after ≡ front (triples (spans t)) out)

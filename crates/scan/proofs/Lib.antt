@@ -1,0 +1,9 @@
+pub mod Laws
+pub mod Leaves
+pub mod Steps
+pub mod Fronts
+pub mod Soles
+pub mod Letters
+pub mod Tags
+pub mod Scans
+pub mod Classes
