@@ -1,7 +1,11 @@
 // Calls of the inner crates as C functions, so that they can be compared and measured outside the prover (compare/, bench/).
 // Relies on those crates; nothing of the product relies on it.
 use layout::Shape;
-ghost use Rattle.trial.specs.Numbers.{LayoutNumbers};
+use location::judging::Verdict;
+use location::room::Answer;
+ghost use mathlib.Core.Path.{_≡_};
+ghost use Rattle.paper.specs.Locations.{mark};
+ghost use Rattle.trial.specs.Numbers.{LayoutNumbers, LocationNumbers, SpansNumbers};
 
 // 0, or the number of the broken rule with its place.
 #[no_mangle]
@@ -16,6 +20,83 @@ pub extern "C" fn trial_layout(listing: &[u8], place: &mut usize) -> usize
         Shape::Refused { rule, place: p } => {
             *place = p;
             rule
+        }
+    }
+}
+
+fn flag(b: bool, n: u32) -> u32
+    ensures { λ r. ⌜ r ≡ mark b n ⌝ }
+{
+    if b {
+        return n;
+    }
+    0
+}
+
+// 0 with the facts of a location, or 24. A fact is 1 where it holds.
+#[no_mangle]
+pub extern "C" fn trial_location(
+    part: &[u8],
+    top: u32,
+    operator: &mut u32,
+    count: &mut usize,
+    wrong: &mut u32,
+    complemented: &mut u32,
+    unjudged: &mut u32,
+) -> u32
+    ensures { λ r. ⌜ LocationNumbers (now (part .entry)) top r (now (operator .exit)) (now (count .exit)) (now (wrong .exit)) (now (complemented .exit)) (now (unjudged .exit)) ⌝ }
+{
+    match location::judging::judge_location(part, top) {
+        Verdict::Bad => {
+            *operator = 0;
+            *count = 0;
+            *wrong = 0;
+            *complemented = 0;
+            *unjudged = 0;
+            24
+        }
+        Verdict::Is(f) => {
+            *operator = f.operator;
+            *count = f.count;
+            *wrong = flag(f.wrong, 1);
+            *complemented = flag(f.complemented, 1);
+            *unjudged = flag(f.unjudged, 1);
+            0
+        }
+    }
+}
+
+// 0 with the spans written, or 24, 25, 34.
+#[no_mangle]
+pub extern "C" fn trial_spans(
+    part: &[u8],
+    top: u32,
+    out: &mut [u32],
+    operator: &mut u32,
+    count: &mut usize,
+) -> u32
+    ensures { λ r. ⌜ SpansNumbers (now (part .entry)) top (now (out .entry)) r (now (operator .exit)) (now (count .exit)) (now (out .exit)) ⌝ }
+{
+    match location::room::spans(part, top, out) {
+        Answer::Bad => {
+            *operator = 0;
+            *count = 0;
+            24
+        }
+        Answer::Wrong => {
+            *operator = 0;
+            *count = 0;
+            25
+        }
+        Answer::Short => {
+            *operator = 0;
+            *count = 0;
+            34
+        }
+        Answer::Are(o, n) => {
+            *operator = o;
+            *count = n;
+            0
         }
     }
 }

@@ -1,0 +1,64 @@
+//! The program `compare`: the proved reader beside the independent judge.
+
+mod large;
+mod layout;
+mod location;
+mod mutants;
+mod proved;
+mod report;
+
+use std::path::Path;
+use std::process::ExitCode;
+
+const USAGE: &str = "\
+compare layout COUNT [SEED]   rules 1 and 2 on COUNT generated listings, COUNT mutants, and more
+compare location COUNT [SEED] every short location text, and COUNT generated ones
+compare make KIND SIZE FILE   writes a listing of this size, for measuring";
+
+fn main() -> ExitCode {
+    let arguments: Vec<String> = std::env::args().skip(1).collect();
+    let words: Vec<&str> = arguments.iter().map(String::as_str).collect();
+    // The repository: the folder above this package.
+    let package = Path::new(env!("CARGO_MANIFEST_DIR"));
+    let root = package.parent().unwrap_or(package);
+    let outcome = match words[..] {
+        ["layout", count] => number(count).and_then(|count| layout::run(count, 1, root)),
+        ["layout", count, seed] => number(count)
+            .and_then(|count| number(seed).and_then(|seed| layout::run(count, seed, root))),
+        ["location", count] => number(count).and_then(|count| location::run(count, 1)),
+        ["location", count, seed] => {
+            number(count).and_then(|count| number(seed).and_then(|seed| location::run(count, seed)))
+        }
+        ["make", kind, size, file] => make(kind, size, file),
+        _ => Err(usage()),
+    };
+    match outcome {
+        Ok(true) => ExitCode::SUCCESS,
+        Ok(false) => ExitCode::FAILURE,
+        Err(message) => {
+            eprintln!("{message}");
+            ExitCode::from(2)
+        }
+    }
+}
+
+fn usage() -> String {
+    let kinds = large::MIXES.iter().chain(&large::TRAPS);
+    let kinds: Vec<&str> = kinds.map(|&(name, _)| name).collect();
+    format!("{USAGE}\nKIND is one of: {}", kinds.join(" "))
+}
+
+fn number(text: &str) -> Result<u64, String> {
+    text.parse().map_err(|_| format!("not a number: {text}"))
+}
+
+/// Writes the listing of this kind and size.
+fn make(kind: &str, size: &str, file: &str) -> Result<bool, String> {
+    let size = number(size)?;
+    if !(4_000..=1 << 30).contains(&size) {
+        return Err(format!("not a size from 4000 to {}: {size}", 1 << 30));
+    }
+    let bytes = large::make(kind, size as usize).ok_or_else(usage)?;
+    std::fs::write(file, bytes).map_err(|error| format!("{file}: {error}"))?;
+    Ok(true)
+}

@@ -1,0 +1,202 @@
+//! Compares answers, counts the verdicts and tells the differences.
+
+use judge::Refusal;
+use std::fs;
+use std::path::PathBuf;
+
+/// What a reader says of rules 1 and 2.
+pub type Verdict = Result<(), Refusal>;
+
+/// An input and a name by which it can be made again.
+pub struct Input {
+    pub name: String,
+    pub bytes: Vec<u8>,
+}
+
+/// How many cases of one kind got which verdict from the judge.
+#[derive(Debug, Default, PartialEq, Eq)]
+pub struct Tally {
+    pub laid_out: usize,
+    pub too_long: usize,
+    /// Not of the layout, and wrong before the first sequence.
+    pub wrong_early: usize,
+    /// Not of the layout, and wrong in the sequences or after them.
+    pub wrong_late: usize,
+}
+
+impl Tally {
+    fn add(&mut self, input: &[u8], verdict: Verdict) {
+        let counter = match verdict {
+            Ok(()) => &mut self.laid_out,
+            Err(Refusal { rule: 1, .. }) => &mut self.too_long,
+            Err(Refusal { place, .. }) if reaches_a_sequence(input, place) => &mut self.wrong_late,
+            Err(_) => &mut self.wrong_early,
+        };
+        *counter += 1;
+    }
+
+    pub fn cases(&self) -> usize {
+        self.laid_out + self.too_long + self.wrong_early + self.wrong_late
+    }
+}
+
+/// Whether the start of a sequence stands before this place.
+fn reaches_a_sequence(input: &[u8], place: usize) -> bool {
+    let tag = b"<SequenceData";
+    input[..place.min(input.len())]
+        .windows(tag.len())
+        .any(|window| window == tag)
+}
+
+/// So many differences are told in detail.
+const TOLD: usize = 5;
+
+/// The comparison of two readers.
+pub struct Comparison<P, J> {
+    proved: P,
+    judge: J,
+    /// Where inputs with a difference are kept.
+    folder: Option<PathBuf>,
+    pub cases: usize,
+    pub differ: usize,
+}
+
+impl<P: Fn(&[u8]) -> Verdict, J: Fn(&[u8]) -> Verdict> Comparison<P, J> {
+    pub fn new(proved: P, judge: J, folder: Option<PathBuf>) -> Self {
+        Comparison {
+            proved,
+            judge,
+            folder,
+            cases: 0,
+            differ: 0,
+        }
+    }
+
+    /// Compares all inputs of one kind, and prints a line of their verdicts.
+    pub fn kind(&mut self, kind: &str, inputs: impl Iterator<Item = Input>) -> Tally {
+        let mut tally = Tally::default();
+        for input in inputs {
+            tally.add(&input.bytes, self.one(&input));
+        }
+        println!(
+            "{kind}: {} cases; {} laid out, {} too long, {} wrong in the header, {} wrong later",
+            tally.cases(),
+            tally.laid_out,
+            tally.too_long,
+            tally.wrong_early,
+            tally.wrong_late
+        );
+        tally
+    }
+
+    /// Compares one input; the answer is the judge's.
+    fn one(&mut self, input: &Input) -> Verdict {
+        let (proved, judge) = ((self.proved)(&input.bytes), (self.judge)(&input.bytes));
+        self.cases += 1;
+        if proved != judge {
+            self.differ += 1;
+            if self.differ <= TOLD {
+                self.tell(input, proved, judge);
+            }
+        }
+        judge
+    }
+
+    fn tell(&self, input: &Input, proved: Verdict, judge: Verdict) {
+        println!("DIFFERS: {} ({} bytes)", input.name, input.bytes.len());
+        println!("  proved reader: {}", words(&input.bytes, proved));
+        println!("  judge:         {}", words(&input.bytes, judge));
+        if let Some(folder) = &self.folder {
+            let file = folder.join(format!("differs-{}.xml", self.differ));
+            let kept = fs::create_dir_all(folder).and_then(|()| fs::write(&file, &input.bytes));
+            match kept {
+                Ok(()) => println!("  kept as {}", file.display()),
+                Err(error) => println!("  not kept: {}: {error}", file.display()),
+            }
+        }
+    }
+
+    /// Prints the last line; true if nothing differs.
+    pub fn close(&self, name: &str) -> bool {
+        println!(
+            "compare {name}: {} cases, {} differ",
+            self.cases, self.differ
+        );
+        self.differ == 0
+    }
+}
+
+/// A verdict in words, with the bytes on both sides of its place.
+fn words(input: &[u8], verdict: Verdict) -> String {
+    match verdict {
+        Ok(()) => "laid out".into(),
+        Err(Refusal { rule, place }) => {
+            let at = place.min(input.len());
+            let before = &input[at.saturating_sub(30)..at];
+            let after = &input[at..input.len().min(at + 30)];
+            format!(
+                "rule {rule}, place {place}: ..{} HERE {}..",
+                before.escape_ascii(),
+                after.escape_ascii()
+            )
+        }
+    }
+}
+
+#[cfg(test)]
+mod tests {
+    use super::*;
+
+    const RULE_2: Verdict = Err(Refusal { rule: 2, place: 3 });
+
+    fn inputs(count: usize) -> impl Iterator<Item = Input> {
+        (0..count).map(|number| Input {
+            name: format!("number {number}"),
+            bytes: vec![b'x'; number],
+        })
+    }
+
+    /// How many of ten inputs differ, where the proved reader errs on those that `wrong` picks.
+    fn differ(wrong: impl Fn(&[u8]) -> bool, error: Verdict) -> usize {
+        let proved = |input: &[u8]| if wrong(input) { error } else { RULE_2 };
+        let mut comparison = Comparison::new(proved, |_: &[u8]| RULE_2, None);
+        comparison.kind("test", inputs(10));
+        assert_eq!(comparison.cases, 10);
+        assert_eq!(comparison.close("test"), comparison.differ == 0);
+        comparison.differ
+    }
+
+    #[test]
+    fn equal_answers_do_not_differ() {
+        assert_eq!(differ(|_| false, Ok(())), 0);
+    }
+
+    #[test]
+    fn every_wrong_answer_differs() {
+        assert_eq!(differ(|_| true, Ok(())), 10);
+        assert_eq!(differ(|input| input.len() == 7, Ok(())), 1);
+        let early = Refusal { rule: 2, place: 2 };
+        assert_eq!(differ(|input| input.len() > 4, Err(early)), 5);
+        let other = Refusal { rule: 1, place: 3 };
+        assert_eq!(differ(|input| input.is_empty(), Err(other)), 1);
+    }
+
+    #[test]
+    fn verdicts_are_counted_by_kind() {
+        let input = b"<SequenceData sequence".as_slice();
+        let mut tally = Tally::default();
+        tally.add(input, Ok(()));
+        tally.add(input, Err(Refusal { rule: 1, place: 0 }));
+        tally.add(input, Err(Refusal { rule: 2, place: 12 }));
+        tally.add(input, Err(Refusal { rule: 2, place: 13 }));
+        tally.add(input, Err(Refusal { rule: 2, place: 14 }));
+        let expected = Tally {
+            laid_out: 1,
+            too_long: 1,
+            wrong_early: 1,
+            wrong_late: 2,
+        };
+        assert_eq!(tally, expected);
+        assert_eq!(tally.cases(), 5);
+    }
+}

@@ -1,0 +1,45 @@
+-- `trial::trial_location` meets its contract: the answer of `judge_location`, in numbers.
+use mathlib.Core.Path.{subst}
+use Rattle.location.specs.Judging.{Judges}
+use Rattle.trial.specs.Numbers.{LocationNumbers}
+use borrow.Author.Needs.{needs}
+use Rattle.trial.proofs.trial_location.Statement.{statement}
+use Rattle.trial.proofs.trial_location.Tie as tie
+
+judge-location-requires : tie.Need-judge-location-requires
+judge-location-requires c κs = search needs
+
+enum-told : tie.Need-enum-told
+enum-told c = search needs
+
+enum-known-f : tie.Need-enum-known-f
+enum-known-f c = search needs
+
+flag-requires : tie.Need-flag-requires
+flag-requires c κs = search needs
+
+flag-requires-2 : tie.Need-flag-requires-2
+flag-requires-2 c κs = search needs
+
+flag-requires-3 : tie.Need-flag-requires-3
+flag-requires-3 c κs = search needs
+
+returns : tie.Need-returns
+returns c = LocationNumbers.bad (subst (Judges _ _) (c .enum-told .given .1) (c .before .before .judge-location .ensures))
+
+returns-2 : tie.Need-returns-2
+returns-2 c =
+    LocationNumbers.is _ (subst (Judges _ _) (c .before .before .before .before .f .given .1) (c .before .before .before .before .before .before .judge-location .ensures)) (c .before .before .flag .ensures) (c .before .flag2 .ensures) (c .flag3 .ensures)
+
+pub trial-location-spec : {M : Type 1} → statement M
+trial-location-spec =
+    tie.close
+    (tie.spec
+    judge-location-requires
+    enum-told
+    enum-known-f
+    flag-requires
+    flag-requires-2
+    flag-requires-3
+    returns
+    returns-2)
