@@ -118,21 +118,21 @@ apart-leads L M k m h j p a b at w x z y l d f e =
     let u = h a at w l in
     not-there whole m M (leads-by m M j) (k ∷ []) p b at x z d (first (u .0 ++ y) (e ∙ ap (λ (c : List ℕ). c ++ y) (u .1) ∙ append-assoc k (u .0) y))
 
-text-sharp : (h : Bool) → sharp (isText h) (bytes "</" ∷ []) ≡ true
+pub text-sharp : (h : Bool) → sharp (isText h) (bytes "</" ∷ []) ≡ true
 text-sharp true = refl
 text-sharp false = refl
 
-abbrev Short : ℕ → Text ℕ → Form
+abbrev pub Short : ℕ → Text ℕ → Form
 Short start t = given ((t .place ≡ start) × (t .read ≡ [])) (lit "/>")
 
-abbrev Long : List ℕ → Bool → Text ℕ → Form
+abbrev pub Long : List ℕ → Bool → Text ℕ → Form
 Long name high t = lit ">" · text (allowedIn high) t · close name
 
 abbrev pub Body : List ℕ → Bool → ℕ → Text ℕ → Form
 Body name high start t = Short start t ∪ Long name high t
 
 module _ (name : List ℕ) (high : Bool) (start : ℕ) where
-  long-leads : (t : Text ℕ) → Leads (bytes ">") (Long name high t)
+  pub long-leads : (t : Text ℕ) → Leads (bytes ">") (Long name high t)
   long-leads t = leads-seq (bytes ">") _ (close name) (leads-seq (bytes ">") (lit ">") (text (allowedIn high) t) (leads-all (bytes ">")))
 
   short-long : (a b : Text ℕ) (at : ℕ) (w x z y : List ℕ) → Short start a at w → Long name high b at x → anything z → x ++ z ≡ w ++ y → ⊥
@@ -154,7 +154,7 @@ module _ (name : List ℕ) (high : Bool) (start : ℕ) where
       (then-pass (λ at w z l g. leads-sharp (isText high) (bytes "</") (close name) (text-sharp high) (close-leads name) at w z l) (ev-close name)
       (pass-then (λ t at w z l g. tt) (ev-text high) p q) c)
 
-  body-sharp : (t : Text ℕ) (at : ℕ) (w z : List ℕ) → Body name high start t at w → Not isBlank (w ++ z)
+  pub body-sharp : (t : Text ℕ) (at : ℕ) (w z : List ℕ) → Body name high start t at w → Not isBlank (w ++ z)
   body-sharp t at w z (inl l) = subst (λ (u : List ℕ). Not isBlank (u ++ z)) (sym (l .1)) refl
   body-sharp t at w z (inr l) = leads-sharp isBlank (bytes ">") (Long name high t) refl (long-leads t) at w z l
 

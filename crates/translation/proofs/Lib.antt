@@ -1,0 +1,8 @@
+-- Laws that no one function owns.
+pub mod Residues
+pub mod Readings
+pub mod Stops
+pub mod Plain
+pub mod Values
+pub mod Measuring
+pub mod Putting

@@ -1,0 +1,150 @@
+-- Letters counted, one after another, and where none stands inside the translation's length.
+use Prim.Native.Nat.{ℕ, _+_, _-_, _≤_, _<_}
+use Prim.Native.Char.{code}
+use native.Mathlib.Omega.{arith}
+use mathlib.Core.Path.{_≡_, refl, sym, ap, _∙_, subst}
+use mathlib.Core.Bool.{Bool, true, false, true≢false}
+use mathlib.Core.List.{List, [], _∷_}
+use lib.ListN.{length, drop}
+use Rattle.paper.specs.Locations.{spans}
+use Rattle.paper.specs.Translation.{codingText, letters, dropStop, hasStopInside}
+use Rattle.translation.specs.declared.reading.Reading.{Reading}
+use Rattle.translation.specs.declared.writing.Count.{Count}
+use Rattle.translation.specs.declared.writing.Size.{Size}
+use Rattle.translation.specs.declared.writing.Size.the-variants as size
+use Rattle.translation.specs.Reading.{Ready, TextLeft, LetterIs, Begins, Ends}
+use Rattle.translation.specs.Translating.{Tally, Counted, sizeOf, Measured, SizeWithin, Measures}
+use Rattle.translation.proofs.Stops.{keep-letter, clear-letter, stop-last, stop-last-clear, stop-inside}
+
+-- ---- one letter more
+
+module _ {room : ℕ} (a : Count) where
+  pub counted-in : a .n < room → Counted room a (record { n = a .n + 1; over = a .over })
+  counted-in h = record { within = λ k. omega arith; one = one (a .over) }
+    where
+      one : (over : Bool) (m : ℕ) → Tally room m (a .n) over → Tally room (m + 1) (a .n + 1) over
+      one true m t = omega arith
+      one false m t = (omega (arith, t .0), omega (arith, t .0))
+
+  pub counted-over : room ≤ a .n → Counted room a (record { n = a .n; over = true })
+  counted-over h = record { within = λ k. k; one = one (a .over) }
+    where
+      one : (over : Bool) (m : ℕ) → Tally room m (a .n) over → Tally room (m + 1) (a .n) true
+      one true m t = omega arith
+      one false m t = omega (arith, t .0)
+
+-- ---- the loop
+
+-- m letters were counted; with those that x leaves they are l
+record Tallied (s loc : List ℕ) (L : ℕ) (x : Reading) (l : List ℕ) (room : ℕ) (a : Count) : Type 0 where
+  m : ℕ
+  rest : List ℕ
+  left : TextLeft s loc L x rest
+  tally : Tally room m (a .n) (a .over)
+  clear : hasStopInside l ≡ hasStopInside (letters rest)
+  long : length (dropStop l) ≡ m + length (dropStop (letters rest))
+
+-- its invariant
+pub record Measuring (s loc : List ℕ) (L : ℕ) (from : Reading) (room : ℕ) (x : Reading) (a : Count) : Type 0 where
+  pub ready : Ready (length s) x
+  pub within : a .n ≤ room
+  gives : (text : List ℕ) → TextLeft s loc L from text → Tallied s loc L x (letters text) room a
+
+-- the answer, for whichever text is left at the start
+pub record Tells (s loc : List ℕ) (L : ℕ) (from : Reading) (room : ℕ) (r : Size) : Type 0 where
+  within : SizeWithin room r
+  says : (text : List ℕ) → TextLeft s loc L from text → Measured (letters text) room r
+
+module _ {s loc : List ℕ} {L : ℕ} {from : Reading} {room : ℕ} where
+  pub measuring-start : Ready (length s) from → Measuring s loc L from room from (record { n = 0; over = false })
+  measuring-start r =
+      record {
+        ready = r;
+        within = omega arith;
+        gives = λ text h. record { m = 0; rest = text; left = h; tally = (refl, omega arith); clear = refl; long = omega arith };
+      }
+
+  module _ {x : Reading} {a : Count} (f : Measuring s loc L from room x a) where
+    -- no letter of the translation is left
+    ended : ((rest : List ℕ) → TextLeft s loc L x rest → (hasStopInside (letters rest) ≡ false) × (dropStop (letters rest) ≡ []))
+        → Tells s loc L from room (sizeOf (a .n) (a .over))
+    ended g = record { within = within (a .over); says = λ text h. let c = f .gives text h in said (letters text) (c .rest) (c .m) (a .over) (c .clear) (c .long) (c .tally) (g (c .rest) (c .left)) }
+      where
+        within : (over : Bool) → SizeWithin room (sizeOf (a .n) over)
+        within true = tt
+        within false = f .within
+
+        said : (l rest : List ℕ) (m : ℕ) (over : Bool) → hasStopInside l ≡ hasStopInside (letters rest)
+            → length (dropStop l) ≡ m + length (dropStop (letters rest)) → Tally room m (a .n) over
+            → (hasStopInside (letters rest) ≡ false) × (dropStop (letters rest) ≡ []) → Measured l room (sizeOf (a .n) over)
+        said l rest m true p q t z = let e = ap length (z .1) in (p ∙ z .0, omega arith)
+        said l rest m false p q t z = let e = ap length (z .1) in (p ∙ z .0, omega (arith, t .0), omega (arith, t .0))
+
+    pub measuring-done : ((text : List ℕ) → TextLeft s loc L x text → letters text ≡ []) → Tells s loc L from room (sizeOf (a .n) (a .over))
+    measuring-done g = ended (λ rest h. rw (g rest h) (refl, refl))
+
+    module _ {c : ℕ} {y : Reading} (g : LetterIs s loc L x c y) where
+      module _ (e : c ≡ code "*") where
+        pub measuring-last : {r : Bool} → Ends s loc L y r → r ≡ true → Tells s loc L from room (sizeOf (a .n) (a .over))
+        measuring-last q t =
+            ended
+            (λ rest h.
+            let u = g .gives rest h in
+            let z = subst (Ends s loc L y) t q .says (u .others) (u .left) in
+            rw (u .is, z) (stop-last-clear e, stop-last e))
+
+        pub measuring-stop : {r : Bool} → Ends s loc L y r → r ≡ false → Tells s loc L from room size.Stop
+        measuring-stop q t =
+            record {
+              within = tt;
+              says = λ text h.
+                  let v = f .gives text h in
+                  let u = g .gives (v .rest) (v .left) in
+                  let z = subst (Ends s loc L y) t q .says (u .others) (u .left) in
+                  v .clear ∙ ap hasStopInside (u .is ∙ ap (λ (l : List ℕ). c ∷ l) (z .2)) ∙ stop-inside e (z .0) (z .1);
+            }
+
+      pub measuring-next : (c ≡ code "*" → ⊥) → {b : Count} → Counted room a b → Measuring s loc L from room y b
+      measuring-next n {b} k =
+          record {
+            ready = g .ready;
+            within = k .within (f .within);
+            gives = λ text h.
+                let v = f .gives text h in
+                let u = g .gives (v .rest) (v .left) in
+                let e = ap (λ (l : List ℕ). length (dropStop l)) (u .is) ∙ ap length (keep-letter n (letters (u .others))) in
+                record {
+                  m = v .m + 1;
+                  rest = u .others;
+                  left = u .left;
+                  tally = k .one (v .m) (v .tally);
+                  clear = v .clear ∙ ap hasStopInside (u .is) ∙ clear-letter n (letters (u .others));
+                  long = omega (arith, v .long, e);
+                };
+          }
+
+-- ---- the answer
+
+module _ {s loc : List ℕ} {L start room : ℕ} where
+  pub measures : {from : Reading} {r : Size} → Begins s loc L start from → Tells s loc L from room r → Measures s loc L start room r
+  measures b g = record { within = g .within; says = λ t h. g .says (drop (start - 1) (codingText s (spans t))) (b .leaves t h) }
+
+  -- nothing is promised where the residues are not L
+  pub measures-none : length s < L → Measures s loc L start room size.Stop
+  measures-none k = record { within = tt; says = λ t h. absurd (let e = h .sized in omega arith) }
+
+  pub measures-are : {r q : Size} → Measures s loc L start room r → r ≡ q → Measures s loc L start room q
+  measures-are h e = subst (Measures s loc L start room) e h
+
+-- ---- two answers that are allowed are equal
+
+pub measured-once : (l : List ℕ) (room : ℕ) (r q : Size) → Measured l room r → Measured l room q → r ≡ q
+measured-once l room (size.Is n) (size.Is m) h k = ap size.Is (h .1 ∙ sym (k .1))
+measured-once l room (size.Is n) size.Short h k = absurd (omega (arith, h .1, h .2, k .1))
+measured-once l room (size.Is n) size.Stop h k = absurd (true≢false (sym k ∙ h .0))
+measured-once l room size.Short (size.Is n) h k = absurd (omega (arith, k .1, k .2, h .1))
+measured-once l room size.Short size.Short h k = refl
+measured-once l room size.Short size.Stop h k = absurd (true≢false (sym k ∙ h .0))
+measured-once l room size.Stop (size.Is n) h k = absurd (true≢false (sym h ∙ k .0))
+measured-once l room size.Stop size.Short h k = absurd (true≢false (sym h ∙ k .0))
+measured-once l room size.Stop size.Stop h k = refl

@@ -1,0 +1,138 @@
+-- A value compared with the letters, one after another.
+use Prim.Native.Nat.{ℕ, _+_, _-_, _≤_, _<_}
+use Prim.Native.Char.{code}
+use native.Mathlib.Numerals.{add-one}
+use native.Mathlib.Omega.{arith}
+use mathlib.Core.Path.{_≡_, refl, sym, ap, _∙_}
+use mathlib.Core.Bool.{Bool, true, false, true≢false}
+use mathlib.Core.List.{List, [], _∷_, cons≢nil}
+use lib.ListN.{length, drop, getD, drop-of-length-le}
+use lib.Seq.{drop-cons}
+use lib.Dec.{eqb}
+use borrow.Author.Tests.{eqb-true, eqb-false}
+use Rattle.paper.specs.Locations.{spans}
+use Rattle.paper.specs.Translation.{codingText, letters}
+use Rattle.translation.specs.declared.reading.Reading.{Reading}
+use Rattle.translation.specs.Reading.{Ready, TextLeft, LetterIs, Begins, Ends}
+use Rattle.translation.specs.Translating.{RightValue, RightIf, Compares}
+use Rattle.translation.proofs.Stops.{right-forth, right-back, right-head, right-more, stop-last, stop-last-clear, stop-inside, right-stop}
+use Rattle.translation.proofs.Plain.{as-written, as-read}
+
+-- the letters l are right for the value exactly if those that x leaves are right for the rest of it
+record Compared (s loc : List ℕ) (L : ℕ) (x : Reading) (l value : List ℕ) (i : ℕ) : Type 0 where
+  rest : List ℕ
+  left : TextLeft s loc L x rest
+  forth : RightValue l value → RightValue (letters rest) (drop i value)
+  back : RightValue (letters rest) (drop i value) → RightValue l value
+
+-- the loop's invariant
+pub record Comparing (s loc : List ℕ) (L : ℕ) (from : Reading) (value : List ℕ) (x : Reading) (i : ℕ) : Type 0 where
+  pub ready : Ready (length s) x
+  pub within : i ≤ length value
+  gives : (text : List ℕ) → TextLeft s loc L from text → Compared s loc L x (letters text) value i
+
+-- the answer, for whichever text is left at the start
+abbrev Tells : List ℕ → List ℕ → ℕ → Reading → List ℕ → Bool → Type 0
+Tells s loc L from value r = (text : List ℕ) → TextLeft s loc L from text → RightIf (letters text) value r
+
+module _ {s loc : List ℕ} {L : ℕ} {from : Reading} {value : List ℕ} where
+  pub comparing-start : Ready (length s) from → Comparing s loc L from value from 0
+  comparing-start r =
+      record { ready = r; within = omega arith; gives = λ text h. record { rest = text; left = h; forth = λ z. z; back = λ z. z } }
+
+  module _ {x : Reading} {i : ℕ} (f : Comparing s loc L from value x i) where
+    -- what is told of the rest is told of the whole
+    tells : (r : Bool) → ((rest : List ℕ) → TextLeft s loc L x rest → RightIf (letters rest) (drop i value) r) → Tells s loc L from value r
+    tells true g text h = let c = f .gives text h in c .back (g (c .rest) (c .left))
+    tells false g text h = let c = f .gives text h in λ z. g (c .rest) (c .left) (c .forth z)
+
+    rest-of : i < length value → drop i value ≡ getD value i 0 ∷ drop (i + 1) value
+    rest-of h = rw (add-one i) (drop-cons value i 0 h)
+
+    no-rest : length value ≤ i → drop i value ≡ []
+    no-rest h = drop-of-length-le value h
+
+    pub comparing-done : ((text : List ℕ) → TextLeft s loc L x text → letters text ≡ []) → Tells s loc L from value (eqb i (length value))
+    comparing-done g = go (eqb i (length value)) refl
+      where
+        go : (b : Bool) → eqb i (length value) ≡ b → Tells s loc L from value b
+        go true e =
+            tells true
+            (λ rest h. rw (g rest h, no-rest (omega (arith, eqb-true i (length value) e))) (record { clear = refl; same = refl }))
+        go false e =
+            let k : i < length value = let n = eqb-false i (length value) e in let w = f .within in omega arith in
+            tells false (λ rest h z. let y = rw (g rest h, rest-of k) at (z .same) in cons≢nil y)
+
+    module _ {c : ℕ} {y : Reading} (g : LetterIs s loc L x c y) where
+      module _ (e : c ≡ code "*") where
+        pub comparing-stop : i < length value → Tells s loc L from value false
+        comparing-stop k =
+            tells false
+            (λ rest h z. let u = g .gives rest h in cons≢nil (sym (rest-of k) ∙ right-stop e (letters (u .others)) (rw (u .is) at z)))
+
+        pub comparing-last : length value ≤ i → (r : Bool) → Ends s loc L y r → Tells s loc L from value r
+        comparing-last k true q =
+            tells true
+            (λ rest h.
+            let u = g .gives rest h in
+            let z = q .says (u .others) (u .left) in
+            rw (u .is, z, no-rest k) (record { clear = stop-last-clear e; same = sym (stop-last e) }))
+        comparing-last k false q =
+            tells false
+            (λ rest h z.
+            let u = g .gives rest h in
+            let m = q .says (u .others) (u .left) in
+            true≢false (sym (stop-inside e (m .0) (m .1)) ∙ (rw (u .is, m .2) at (z .clear))))
+
+      module _ (n : c ≡ code "*" → ⊥) where
+        pub comparing-short : length value ≤ i → Tells s loc L from value false
+        comparing-short k = tells false (λ rest h z. let u = g .gives rest h in right-more n (rw (u .is, no-rest k) at z))
+
+        module _ (k : i < length value) where
+          pub comparing-differs : (getD value i 0 ≡ c → ⊥) → Tells s loc L from value false
+          comparing-differs d = tells false (λ rest h z. let u = g .gives rest h in d (right-head n (rw (u .is, rest-of k) at z)))
+
+          pub comparing-next : getD value i 0 ≡ c → Comparing s loc L from value y (i + 1)
+          comparing-next d =
+              let p : drop i value ≡ c ∷ drop (i + 1) value = rest-of k ∙ ap (λ (b : ℕ). b ∷ drop (i + 1) value) d in
+              record {
+                ready = g .ready;
+                within = omega arith;
+                gives = λ text h.
+                    let m = f .gives text h in
+                    let u = g .gives (m .rest) (m .left) in
+                    record {
+                      rest = u .others;
+                      left = u .left;
+                      forth = λ z. right-forth n (rw (u .is, p) at (m .forth z));
+                      back = λ z. m .back (rw (u .is, p) (right-back n z));
+                    };
+              }
+
+-- ---- the answer
+
+module _ {s loc : List ℕ} {L start : ℕ} {value : List ℕ} where
+  pub compares : {from : Reading} → Begins s loc L start from → (r : Bool) → Tells s loc L from value r → Compares s loc L start value r
+  compares b true g =
+      record {
+        says = λ t h v e.
+            let w = drop (start - 1) (codingText s (spans t)) in
+            as-read w value v e (g w (b .leaves t h));
+      }
+  compares b false g =
+      record {
+        says = λ t h v e z.
+            let w = drop (start - 1) (codingText s (spans t)) in
+            g w (b .leaves t h) (as-written w value v e z);
+      }
+
+  -- nothing is promised where the residues are not L
+  pub compares-none : length s < L → (r : Bool) → Compares s loc L start value r
+  compares-none k r = record { says = λ t h. absurd (let e = h .sized in omega arith) }
+
+-- two answers that are allowed are equal
+pub compared-once : (l v : List ℕ) (r q : Bool) → RightIf l v r → RightIf l v q → r ≡ q
+compared-once l v true true h k = refl
+compared-once l v true false h k = absurd (k h)
+compared-once l v false true h k = absurd (h k)
+compared-once l v false false h k = refl

@@ -1,0 +1,80 @@
+-- What is promised of a translation that is compared, measured and written.
+use Prim.Native.Nat.{ℕ, _+_, _≤_, _<_}
+use mathlib.Core.Path.{_≡_}
+use mathlib.Core.Bool.{Bool, true, false}
+use mathlib.Core.List.{List}
+use lib.ListN.{length, take}
+use Rattle.paper.specs.Bytes.{raw}
+use Rattle.paper.specs.Locations.{Location, spans}
+use Rattle.paper.specs.Translation.{codingText, letters, codonsFrom, dropStop, hasStopInside}
+use Rattle.paper.specs.Answers.{front}
+use Rattle.translation.specs.Reading.{Codes, TextLeft}
+use Rattle.translation.specs.declared.reading.Reading.{Reading}
+use Rattle.translation.specs.declared.writing.Count.{Count}
+use Rattle.translation.specs.declared.writing.Size.{Size}
+use Rattle.translation.specs.declared.writing.Size.the-variants as size
+
+-- the letters of every whole codon, a last stop too
+abbrev pub lettersOf : List ℕ → ℕ → Location → List ℕ
+lettersOf s start t = codonsFrom start (codingText s (spans t))
+
+-- ---- rule 28
+
+-- neither is the value "different from the translation", nor does a stop stand inside
+pub record RightValue (l v : List ℕ) : Type 0 where
+  pub clear : hasStopInside l ≡ false
+  pub same : v ≡ dropStop l
+
+abbrev pub RightIf : List ℕ → List ℕ → Bool → Type 0
+RightIf l v true = RightValue l v
+RightIf l v false = RightValue l v → ⊥
+
+-- of whichever location and value as read the bytes are written from
+pub record Compares (s loc : List ℕ) (L start : ℕ) (value : List ℕ) (r : Bool) : Type 0 where
+  pub says : (t : Location) → Codes s loc L t → (v : List ℕ) → value ≡ raw v → RightIf (lettersOf s start t) v r
+
+-- ---- the length
+
+-- m letters were counted in a room
+abbrev pub Tally : (room m n : ℕ) (over : Bool) → Type 0
+Tally room m n true = room < m
+Tally room m n false = (n ≡ m) × (m ≤ room)
+
+pub record Counted (room : ℕ) (a b : Count) : Type 0 where
+  pub within : a .n ≤ room → b .n ≤ room
+  pub one : (m : ℕ) → Tally room m (a .n) (a .over) → Tally room (m + 1) (b .n) (b .over)
+
+abbrev pub sizeOf : ℕ → Bool → Size
+sizeOf n true = size.Short
+sizeOf n false = size.Is n
+
+-- ".. 37 stop inside; 34 lent output shorter than the answer": of the letters l, for room of so many bytes
+abbrev pub Measured : List ℕ → ℕ → Size → Type 0
+Measured l room (size.Is n) = (hasStopInside l ≡ false) × (n ≡ length (dropStop l)) × (n ≤ room)
+Measured l room size.Short = (hasStopInside l ≡ false) × (room < length (dropStop l))
+Measured l room size.Stop = hasStopInside l ≡ true
+
+-- a length that is given is in the room, whatever the bytes are
+abbrev pub SizeWithin : ℕ → Size → Type 0
+SizeWithin room (size.Is n) = n ≤ room
+SizeWithin room size.Short = Unit {0}
+SizeWithin room size.Stop = Unit {0}
+
+pub record Measures (s loc : List ℕ) (L start room : ℕ) (r : Size) : Type 0 where
+  pub within : SizeWithin room r
+  pub says : (t : Location) → Codes s loc L t → Measured (lettersOf s start t) room r
+
+-- ---- in lent room
+
+-- the first letters that are left stand at the front
+pub record Puts (s loc : List ℕ) (L : ℕ) (x : Reading) (count : ℕ) (out after : List ℕ) : Type 0 where
+  pub says : (text : List ℕ) → TextLeft s loc L x text → count ≤ length (letters text) → after ≡ front (take count (letters text)) out
+
+-- "Success writes the answer at the front and leaves the rest."; a refusal "changes no lent output"
+abbrev pub afterOf : List ℕ → List ℕ → Size → List ℕ
+afterOf l out (size.Is n) = front (dropStop l) out
+afterOf l out size.Short = out
+afterOf l out size.Stop = out
+
+pub record Writes (s loc : List ℕ) (L start : ℕ) (out : List ℕ) (r : Size) (after : List ℕ) : Type 0 where
+  pub says : (t : Location) → Codes s loc L t → Measured (lettersOf s start t) (length out) r × (after ≡ afterOf (lettersOf s start t) out r)

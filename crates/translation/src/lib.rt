@@ -1,0 +1,6 @@
+// Translations: from the residues of a sequence, a location in it and a codon_start to the letters of a protein, one after another and without
+// room; compared with a qualifier's value, measured, and written into lent room. It relies on the paper, the location's walk and the codon's
+// tables. A caller takes the tables once and lends them to each call; `top` is the sequence's L.
+pub mod comparing;
+mod reading;
+pub mod writing;

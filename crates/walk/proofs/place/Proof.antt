@@ -1,0 +1,20 @@
+-- `walk::place` meets its contract, from what each arm of the `match` knows of the step.
+use mathlib.Core.Path.{refl}
+use borrow.Author.Needs.{needs}
+use Rattle.walk.proofs.place.Statement.{statement}
+use Rattle.walk.proofs.place.Tie as tie
+
+enum-known-st : tie.Need-enum-known-st
+enum-known-st c = search needs
+
+enum-known-st-2 : tie.Need-enum-known-st-2
+enum-known-st-2 c = search needs
+
+returns : tie.Need-returns
+returns c = rw (c .before .st .given .1) refl
+
+returns-2 : tie.Need-returns-2
+returns-2 c = rw (c .before .st2 .given .1) tt
+
+pub place-spec : {M : Type 1} → statement M
+place-spec = tie.close (tie.spec enum-known-st enum-known-st-2 returns returns-2)
