@@ -34,9 +34,6 @@ module _ {c : ℕ} (n : c ≡ code "*" → ⊥) where
   right-more {l} h = cons≢nil (sym (h .same ∙ keep-letter l))
 
 -- "A stop as the last whole codon is dropped; any other stop is 'inside'."
-stopped-clear : (y : ℕ) (l : List ℕ) → hasStopInside (code "*" ∷ y ∷ l) ≡ true
-stopped-clear y l = refl
-
 module _ {c : ℕ} (e : c ≡ code "*") where
   pub stop-last : dropStop (c ∷ []) ≡ []
   stop-last = rw (eq-eqb c (code "*") e)
@@ -45,7 +42,7 @@ module _ {c : ℕ} (e : c ≡ code "*") where
   stop-last-clear = rw stop-last
 
   pub stop-inside : (y : ℕ) (l : List ℕ) → hasStopInside (c ∷ y ∷ l) ≡ true
-  stop-inside y l = rw e (stopped-clear y l)
+  stop-inside y l = rw e
 
   -- a value that is right ends before a stop
   pub right-stop : (l : List ℕ) {v : List ℕ} → RightValue (c ∷ l) v → v ≡ []

@@ -56,8 +56,8 @@ pub record Fills (s loc : List ℕ) (L : ℕ) (x y : Reading) : Type 0 where
   pub keeps : (text : List ℕ) → TextLeft s loc L x text → TextLeft s loc L y text
   pub ends : y .low ≡ y .high → (text : List ℕ) → TextLeft s loc L x text → text ≡ []
 
--- b is the base set of the first residue that x leaves, and y leaves the others
-pub record FirstBase (s loc : List ℕ) (L : ℕ) (x : Reading) (b : ℕ) (y : Reading) (text : List ℕ) : Type 0 where
+-- b is the base set of the first residue of the text, and y leaves the others
+pub record FirstBase (s loc : List ℕ) (L : ℕ) (b : ℕ) (y : Reading) (text : List ℕ) : Type 0 where
   pub first : ℕ
   pub others : List ℕ
   pub is : text ≡ first ∷ others
@@ -68,7 +68,7 @@ pub record BaseIs (s loc : List ℕ) (L : ℕ) (x : Reading) (b : ℕ) (y : Read
   pub small : b < 16
   pub ready : Ready (length s) y
   pub falls : residuesLeft (length s) (length loc) y < residuesLeft (length s) (length loc) x
-  pub gives : (text : List ℕ) → TextLeft s loc L x text → FirstBase s loc L x b y text
+  pub gives : (text : List ℕ) → TextLeft s loc L x text → FirstBase s loc L b y text
 
 abbrev pub BaseSays : List ℕ → List ℕ → ℕ → Reading → Base → Type 0
 BaseSays s loc L x base.Done = (text : List ℕ) → TextLeft s loc L x text → text ≡ []
@@ -77,7 +77,7 @@ BaseSays s loc L x (base.Is b y) = BaseIs s loc L x b y
 pub record Bases (s loc : List ℕ) (L : ℕ) (x : Reading) (r : Base) : Type 0 where
   pub says : BaseSays s loc L x r
 
--- c is the letter of the first whole codon that x leaves, and y leaves the residues behind it
+-- c is the letter of the first whole codon of the text, and y leaves the residues behind it
 pub record FirstLetter (s loc : List ℕ) (L : ℕ) (c : ℕ) (y : Reading) (text : List ℕ) : Type 0 where
   pub others : List ℕ
   pub is : letters text ≡ c ∷ letters others

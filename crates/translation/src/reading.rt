@@ -186,8 +186,11 @@ pub fn next(
     }
     if x.turned {
         let at = high - 3;
+        let a = r[high - 1];
+        let b = r[high - 2];
+        let c = r[at];
         return Letter::Is(
-            codon(r[high - 1], r[high - 2], r[at], turns, table),
+            codon(a, b, c, turns, table),
             Reading {
                 walk,
                 low,
@@ -196,8 +199,11 @@ pub fn next(
             },
         );
     }
+    let a = r[low];
+    let b = r[low + 1];
+    let c = r[low + 2];
     Letter::Is(
-        codon(r[low], r[low + 1], r[low + 2], sets, table),
+        codon(a, b, c, sets, table),
         Reading {
             walk,
             low: low + 3,

@@ -16,20 +16,20 @@ returns c = c .slowly .ensures
 sub-at : tie.Need-sub-at
 sub-at c = omega (arith, c .before .before .before .before .pre .1 .0 .order, c .before .before .before .before .pre .1 .0 .inside)
 
-sub-codon : tie.Need-sub-codon
-sub-codon c = omega (arith, c .before .before .before .before .pre .1 .0 .order, c .before .before .before .before .pre .1 .0 .inside)
+sub-a : tie.Need-sub-a
+sub-a c = omega (arith, c .before .before .before .before .pre .1 .0 .order, c .before .before .before .before .pre .1 .0 .inside)
 
-shared-slice-read-codon : tie.Need-shared-slice-read-codon
-shared-slice-read-codon c = omega (arith, c .before .before .before .before .before .pre .1 .0 .order, c .before .before .before .before .before .pre .1 .0 .inside)
+shared-slice-read-a : tie.Need-shared-slice-read-a
+shared-slice-read-a c = omega (arith, c .before .before .before .before .before .pre .1 .0 .order, c .before .before .before .before .before .pre .1 .0 .inside)
 
-sub-codon-2 : tie.Need-sub-codon-2
-sub-codon-2 c = omega (arith, c .before .before .before .before .before .pre .1 .0 .order, c .before .before .before .before .before .pre .1 .0 .inside)
+sub-b : tie.Need-sub-b
+sub-b c = omega (arith, c .before .before .before .before .before .pre .1 .0 .order, c .before .before .before .before .before .pre .1 .0 .inside)
 
-shared-slice-read-codon-2 : tie.Need-shared-slice-read-codon-2
-shared-slice-read-codon-2 c = omega (arith, c .before .before .before .before .before .before .pre .1 .0 .order, c .before .before .before .before .before .before .pre .1 .0 .inside)
+shared-slice-read-b : tie.Need-shared-slice-read-b
+shared-slice-read-b c = omega (arith, c .before .before .before .before .before .before .pre .1 .0 .order, c .before .before .before .before .before .before .pre .1 .0 .inside)
 
-shared-slice-read-codon-3 : tie.Need-shared-slice-read-codon-3
-shared-slice-read-codon-3 c = omega (arith, c .before .before .before .before .before .before .before .pre .1 .0 .order, c .before .before .before .before .before .before .before .pre .1 .0 .inside)
+shared-slice-read-c : tie.Need-shared-slice-read-c
+shared-slice-read-c c = omega (arith, c .before .before .before .before .before .before .before .pre .1 .0 .order, c .before .before .before .before .before .before .before .pre .1 .0 .inside)
 
 codon-requires : tie.Need-codon-requires
 codon-requires c κs = (c .before .before .before .before .before .before .before .pre .1 .1 .1 .0 .small, c .before .before .before .before .before .before .before .pre .1 .1 .1 .1)
@@ -38,26 +38,26 @@ returns-2 : tie.Need-returns-2
 returns-2 c =
     record { says = letter-is (codon-behind (c .before .before .before .before .before .before .before .before .args .r .now) (c .before .before .before .before .before .before .before .before .args .x) (c .before .before .before .before .before .before .before .before .pre .1 .0 .inside) (c .before .before .before .before .if2 .taken) (c .before .before .before .before .before .if1 .left)) (c .codon .ensures _ (c .before .before .before .before .before .before .before .before .pre .1 .1 .1 .0)) }
 
-shared-slice-read-codon-4 : tie.Need-shared-slice-read-codon-4
-shared-slice-read-codon-4 c = omega (arith, c .before .before .before .before .before .pre .1 .0 .order, c .before .before .before .before .before .pre .1 .0 .inside)
+shared-slice-read-a-2 : tie.Need-shared-slice-read-a-2
+shared-slice-read-a-2 c = omega (arith, c .before .before .before .before .before .pre .1 .0 .order, c .before .before .before .before .before .pre .1 .0 .inside)
 
-add-codon : tie.Need-add-codon
-add-codon c = omega (arith, c .before .before .before .before .before .pre .1 .0 .order, c .before .before .before .before .before .pre .1 .0 .inside)
+add-b : tie.Need-add-b
+add-b c = omega (arith, c .before .before .before .before .before .pre .1 .0 .order, c .before .before .before .before .before .pre .1 .0 .inside)
 
-shared-slice-read-codon-5 : tie.Need-shared-slice-read-codon-5
-shared-slice-read-codon-5 c = omega (arith, c .before .before .before .before .before .before .pre .1 .0 .order, c .before .before .before .before .before .before .pre .1 .0 .inside)
+shared-slice-read-b-2 : tie.Need-shared-slice-read-b-2
+shared-slice-read-b-2 c = omega (arith, c .before .before .before .before .before .before .pre .1 .0 .order, c .before .before .before .before .before .before .pre .1 .0 .inside)
 
-add-codon-2 : tie.Need-add-codon-2
-add-codon-2 c = omega (arith, c .before .before .before .before .before .before .pre .1 .0 .order, c .before .before .before .before .before .before .pre .1 .0 .inside)
+add-c : tie.Need-add-c
+add-c c = omega (arith, c .before .before .before .before .before .before .pre .1 .0 .order, c .before .before .before .before .before .before .pre .1 .0 .inside)
 
-shared-slice-read-codon-6 : tie.Need-shared-slice-read-codon-6
-shared-slice-read-codon-6 c = omega (arith, c .before .before .before .before .before .before .before .pre .1 .0 .order, c .before .before .before .before .before .before .before .pre .1 .0 .inside)
+shared-slice-read-c-2 : tie.Need-shared-slice-read-c-2
+shared-slice-read-c-2 c = omega (arith, c .before .before .before .before .before .before .before .pre .1 .0 .order, c .before .before .before .before .before .before .before .pre .1 .0 .inside)
 
 codon-requires-2 : tie.Need-codon-requires-2
 codon-requires-2 c κs = (c .before .before .before .before .before .before .before .pre .1 .1 .0 .small, c .before .before .before .before .before .before .before .pre .1 .1 .1 .1)
 
-add-t32 : tie.Need-add-t32
-add-t32 c = omega (arith, c .before .before .before .before .before .before .before .before .pre .1 .0 .order, c .before .before .before .before .before .before .before .before .pre .1 .0 .inside)
+add-t18 : tie.Need-add-t18
+add-t18 c = omega (arith, c .before .before .before .before .before .before .before .before .pre .1 .0 .order, c .before .before .before .before .before .before .before .before .pre .1 .0 .inside)
 
 returns-3 : tie.Need-returns-3
 returns-3 c =
@@ -71,18 +71,18 @@ next-spec =
     slowly-requires
     returns
     sub-at
-    sub-codon
-    shared-slice-read-codon
-    sub-codon-2
-    shared-slice-read-codon-2
-    shared-slice-read-codon-3
+    sub-a
+    shared-slice-read-a
+    sub-b
+    shared-slice-read-b
+    shared-slice-read-c
     codon-requires
     returns-2
-    shared-slice-read-codon-4
-    add-codon
-    shared-slice-read-codon-5
-    add-codon-2
-    shared-slice-read-codon-6
+    shared-slice-read-a-2
+    add-b
+    shared-slice-read-b-2
+    add-c
+    shared-slice-read-c-2
     codon-requires-2
-    add-t32
+    add-t18
     returns-3)
