@@ -28,7 +28,7 @@ pub before : {F : Form} (P : List ℕ → Type 0) {s : List ℕ} {at e : ℕ} (x
 before P x h = subst P (sym (x .here)) h
 
 -- what stands from a place stands from a place that is the same
-from : {F : Form} {s : List ℕ} {at b e : ℕ} → at ≡ b → Stands F s b e → Stands F s at e
+pub from : {F : Form} {s : List ℕ} {at b e : ℕ} → at ≡ b → Stands F s b e → Stands F s at e
 from {F} {s} {e = e} h x = subst (λ (a : ℕ). Stands F s a e) (sym h) x
 
 module _ (name : List ℕ) (high : Bool) {s : List ℕ} {start at f h : ℕ} {x : Step} (p : Passes blanks (Not isBlank) s (Ok at f) x) (hp : Reached x h) where

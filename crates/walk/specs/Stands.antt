@@ -5,15 +5,17 @@ use mathlib.Core.Bool.{Bool, true, false}
 use mathlib.Core.List.{List, _++_}
 use mathlib.Core.Option.{Option, none, some}
 use lib.ListN.{length, drop}
-use Rattle.paper.specs.Bytes.{bytes, raw}
+use Rattle.paper.specs.Bytes.{bytes, raw, isBlank}
 use Rattle.paper.specs.Form.{Form, maybe}
 use Rattle.paper.specs.Tree.{Text}
-use Rattle.paper.specs.Layout.{leaf, child}
-use Rattle.scan.specs.Follow.{Starts, Before}
+use Rattle.paper.specs.Tree as Tree
+use Rattle.paper.specs.Layout.{leaf, child, qualifier}
+use Rattle.scan.specs.Follow.{Not, Starts, Before}
 use Rattle.scan.specs.declared.Step.{Step}
 use Rattle.scan.specs.declared.Step.the-variants.{Ok, Fail}
 use Rattle.walk.specs.declared.Part.{Part}
 use Rattle.walk.specs.declared.Found.{Found}
+use Rattle.walk.specs.declared.FoundQualifier.{FoundQualifier}
 use Rattle.walk.specs.declared.FoundMaybe.{FoundMaybe}
 use Rattle.walk.specs.declared.Maybe.{Maybe}
 use Rattle.walk.specs.declared.Maybe.the-variants.{Absent, Present}
@@ -62,3 +64,13 @@ pub record IsMaybe (o : Option (Text ℕ)) (e : ℕ) (r : FoundMaybe) : Type 0 w
 abbrev pub FindsMaybe : List ℕ → List ℕ → ℕ → FoundMaybe → Type 0
 FindsMaybe name s at r =
     (l : List (List ℕ)) → Before name l → (o : Option (Text ℕ)) (e : ℕ) → Stands (maybe (child (leaf name)) o) s at e → Starts l (drop e s) → IsMaybe o e r
+
+-- ---- items
+
+pub record IsQualifier (q : Tree.Qualifier ℕ) (e : ℕ) (r : FoundQualifier) : Type 0 where
+  pub name : IsPart (q .name) (r .name)
+  pub value : MaybeIs (q .value) (r .value)
+  pub next : r .next ≡ e
+
+abbrev pub FindsQualifier : List ℕ → ℕ → FoundQualifier → Type 0
+FindsQualifier s at r = (q : Tree.Qualifier ℕ) (e : ℕ) → Stands (child qualifier q) s at e → Not isBlank (drop e s) → IsQualifier q e r

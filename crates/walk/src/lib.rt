@@ -5,7 +5,7 @@ ghost use Rattle.paper.specs.Bytes.{isBlank};
 ghost use Rattle.paper.specs.Layout as Form;
 ghost use Rattle.scan.specs.Follow.{Not, anything};
 ghost use Rattle.scan.specs.Texts.{ClassTable, allowedIn};
-ghost use Rattle.walk.specs.Stands.{Finds, FindsMaybe, Opens, Reached};
+ghost use Rattle.walk.specs.Stands.{Finds, FindsMaybe, FindsQualifier, Opens, Reached};
 
 // A text of the listing, from its first byte to the one behind its last.
 pub struct Part {
@@ -102,5 +102,34 @@ pub fn leaf_maybe(s: &[u8], at: usize, name: &[u8], t: &[u8; 256]) -> FoundMaybe
     FoundMaybe {
         part: Maybe::Absent,
         next: at,
+    }
+}
+
+// A qualifier, and where what follows it starts.
+pub struct FoundQualifier {
+    pub name: Part,
+    pub value: Maybe,
+    pub next: usize,
+}
+
+pub fn qualifier(s: &[u8], at: usize, t: &[u8; 256]) -> FoundQualifier
+    requires { ⌜ ClassTable (now t) ⌝ }
+    ensures { λ r. ⌜ FindsQualifier (now (s .entry)) at r ⌝ }
+{
+    let a = scan::tag(s, Step::Ok { next: at, far: at }, b"INSDQualifier");
+    let h = place(layout::enter(s, a));
+    let Found {
+        part: name,
+        next: b,
+    } = leaf(s, h, b"INSDQualifier_name", t);
+    let FoundMaybe {
+        part: value,
+        next: c,
+    } = leaf_maybe(s, b, b"INSDQualifier_value", t);
+    let n = place(layout::leave(s, Step::Ok { next: c, far: c }, b"INSDQualifier"));
+    FoundQualifier {
+        name,
+        value,
+        next: n,
     }
 }
