@@ -138,6 +138,13 @@ lent-once (Lent.short h) (Lent.written k) = absurd (omega arith)
 lent-once (Lent.written h) (Lent.short k) = absurd (omega arith)
 lent-once (Lent.written h) (Lent.written k) = (refl, refl, refl, refl)
 
+-- rule 2 has one place
+pub strays-once : {w : List ℕ} {p q : ℕ} → Strays w p → Strays w q → p ≡ q
+strays-once {p = p} {q = q} s t =
+    let a : p ≤ q = t .longest p (s .inside) (s .begins) in
+    let b : q ≤ p = s .longest q (t .inside) (t .begins) in
+    omega arith
+
 module _ {w : List ℕ} (once : (l m : Listing ℕ) → LaidOut l w → LaidOut m w → l ≡ m) where
   pub checked-once : {a b : Outcome (Listing ℕ)} → Checked w a → Checked w b → a ≡ b
   checked-once (too-long h) (too-long k) = refl
@@ -145,10 +152,7 @@ module _ {w : List ℕ} (once : (l m : Listing ℕ) → LaidOut l w → LaidOut 
   checked-once (too-long h) (breaks l k d f) = absurd (omega arith)
   checked-once (too-long h) (accepted k d f) = absurd (omega arith)
   checked-once (strays k s) (too-long h) = absurd (omega arith)
-  checked-once (strays {p = p} h s) (strays {p = q} k t) =
-      let a : p ≤ q = t .longest p (s .inside) (s .begins) in
-      let b : q ≤ p = s .longest q (t .inside) (t .begins) in
-      ap (refuse 2) (omega arith)
+  checked-once (strays h s) (strays k t) = ap (refuse 2) (strays-once s t)
   checked-once (strays h s) (breaks l k d f) = absurd (s .stray l d)
   checked-once (strays h s) (accepted {l = l} k d f) = absurd (s .stray l d)
   checked-once (breaks l k d f) (too-long h) = absurd (omega arith)
