@@ -1,6 +1,7 @@
 -- The answers of the inner crates in numbers.
 use Prim.Native.Nat.{ℕ}
 use mathlib.Core.Path.{_≡_}
+use mathlib.Core.Bool.{Bool}
 use mathlib.Core.List.{List}
 use Rattle.paper.specs.Locations.{mark}
 use Rattle.layout.specs.Says.{Lays, Refuses}
@@ -10,6 +11,9 @@ use Rattle.location.specs.declared.judging.Facts.{Facts}
 use Rattle.location.specs.declared.judging.Verdict.the-variants.{Bad, Is}
 use Rattle.location.specs.declared.room.Answer.{Answer}
 use Rattle.location.specs.declared.room.Answer.the-variants as answer
+use Rattle.translation.specs.Translating.{Writes, Compares}
+use Rattle.translation.specs.declared.writing.Size.{Size}
+use Rattle.translation.specs.declared.writing.Size.the-variants as size
 
 pub data LayoutNumbers (w : List ℕ) : (number place : ℕ) → Type 0 where
   laid : Lays w → LayoutNumbers w 0 0
@@ -45,3 +49,25 @@ pub record SpansNumbers (s : List ℕ) (L : ℕ) (out : List ℕ) (number operat
   pub number-is : number ≡ numberOf says
   pub operator-is : operator ≡ operatorOf says
   pub count-is : count ≡ countOf says
+
+-- the number and length of each answer
+abbrev pub sizeNumber : Size → ℕ
+sizeNumber (size.Is n) = 0
+sizeNumber size.Short = 34
+sizeNumber size.Stop = 37
+
+abbrev pub sizeLength : Size → ℕ
+sizeLength (size.Is n) = n
+sizeLength size.Short = 0
+sizeLength size.Stop = 0
+
+pub record TranslationNumbers (s loc : List ℕ) (L start : ℕ) (out : List ℕ) (number length : ℕ) (after : List ℕ) : Type 0 where
+  pub says : Size
+  pub writes : Writes s loc L start out says after
+  pub number-is : number ≡ sizeNumber says
+  pub length-is : length ≡ sizeLength says
+
+pub record RightNumbers (s loc : List ℕ) (L start : ℕ) (value : List ℕ) (number : ℕ) : Type 0 where
+  pub says : Bool
+  pub compares : Compares s loc L start value says
+  pub number-is : number ≡ mark says 1

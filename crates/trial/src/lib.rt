@@ -3,9 +3,10 @@
 use layout::Shape;
 use location::judging::Verdict;
 use location::room::Answer;
+use translation::writing::Size;
 ghost use mathlib.Core.Path.{_≡_};
 ghost use Rattle.paper.specs.Locations.{mark};
-ghost use Rattle.trial.specs.Numbers.{LayoutNumbers, LocationNumbers, SpansNumbers};
+ghost use Rattle.trial.specs.Numbers.{LayoutNumbers, LocationNumbers, SpansNumbers, TranslationNumbers, RightNumbers};
 
 // 0, or the number of the broken rule with its place.
 #[no_mangle]
@@ -99,4 +100,48 @@ pub extern "C" fn trial_spans(
             0
         }
     }
+}
+
+// 0 with the translation written and its length, or 37, 34. `r` are the residues, `loc` is the raw part of the location, `top` the number
+// of residues, and `frame` the codon_start.
+#[no_mangle]
+pub extern "C" fn trial_translation(
+    r: &[u8],
+    loc: &[u8],
+    top: u32,
+    frame: usize,
+    out: &mut [u8],
+    size: &mut usize,
+) -> u32
+    ensures { λ n. ⌜ TranslationNumbers (now (r .entry)) (now (loc .entry)) top frame (now (out .entry)) n (now (size .exit)) (now (out .exit)) ⌝ }
+{
+    let sets = codon::set_table();
+    let turns = codon::turn_table();
+    let table = codon::letter_table();
+    match translation::writing::write(r, loc, top, frame, &sets, &turns, &table, out) {
+        Size::Is(n) => {
+            *size = n;
+            0
+        }
+        Size::Short => {
+            *size = 0;
+            34
+        }
+        Size::Stop => {
+            *size = 0;
+            37
+        }
+    }
+}
+
+// 1 where the value, as it is written in the listing, is the translation.
+#[no_mangle]
+pub extern "C" fn trial_is_right(r: &[u8], loc: &[u8], top: u32, frame: usize, value: &[u8]) -> u32
+    ensures { λ n. ⌜ RightNumbers (now (r .entry)) (now (loc .entry)) top frame (now (value .entry)) n ⌝ }
+{
+    let sets = codon::set_table();
+    let turns = codon::turn_table();
+    let table = codon::letter_table();
+    let right = translation::comparing::is_right(r, loc, top, frame, value, &sets, &turns, &table);
+    flag(right, 1)
 }
