@@ -42,7 +42,7 @@ pub fn run(count: u64, seed: u64, root: &Path) -> Result<bool, String> {
             bytes,
         }),
     );
-    Ok(comparison.close("layout"))
+    Ok(comparison.count.close("layout"))
 }
 
 /// The mixes and traps of the greatest size, and the mixes with one byte more.
@@ -97,7 +97,7 @@ mod tests {
         let wrong = |input: &[u8]| judge::layout(input).or_else(|refusal| error(input, refusal));
         let mut comparison = Comparison::new(wrong, judge::layout, None);
         comparison.kind("test", (0..1000).map(|number| mutants::mutant(1, number)));
-        comparison.differ
+        comparison.count.differ
     }
 
     #[test]

@@ -1,7 +1,8 @@
 //! Locations: what the proved reader says of a text, and its spans, beside the judge.
 
 use crate::proved;
-use judge::generate::Rng;
+use crate::report::Count;
+use judge::generate::{sentences, Rng, LOCATION_SIGNS};
 use judge::{Location, Operator, Span};
 
 /// What is asked of a location text, for a sequence of some length.
@@ -14,25 +15,8 @@ pub struct Facts {
     pub spans: Option<Vec<[u32; 3]>>,
 }
 
-/// The words that texts are made of: every sign of the grammar, digits that matter, and a byte of none.
-const WORDS: [&str; 16] = [
-    "0",
-    "1",
-    "2",
-    "7",
-    "8",
-    ".",
-    "..",
-    "^",
-    "<",
-    ">",
-    ",",
-    ")",
-    "complement(",
-    "join(",
-    "order(",
-    "&",
-];
+/// The words that texts are made of besides the signs: digits that matter, a lone dot, and a byte of none.
+const WORDS: [&str; 7] = ["0", "1", "2", "7", "8", ".", "&"];
 
 /// All texts of up to this many words are compared.
 const LONGEST: usize = 6;
@@ -43,11 +27,11 @@ const RESIDUES: u32 = 7;
 /// Compares all short texts and `count` generated ones; whether nothing differs.
 pub fn run(count: u64, seed: u64) -> Result<bool, String> {
     let mut tally = Tally::default();
-    let mut text = Vec::new();
-    every(&mut text, LONGEST, &mut |text| {
-        tally.compare(text, RESIDUES)
+    let words = [&WORDS[..], &LOCATION_SIGNS].concat();
+    sentences(&words, LONGEST, &mut |text| {
+        tally.compare(text.as_bytes(), RESIDUES)
     });
-    let short = tally.cases;
+    let short = tally.count.cases;
     let rng = &mut Rng::new(seed);
     for _ in 0..count {
         let residues = rng.between(1, 40) as u32;
@@ -58,38 +42,26 @@ pub fn run(count: u64, seed: u64) -> Result<bool, String> {
         "{short} texts of up to {LONGEST} words, {count} generated; {} are locations, {} keep rule 25",
         tally.located, tally.right
     );
-    println!(
-        "compare location: {} cases, {} differ",
-        tally.cases, tally.differ
-    );
-    Ok(tally.differ == 0)
+    Ok(tally.count.close("location"))
 }
 
 #[derive(Default)]
 struct Tally {
-    cases: usize,
+    count: Count,
     located: usize,
     right: usize,
-    differ: usize,
 }
 
 impl Tally {
     fn compare(&mut self, text: &[u8], residues: u32) {
         let said = judge::location(text, residues).map(facts);
-        self.cases += 1;
         self.located += usize::from(said.is_some());
         self.right += usize::from(said.as_ref().map_or(false, |facts| facts.spans.is_some()));
-        let proved = proved::location(&raw(text), residues);
-        if proved != said {
-            self.differ += 1;
-            if self.differ <= 5 {
-                println!(
-                    "{:?} with {residues} residues:",
-                    String::from_utf8_lossy(text)
-                );
-                println!("  judge {said:?}\n  proved {proved:?}");
-            }
-        }
+        let proved = proved::location(&proved::raw(text), residues);
+        self.count.case(proved == said, |_| {
+            let text = String::from_utf8_lossy(text);
+            println!("{text:?} with {residues} residues:\n  judge {said:?}\n  proved {proved:?}");
+        });
     }
 }
 
@@ -107,36 +79,6 @@ fn facts(location: Location) -> Facts {
         spans: location
             .spans
             .map(|spans| spans.iter().map(triple).collect()),
-    }
-}
-
-/// The text as it is written in a listing.
-fn raw(text: &[u8]) -> Vec<u8> {
-    let mut written = Vec::new();
-    for &byte in text {
-        match byte {
-            b'<' => written.extend_from_slice(b"&lt;"),
-            b'>' => written.extend_from_slice(b"&gt;"),
-            b'&' => written.extend_from_slice(b"&amp;"),
-            b'"' => written.extend_from_slice(b"&quot;"),
-            b'\'' => written.extend_from_slice(b"&apos;"),
-            _ => written.push(byte),
-        }
-    }
-    written
-}
-
-/// Calls `each` with the text and every text of up to `left` words more.
-fn every(text: &mut Vec<u8>, left: usize, each: &mut dyn FnMut(&[u8])) {
-    each(text);
-    if left == 0 {
-        return;
-    }
-    let length = text.len();
-    for word in WORDS {
-        text.extend_from_slice(word.as_bytes());
-        every(text, left - 1, each);
-        text.truncate(length);
     }
 }
 
@@ -213,17 +155,10 @@ mod tests {
     use super::*;
 
     #[test]
-    fn every_text_of_up_to_two_words_is_made_once() {
-        let mut texts = Vec::new();
-        every(&mut Vec::new(), 2, &mut |text| texts.push(text.to_vec()));
-        assert_eq!(texts.len(), 1 + WORDS.len() + WORDS.len() * WORDS.len());
-    }
-
-    #[test]
     fn a_wrong_answer_is_a_difference() {
         let mut tally = Tally::default();
         tally.compare(b"1..3", 7);
-        assert_eq!(tally.differ, 0);
+        assert_eq!(tally.count.differ, 0);
         let right = judge::location(b"1..3", 7).map(facts);
         let other = judge::location(b"1..4", 7).map(facts);
         assert_ne!(right, other);

@@ -6,14 +6,16 @@ mod location;
 mod mutants;
 mod proved;
 mod report;
+mod translation;
 
 use std::path::Path;
 use std::process::ExitCode;
 
 const USAGE: &str = "\
-compare layout COUNT [SEED]   rules 1 and 2 on COUNT generated listings, COUNT mutants, and more
-compare location COUNT [SEED] every short location text, and COUNT generated ones
-compare make KIND SIZE FILE   writes a listing of this size, for measuring";
+compare layout COUNT [SEED]      rules 1 and 2 on COUNT generated listings, COUNT mutants, and more
+compare location COUNT [SEED]    every short location text, and COUNT generated ones
+compare translation COUNT [SEED] every codon, and COUNT generated coding regions
+compare make KIND SIZE FILE      writes a listing of this size, for measuring";
 
 fn main() -> ExitCode {
     let arguments: Vec<String> = std::env::args().skip(1).collect();
@@ -22,14 +24,9 @@ fn main() -> ExitCode {
     let package = Path::new(env!("CARGO_MANIFEST_DIR"));
     let root = package.parent().unwrap_or(package);
     let outcome = match words[..] {
-        ["layout", count] => number(count).and_then(|count| layout::run(count, 1, root)),
-        ["layout", count, seed] => number(count)
-            .and_then(|count| number(seed).and_then(|seed| layout::run(count, seed, root))),
-        ["location", count] => number(count).and_then(|count| location::run(count, 1)),
-        ["location", count, seed] => {
-            number(count).and_then(|count| number(seed).and_then(|seed| location::run(count, seed)))
-        }
         ["make", kind, size, file] => make(kind, size, file),
+        [what, count] => compare(what, count, "1", root),
+        [what, count, seed] => compare(what, count, seed, root),
         _ => Err(usage()),
     };
     match outcome {
@@ -39,6 +36,17 @@ fn main() -> ExitCode {
             eprintln!("{message}");
             ExitCode::from(2)
         }
+    }
+}
+
+/// Runs one comparison; whether nothing differs.
+fn compare(what: &str, count: &str, seed: &str, root: &Path) -> Result<bool, String> {
+    let (count, seed) = (number(count)?, number(seed)?);
+    match what {
+        "layout" => layout::run(count, seed, root),
+        "location" => location::run(count, seed),
+        "translation" => translation::run(count, seed),
+        _ => Err(usage()),
     }
 }
 

@@ -1,6 +1,8 @@
 //! The proved code, as the crate `trial` lends it: the only unsafe lines of this package.
 
 use crate::location::Facts;
+use crate::translation::Region;
+use judge::generate::escape;
 use judge::Refusal;
 
 extern "C" {
@@ -29,6 +31,38 @@ extern "C" {
         operator: *mut u32,
         count: *mut usize,
     ) -> u32;
+
+    /// 0 with the translation written and its length, or 37, 34.
+    fn trial_translation(
+        residues: *const u8,
+        residue_count: usize,
+        location: *const u8,
+        location_length: usize,
+        top: u32,
+        codon_start: usize,
+        out: *mut u8,
+        room: usize,
+        size: *mut usize,
+    ) -> u32;
+
+    /// 1 where the value is the translation, else 0.
+    fn trial_is_right(
+        residues: *const u8,
+        residue_count: usize,
+        location: *const u8,
+        location_length: usize,
+        top: u32,
+        codon_start: usize,
+        value: *const u8,
+        value_length: usize,
+    ) -> u32;
+}
+
+/// The text as it is written in a listing.
+pub fn raw(text: &[u8]) -> Vec<u8> {
+    let mut written = Vec::with_capacity(text.len());
+    escape(text, &mut written);
+    written
 }
 
 /// A number that no call leaves where it was.
@@ -131,5 +165,46 @@ pub fn layout(input: &[u8]) -> Result<(), Refusal> {
             rule: u32::try_from(rule).unwrap_or(u32::MAX),
             place,
         }),
+    }
+}
+
+/// What the proved code says of a translation into lent room: the number, the length and the room afterwards.
+pub fn translation(region: &Region, mut room: Vec<u8>) -> (u32, usize, Vec<u8>) {
+    // A length that the call forgets to write is a difference.
+    let mut size = usize::MAX;
+    let location = raw(&region.location);
+    // SAFETY: the call reads the two texts by their lengths, writes within `room` and one number through `size`.
+    let number = unsafe {
+        trial_translation(
+            region.residues.as_ptr(),
+            region.residues.len(),
+            location.as_ptr(),
+            location.len(),
+            region.residues.len() as u32,
+            region.codon_start,
+            room.as_mut_ptr(),
+            room.len(),
+            &mut size,
+        )
+    };
+    (number, size, room)
+}
+
+/// What the proved code says of a translation qualifier's value: 1 where it is right, else 0.
+pub fn is_right(region: &Region, value: &[u8]) -> u32 {
+    let location = raw(&region.location);
+    let value = raw(value);
+    // SAFETY: the call reads the three texts by their lengths.
+    unsafe {
+        trial_is_right(
+            region.residues.as_ptr(),
+            region.residues.len(),
+            location.as_ptr(),
+            location.len(),
+            region.residues.len() as u32,
+            region.codon_start,
+            value.as_ptr(),
+            value.len(),
+        )
     }
 }

@@ -2,7 +2,7 @@
 
 use judge::Refusal;
 use std::fs;
-use std::path::PathBuf;
+use std::path::{Path, PathBuf};
 
 /// What a reader says of rules 1 and 2.
 pub type Verdict = Result<(), Refusal>;
@@ -51,14 +51,42 @@ fn reaches_a_sequence(input: &[u8], place: usize) -> bool {
 /// So many differences are told in detail.
 const TOLD: usize = 5;
 
+/// How many cases were compared, and how many differ.
+#[derive(Default)]
+pub struct Count {
+    pub cases: usize,
+    pub differ: usize,
+}
+
+impl Count {
+    /// Counts one case; `tell` prints it with its number, where it is one of the first that differ.
+    pub fn case(&mut self, same: bool, tell: impl FnOnce(usize)) {
+        self.cases += 1;
+        if !same {
+            self.differ += 1;
+            if self.differ <= TOLD {
+                tell(self.differ);
+            }
+        }
+    }
+
+    /// Prints the last line; true if nothing differs.
+    pub fn close(&self, name: &str) -> bool {
+        println!(
+            "compare {name}: {} cases, {} differ",
+            self.cases, self.differ
+        );
+        self.differ == 0
+    }
+}
+
 /// The comparison of two readers.
 pub struct Comparison<P, J> {
     proved: P,
     judge: J,
     /// Where inputs with a difference are kept.
     folder: Option<PathBuf>,
-    pub cases: usize,
-    pub differ: usize,
+    pub count: Count,
 }
 
 impl<P: Fn(&[u8]) -> Verdict, J: Fn(&[u8]) -> Verdict> Comparison<P, J> {
@@ -67,8 +95,7 @@ impl<P: Fn(&[u8]) -> Verdict, J: Fn(&[u8]) -> Verdict> Comparison<P, J> {
             proved,
             judge,
             folder,
-            cases: 0,
-            differ: 0,
+            count: Count::default(),
         }
     }
 
@@ -92,37 +119,26 @@ impl<P: Fn(&[u8]) -> Verdict, J: Fn(&[u8]) -> Verdict> Comparison<P, J> {
     /// Compares one input; the answer is the judge's.
     fn one(&mut self, input: &Input) -> Verdict {
         let (proved, judge) = ((self.proved)(&input.bytes), (self.judge)(&input.bytes));
-        self.cases += 1;
-        if proved != judge {
-            self.differ += 1;
-            if self.differ <= TOLD {
-                self.tell(input, proved, judge);
+        let folder = self.folder.as_deref();
+        self.count.case(proved == judge, |number| {
+            println!("DIFFERS: {} ({} bytes)", input.name, input.bytes.len());
+            println!("  proved reader: {}", words(&input.bytes, proved));
+            println!("  judge:         {}", words(&input.bytes, judge));
+            if let Some(folder) = folder {
+                keep(folder, number, &input.bytes);
             }
-        }
+        });
         judge
     }
+}
 
-    fn tell(&self, input: &Input, proved: Verdict, judge: Verdict) {
-        println!("DIFFERS: {} ({} bytes)", input.name, input.bytes.len());
-        println!("  proved reader: {}", words(&input.bytes, proved));
-        println!("  judge:         {}", words(&input.bytes, judge));
-        if let Some(folder) = &self.folder {
-            let file = folder.join(format!("differs-{}.xml", self.differ));
-            let kept = fs::create_dir_all(folder).and_then(|()| fs::write(&file, &input.bytes));
-            match kept {
-                Ok(()) => println!("  kept as {}", file.display()),
-                Err(error) => println!("  not kept: {}: {error}", file.display()),
-            }
-        }
-    }
-
-    /// Prints the last line; true if nothing differs.
-    pub fn close(&self, name: &str) -> bool {
-        println!(
-            "compare {name}: {} cases, {} differ",
-            self.cases, self.differ
-        );
-        self.differ == 0
+/// Keeps an input with a difference.
+fn keep(folder: &Path, number: usize, input: &[u8]) {
+    let file = folder.join(format!("differs-{number}.xml"));
+    let kept = fs::create_dir_all(folder).and_then(|()| fs::write(&file, input));
+    match kept {
+        Ok(()) => println!("  kept as {}", file.display()),
+        Err(error) => println!("  not kept: {}: {error}", file.display()),
     }
 }
 
@@ -161,9 +177,10 @@ mod tests {
         let proved = |input: &[u8]| if wrong(input) { error } else { RULE_2 };
         let mut comparison = Comparison::new(proved, |_: &[u8]| RULE_2, None);
         comparison.kind("test", inputs(10));
-        assert_eq!(comparison.cases, 10);
-        assert_eq!(comparison.close("test"), comparison.differ == 0);
-        comparison.differ
+        let count = comparison.count;
+        assert_eq!(count.cases, 10);
+        assert_eq!(count.close("test"), count.differ == 0);
+        count.differ
     }
 
     #[test]

@@ -4,6 +4,7 @@ pub mod damage;
 pub mod model;
 mod mutate;
 mod rng;
+mod sentences;
 pub mod sized;
 pub mod valid;
 pub mod write;
@@ -12,7 +13,8 @@ use crate::{Broken, Counts, Refusal};
 use damage::{Breaks, Damage, DAMAGES};
 pub use model::Model;
 pub use rng::Rng;
-pub use write::Written;
+pub use sentences::{sentences, LOCATION_SIGNS};
+pub use write::{escape, Written};
 
 /// A listing, and what the check must say about it, where that is known.
 pub struct Case {

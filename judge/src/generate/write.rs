@@ -34,6 +34,20 @@ pub fn write(model: &Model, blank_percent: usize, rng: &mut Rng) -> Written {
     }
 }
 
+/// Writes a text with its reserved characters replaced.
+pub fn escape(text: &[u8], written: &mut Vec<u8>) {
+    for &byte in text {
+        match byte {
+            b'<' => written.extend_from_slice(b"&lt;"),
+            b'>' => written.extend_from_slice(b"&gt;"),
+            b'&' => written.extend_from_slice(b"&amp;"),
+            b'"' => written.extend_from_slice(b"&quot;"),
+            b'\'' => written.extend_from_slice(b"&apos;"),
+            _ => written.push(byte),
+        }
+    }
+}
+
 struct Writer<'r> {
     rng: &'r mut Rng,
     blank_percent: usize,
@@ -68,20 +82,6 @@ impl Writer<'_> {
         }
     }
 
-    /// A text with its reserved characters replaced.
-    fn escaped(&mut self, text: &[u8]) {
-        for &byte in text {
-            match byte {
-                b'<' => self.raw("&lt;"),
-                b'>' => self.raw("&gt;"),
-                b'&' => self.raw("&amp;"),
-                b'"' => self.raw("&quot;"),
-                b'\'' => self.raw("&apos;"),
-                _ => self.bytes.push(byte),
-            }
-        }
-    }
-
     /// Notes the value that starts at `start` and ends here.
     fn note(&mut self, field: Option<Field>, place: usize, start: usize) {
         let part = Part {
@@ -102,7 +102,7 @@ impl Writer<'_> {
             self.raw(name);
             self.raw("=\"");
             let place = self.bytes.len();
-            self.escaped(text.as_bytes());
+            escape(text.as_bytes(), &mut self.bytes);
             self.note(field, place, place);
             self.raw("\"");
         }
@@ -126,7 +126,7 @@ impl Writer<'_> {
         } else {
             self.raw(">");
             let place = self.bytes.len();
-            self.escaped(text);
+            escape(text, &mut self.bytes);
             self.note(field, place, place);
             self.end(name);
         }

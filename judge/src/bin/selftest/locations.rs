@@ -2,34 +2,23 @@
 
 use crate::report::Report;
 use judge::automaton::Automaton;
+use judge::generate::{sentences, LOCATION_SIGNS};
 use judge::location::{BEFORE, BEYOND, COMPLEMENT, SITE};
 use judge::regex::{choice, literal, one, optional, plus, sequence, star, Regex};
 use judge::{location, Operator, Span};
 
 pub fn all(report: &mut Report) {
     let grammar = Automaton::new(&grammar());
-    let words = [
-        "1",
-        "2",
-        "0",
-        "..",
-        "^",
-        "<",
-        ">",
-        ",",
-        ")",
-        "join(",
-        "order(",
-        "complement(",
-    ];
-    sentences(report, &grammar, &words, 5);
-    sentences(
-        report,
-        &grammar,
-        &["1", ",", ")", "join(", "complement("],
-        8,
-    );
-    sentences(report, &grammar, &["12", "..", "^", "<", ">", "0", "x"], 6);
+    let all = [&["1", "2", "0"][..], &LOCATION_SIGNS].concat();
+    for (words, longest) in [
+        (&all[..], 5),
+        (&["1", ",", ")", "join(", "complement("], 8),
+        (&["12", "..", "^", "<", ">", "0", "x"], 6),
+    ] {
+        sentences(words, longest, &mut |sentence| {
+            is_of_grammar(report, &grammar, sentence)
+        });
+    }
     near_misses(report, &grammar);
     for residue_count in 1..=3 {
         small_locations(report, residue_count);
@@ -69,23 +58,6 @@ fn grammar() -> Regex {
         segment,
         site,
     ])
-}
-
-/// Every sentence of at most this many words.
-fn sentences(report: &mut Report, grammar: &Automaton, words: &[&str], longest: usize) {
-    let mut sentences = vec![String::new()];
-    for _ in 0..longest {
-        for sentence in &sentences {
-            is_of_grammar(report, grammar, sentence);
-        }
-        sentences = sentences
-            .iter()
-            .flat_map(|sentence| words.iter().map(move |word| format!("{sentence}{word}")))
-            .collect();
-    }
-    for sentence in &sentences {
-        is_of_grammar(report, grammar, sentence);
-    }
 }
 
 /// Longer locations, and all that one changed, missing or doubled byte makes of them.
