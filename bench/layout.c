@@ -1,15 +1,12 @@
-/* Measures the proved layout reader beside the peer, and on traps: measure ROUNDS DTD FOLDER TRAP..
+/* Measures the proved layout reader beside the peer, and on traps: layout ROUNDS DTD FOLDER TRAP..
    FOLDER has the listings that bench/run makes: NAME.xml for each of the three mixes and for each TRAP. */
 #include "peer.h"
+#include "tools.h"
+#include "trial.h"
 
 #include <stdbool.h>
-#include <stdint.h>
 #include <stdio.h>
 #include <stdlib.h>
-#include <time.h>
-
-/* The crate `trial`: 0, or the number of the broken rule, with its place. */
-size_t trial_layout(const uint8_t *listing, size_t length, size_t *place);
 
 /* The three mixes, and how many times as fast as the peer the reader must be on each. */
 static const struct mix {
@@ -25,72 +22,29 @@ static const struct mix {
 /* Each trap must be answered within this time. */
 static const double longest_seconds = 2.0;
 
-#define COUNT(array) (sizeof(array) / sizeof *(array))
-
-struct listing {
-    char *bytes;
-    size_t length;
-};
-
-static void die(const char *what, const char *why)
-{
-    fprintf(stderr, "measure: %s: %s\n", what, why);
-    exit(2);
-}
-
 /* The whole of FOLDER/KIND.xml. */
-static struct listing load(const char *folder, const char *kind)
+static struct bytes listing_of(const char *folder, const char *kind)
 {
-    char path[4096];
-    const int written = snprintf(path, sizeof path, "%s/%s.xml", folder, kind);
-    if (written < 0 || (size_t)written >= sizeof path) {
-        die(folder, "too long a path");
-    }
-    FILE *file = fopen(path, "rb");
-    if (file == NULL || fseek(file, 0, SEEK_END) != 0) {
-        die(path, "can't be read");
-    }
-    const long length = ftell(file);
-    if (length <= 0 || fseek(file, 0, SEEK_SET) != 0) {
-        die(path, "can't be read");
-    }
-    struct listing listing = {malloc((size_t)length), (size_t)length};
-    if (listing.bytes == NULL || fread(listing.bytes, 1, listing.length, file) != listing.length) {
-        die(path, "can't be read");
-    }
-    fclose(file);
+    char *path = path_of(folder, kind, "xml");
+    const struct bytes listing = load(path);
+    free(path);
     return listing;
 }
 
-/* Seconds by one of the system's clocks. */
-static double now(clockid_t clock)
+/* Asks the proved reader; the answer's time by one of the clocks. */
+static double ask_reader(double (*clock)(void), struct bytes listing, size_t *rule, size_t *place)
 {
-    struct timespec time;
-    clock_gettime(clock, &time);
-    return (double)time.tv_sec + (double)time.tv_nsec / 1e9;
-}
-
-/* The readers are compared by the processor's time. Where other programs run beside them, the time on the wall would
-   flatter the one with the shorter turns: it is interrupted less often. */
-static const clockid_t processor = CLOCK_PROCESS_CPUTIME_ID;
-
-/* A trap's limit is meant by the clock on the wall. */
-static const clockid_t wall = CLOCK_MONOTONIC;
-
-/* Asks the proved reader; the answer's time. */
-static double ask_reader(clockid_t clock, const struct listing *listing, size_t *rule, size_t *place)
-{
-    const double start = now(clock);
-    *rule = trial_layout((const uint8_t *)listing->bytes, listing->length, place);
-    return now(clock) - start;
+    const double start = clock();
+    *rule = trial_layout(listing.at, listing.length, place);
+    return clock() - start;
 }
 
 /* Asks the peer; the answer's time. The tree is freed after it. */
-static double ask_peer(const struct listing *listing, bool *accepted)
+static double ask_peer(struct bytes listing, bool *accepted)
 {
-    const double start = now(processor);
-    *accepted = peer_read(listing->bytes, listing->length);
-    const double time = now(processor) - start;
+    const double start = processor_time();
+    *accepted = peer_read((const char *)listing.at, listing.length);
+    const double time = processor_time() - start;
     peer_forget();
     return time;
 }
@@ -98,12 +52,12 @@ static double ask_peer(const struct listing *listing, bool *accepted)
 /* One row: both readers in turn, the best time of each. True if the target is met. */
 static bool measure_mix(const struct mix *mix, const char *folder, int rounds)
 {
-    struct listing listing = load(folder, mix->kind);
+    const struct bytes listing = listing_of(folder, mix->kind);
     double best_reader = 1e9;
     double best_peer = 1e9;
     for (int round = 0; round < rounds; round++) {
         bool accepted = false;
-        const double peer = ask_peer(&listing, &accepted);
+        const double peer = ask_peer(listing, &accepted);
         if (!accepted) {
             die(mix->kind, "the peer refuses it");
         }
@@ -112,7 +66,7 @@ static bool measure_mix(const struct mix *mix, const char *folder, int rounds)
         for (int turn = 0; turn < 3; turn++) {
             size_t rule = 0;
             size_t place = 0;
-            const double reader = ask_reader(processor, &listing, &rule, &place);
+            const double reader = ask_reader(processor_time, listing, &rule, &place);
             if (rule != 0) {
                 die(mix->kind, "the proved reader refuses it");
             }
@@ -124,24 +78,24 @@ static bool measure_mix(const struct mix *mix, const char *folder, int rounds)
     const bool met = ratio >= mix->target;
     printf("%-22s %12.0f %12.0f %8.1f %8.1f  %s\n", mix->words, megabytes / best_reader, megabytes / best_peer, ratio,
            mix->target, met ? "met" : "MISSED");
-    free(listing.bytes);
+    free(listing.at);
     return met;
 }
 
 /* One row: the longest of the times, for a trap is a promise about each. True if it is short enough. */
 static bool measure_trap(const char *kind, const char *folder)
 {
-    struct listing listing = load(folder, kind);
+    const struct bytes listing = listing_of(folder, kind);
     double longest = 0;
     size_t rule = 0;
     size_t place = 0;
     for (int turn = 0; turn < 3; turn++) {
-        const double time = ask_reader(wall, &listing, &rule, &place);
+        const double time = ask_reader(wall_time, listing, &rule, &place);
         longest = time > longest ? time : longest;
     }
     const bool met = longest <= longest_seconds;
     printf("%-24s %9.4f s  rule %zu, place %8zu  %s\n", kind, longest, rule, place, met ? "met" : "MISSED");
-    free(listing.bytes);
+    free(listing.at);
     return met;
 }
 
@@ -167,7 +121,7 @@ static bool peer_validates(void)
 int main(int argc, char **argv)
 {
     if (argc < 4 || atoi(argv[1]) < 1) {
-        fprintf(stderr, "usage: measure ROUNDS DTD FOLDER TRAP..\n");
+        fprintf(stderr, "usage: layout ROUNDS DTD FOLDER TRAP..\n");
         return 2;
     }
     const int rounds = atoi(argv[1]);

@@ -1,0 +1,325 @@
+/* Measures the proved translation beside two peers, and compares its letters with theirs: translation ROUNDS FOLDER
+   Files for transeq are made in FOLDER. */
+#include "table_loop.h"
+#include "tools.h"
+#include "transeq.h"
+#include "trial.h"
+
+#include <stdbool.h>
+#include <stdlib.h>
+#include <string.h>
+
+/* The coding text: so long that a listing of 16,777,216 bytes has room for it and for a join of all its members. */
+enum { MEMBER = 3000, MEMBERS = 5550, RESIDUES = MEMBER * MEMBERS, LETTERS = RESIDUES / 3 };
+
+/* How fast the proved calls must be at least: beside the loop, and beside transeq. */
+static const double loop_target = 0.5;
+static const double transeq_target = 40.0;
+
+/* A coding region with what the peers need to know of it. */
+struct region {
+    const char *words;
+    struct bytes residues;
+    struct bytes location;
+    bool complemented;
+    /* The loop takes so many residues at once. */
+    size_t member;
+    /* transeq on the same residues. */
+    struct transeq *transeq;
+};
+
+/* ---- the coding text */
+
+/* Any number (splitmix64). */
+static uint64_t any_number(uint64_t *state)
+{
+    uint64_t mixed = *state += 0x9e3779b97f4a7c15;
+    mixed = (mixed ^ (mixed >> 30)) * 0xbf58476d1ce4e5b9;
+    mixed = (mixed ^ (mixed >> 27)) * 0x94d049bb133111eb;
+    return mixed ^ (mixed >> 31);
+}
+
+/* The plain codon of this number, 0 to 63. */
+static void write_codon(FILE *text, unsigned number)
+{
+    static const char bases[] = "tcag";
+    fputc(bases[number / 16], text);
+    fputc(bases[number / 4 % 4], text);
+    fputc(bases[number % 4], text);
+}
+
+static bool is_stop(unsigned codon)
+{
+    enum { TAA = 10, TAG = 11, TGA = 14 };
+    return codon == TAA || codon == TAG || codon == TGA;
+}
+
+/* Plain codons of any kind, and a stop only at the end. */
+static void write_residues(FILE *text, size_t codons)
+{
+    uint64_t state = 1;
+    for (size_t written = 1; written < codons;) {
+        const unsigned codon = any_number(&state) % 64;
+        if (!is_stop(codon)) {
+            write_codon(text, codon);
+            written++;
+        }
+    }
+    fputs("taa", text);
+}
+
+static void write_plain_codons(FILE *text, size_t count)
+{
+    for (unsigned codon = 0; codon < count; codon++) {
+        write_codon(text, codon);
+    }
+}
+
+static uint8_t complement(uint8_t base)
+{
+    switch (base) {
+    case 'a':
+        return 't';
+    case 'c':
+        return 'g';
+    case 'g':
+        return 'c';
+    default:
+        return 'a';
+    }
+}
+
+/* The other strand. */
+static struct bytes reversed(struct bytes residues)
+{
+    struct bytes other = {room_for(residues.length), residues.length};
+    for (size_t i = 0; i < residues.length; i++) {
+        other.at[i] = complement(residues.at[residues.length - 1 - i]);
+    }
+    return other;
+}
+
+/* ---- locations */
+
+static void write_range(FILE *text, size_t last)
+{
+    fprintf(text, "1..%zu", last);
+}
+
+static void write_complement(FILE *text, size_t last)
+{
+    fprintf(text, "complement(1..%zu)", last);
+}
+
+static void write_join(FILE *text, size_t last)
+{
+    fputs("join(", text);
+    for (size_t at = 0; at < last; at += MEMBER) {
+        fprintf(text, "%s%zu..%zu", at == 0 ? "" : ",", at + 1, at + MEMBER);
+    }
+    fputs(")", text);
+}
+
+/* ---- the calls: each gives the time it took, and checks the answer against the letters of all codons */
+
+static double write_proved(const struct region *region, struct bytes letters, struct bytes out)
+{
+    size_t size = 0;
+    const double start = processor_time();
+    const uint32_t number =
+        trial_translation(region->residues.at, region->residues.length, region->location.at, region->location.length,
+                          (uint32_t)region->residues.length, 1, out.at, out.length, &size);
+    const double time = processor_time() - start;
+    if (number != 0 || size != letters.length - 1 || memcmp(out.at, letters.at, size) != 0) {
+        die(region->words, "the proved translation is another");
+    }
+    return time;
+}
+
+static double compare_proved(const struct region *region, struct bytes letters, struct bytes out)
+{
+    (void)out;
+    const double start = processor_time();
+    const uint32_t right =
+        trial_is_right(region->residues.at, region->residues.length, region->location.at, region->location.length,
+                       (uint32_t)region->residues.length, 1, letters.at, letters.length - 1);
+    const double time = processor_time() - start;
+    if (right != 1) {
+        die(region->words, "the right value is refused");
+    }
+    return time;
+}
+
+static double write_loop(const struct region *region, struct bytes letters, struct bytes out)
+{
+    static const struct tables *tables;
+    if (tables == NULL) {
+        tables = table_loop_tables();
+    }
+    const double start = processor_time();
+    for (size_t at = 0; at < region->residues.length; at += region->member) {
+        if (region->complemented) {
+            table_loop_backward(tables, region->residues.at + at, region->member, out.at + at / 3);
+        } else {
+            table_loop_forward(tables, region->residues.at + at, region->member, out.at + at / 3);
+        }
+    }
+    const double time = processor_time() - start;
+    if (memcmp(out.at, letters.at, letters.length) != 0) {
+        die(region->words, "the loop's translation is another");
+    }
+    return time;
+}
+
+typedef double call(const struct region *region, struct bytes letters, struct bytes out);
+
+/* ---- measuring */
+
+static void keep_least(double *least, double time)
+{
+    *least = time < *least ? time : *least;
+}
+
+/* A proved call on a region, with its best time and the loop's. */
+struct row {
+    const char *what;
+    call *proved;
+    const struct region *region;
+    double best_proved;
+    double best_loop;
+};
+
+/* The loop and the proved call, one after the other, each with room that has no letters yet. */
+static void take_turns(struct row *row, struct bytes letters, struct bytes out)
+{
+    memset(out.at, 0, out.length);
+    keep_least(&row->best_loop, write_loop(row->region, letters, out));
+    memset(out.at, 0, out.length);
+    keep_least(&row->best_proved, row->proved(row->region, letters, out));
+}
+
+/* True if both targets are met. The start-up is that of transeq. */
+static bool tell(const struct row *row, double start_up)
+{
+    const double millions = RESIDUES / 1e6;
+    const double transeq = row->region->transeq->best - start_up;
+    const double of_loop = row->best_loop / row->best_proved;
+    const double of_transeq = transeq / row->best_proved;
+    printf("%-9s %-24s %8.0f %11.0f %7.2f %-6s %9.0f %7.1f %s\n", row->what, row->region->words,
+           millions / row->best_proved, millions / row->best_loop, of_loop, of_loop >= loop_target ? "met" : "MISSED",
+           millions / transeq, of_transeq, of_transeq >= transeq_target ? "met" : "MISSED");
+    return of_loop >= loop_target && of_transeq >= transeq_target;
+}
+
+/* The letter of one codon by the proved translation: a stop alone is dropped. */
+static uint8_t proved_letter(const uint8_t *codon)
+{
+    static const char location[] = "1..3";
+    uint8_t letter = '*';
+    size_t size = 0;
+    if (trial_translation(codon, 3, (const uint8_t *)location, strlen(location), 3, 1, &letter, 1, &size) != 0) {
+        die("a codon alone", "refused");
+    }
+    return letter;
+}
+
+/* All 64 plain codons have transeq's letters. */
+static void compare_codons(struct bytes codons, struct bytes letters)
+{
+    if (letters.length != 64 || codons.length != 3 * letters.length) {
+        die("transeq", "not 64 letters for 64 codons");
+    }
+    for (size_t i = 0; i < letters.length; i++) {
+        if (proved_letter(codons.at + 3 * i) != letters.at[i]) {
+            die("a plain codon", "transeq has another letter");
+        }
+    }
+}
+
+/* The three questions to transeq: its start-up, which is that of a short text, and the text on either strand. */
+enum { START_UP, FORWARD, BACKWARD, QUESTIONS };
+
+static void run_all(struct transeq *questions)
+{
+    for (int i = 0; i < QUESTIONS; i++) {
+        transeq_run(&questions[i]);
+    }
+}
+
+/* transeq's letters of the text, the same on either strand, with the stop at the end. */
+static struct bytes letters_of(const struct transeq *questions)
+{
+    const struct bytes letters = transeq_letters(&questions[FORWARD]);
+    const struct bytes others = transeq_letters(&questions[BACKWARD]);
+    if (letters.length != LETTERS || others.length != LETTERS || memcmp(letters.at, others.at, LETTERS) != 0) {
+        die("transeq", "not the letters of the text on either strand");
+    }
+    free(others.at);
+    return letters;
+}
+
+/* A round has a turn of each row and of transeq, so that none alone has the bad times of a machine that others use. */
+static void take_rounds(struct row *rows, size_t count, struct transeq *questions, struct bytes letters, int rounds)
+{
+    const struct bytes out = {room_for(letters.length), letters.length};
+    for (int round = 0; round < rounds; round++) {
+        run_all(questions);
+        for (size_t i = 0; i < count; i++) {
+            take_turns(&rows[i], letters, out);
+        }
+    }
+    free(out.at);
+}
+
+/* The table; true if every target is met. */
+static bool tell_all(const struct row *rows, size_t count, double start_up, int rounds)
+{
+    printf("Translation of %d residues: millions of them a second by processor time, best of %d rounds\n", RESIDUES,
+           rounds);
+    printf("The peers: the table loop in Rust, and transeq without its start-up of %.3f s. All letters are the same.\n",
+           start_up);
+    printf("%-34s %8s %11s %14s %9s %11s\n", "", "proved", "table loop", "share >= 0.5", "transeq", "times >= 40");
+    bool met = true;
+    for (size_t i = 0; i < count; i++) {
+        met = tell(&rows[i], start_up) && met;
+    }
+    return met;
+}
+
+/* Writes and compares the translation of three regions. */
+static bool measure(const char *folder, int rounds)
+{
+    const struct bytes codons = text_of(write_plain_codons, 64);
+    const struct bytes forward = text_of(write_residues, LETTERS);
+    const struct bytes backward = reversed(forward);
+    struct transeq questions[QUESTIONS] = {
+        [START_UP] = transeq_open(folder, "codons", codons, "1"),
+        [FORWARD] = transeq_open(folder, "forward", forward, "1"),
+        [BACKWARD] = transeq_open(folder, "backward", backward, "-1"),
+    };
+    struct transeq *ahead = &questions[FORWARD];
+    struct transeq *behind = &questions[BACKWARD];
+    const struct region regions[] = {
+        {"one span", forward, text_of(write_range, RESIDUES), false, RESIDUES, ahead},
+        {"one span, complemented", backward, text_of(write_complement, RESIDUES), true, RESIDUES, behind},
+        {"join of 5,550 members", forward, text_of(write_join, RESIDUES), false, MEMBER, ahead},
+    };
+    struct row rows[2 * COUNT(regions)];
+    for (size_t i = 0; i < COUNT(regions); i++) {
+        rows[i] = (struct row){"written", write_proved, &regions[i], 1e9, 1e9};
+        rows[COUNT(regions) + i] = (struct row){"compared", compare_proved, &regions[i], 1e9, 1e9};
+    }
+    run_all(questions);
+    compare_codons(codons, transeq_letters(&questions[START_UP]));
+    take_rounds(rows, COUNT(rows), questions, letters_of(questions), rounds);
+    return tell_all(rows, COUNT(rows), questions[START_UP].best, rounds);
+}
+
+int main(int argc, char **argv)
+{
+    if (argc != 3 || atoi(argv[1]) < 1) {
+        fprintf(stderr, "usage: translation ROUNDS FOLDER\n");
+        return 2;
+    }
+    return measure(argv[2], atoi(argv[1])) ? 0 : 1;
+}
