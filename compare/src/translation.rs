@@ -238,7 +238,8 @@ fn turned(text: &str) -> String {
 /// A join of members, of which some are the same as an earlier one.
 fn joined(rng: &mut Rng, mut member: impl FnMut(&mut Rng) -> String) -> String {
     let mut members = vec![member(rng)];
-    for _ in 0..rng.between(1, 9) {
+    let most = *rng.pick(&[1, 9, 9, 9, 60]);
+    for _ in 0..rng.between(1, most) {
         let next = if rng.chance(20) {
             rng.pick(&members).clone()
         } else {

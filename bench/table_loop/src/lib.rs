@@ -36,7 +36,7 @@ impl Tables {
     fn new() -> Tables {
         let mut sets = [0; 256];
         for (symbol, bases, _) in SYMBOLS {
-            sets[usize::from(symbol)] = bases.bytes().map(|base| 1 << base_number(base)).sum();
+            sets[usize::from(symbol)] = bases.bytes().map(bit).sum();
         }
         let mut turns = [0; 256];
         for (symbol, _, complement) in SYMBOLS {
@@ -60,14 +60,10 @@ impl Tables {
     }
 }
 
-/// The base's number in the order of `CODE_1`.
-fn base_number(base: u8) -> usize {
-    match base {
-        b't' => 0,
-        b'c' => 1,
-        b'a' => 2,
-        _ => 3,
-    }
+/// The bit of a base in a set, by its number in the order of `CODE_1`.
+fn bit(base: u8) -> u8 {
+    let number = b"tcag".iter().position(|&other| other == base);
+    number.map_or(0, |number| 1 << number)
 }
 
 /// The letter that all plain codons of three base sets share, else `X`.
