@@ -1,9 +1,10 @@
 // The values of texts: numbers, dates, codes, words and residues. Each test takes the raw part of the listing, and its promise speaks of
 // whichever text as read that part is written from. It relies on the paper alone, and knows no element of the listing.
 ghost use mathlib.Core.Path.{_≡_};
-ghost use Rattle.paper.specs.Values.{Number, Date, Two, isUpper, isLower};
+ghost use Rattle.paper.specs.Values.{Number, Date, Two, isUpper, isLower, isLeap, daysIn};
 ghost use Rattle.paper.specs.Rules.{Whole};
 ghost use Rattle.value.specs.Reading.{Tells, OfRead, Moltypes, Characters, SymbolTable, Symbols, Defined};
+ghost use Rattle.value.specs.Parts.{between, twoDigits, Day};
 
 // What a moltype names.
 pub enum Kind {
@@ -56,9 +57,9 @@ pub fn same(w: &[u8], x: &[u8]) -> bool
     true
 }
 
-// Whether it is the number n: "decimal digits, first not `0`, any length". No value that is kept is above n, so none wraps.
-pub fn is_number(w: &[u8], n: usize) -> bool
-    ensures { λ r. ⌜ OfRead (now (w .entry)) (Number n) r ⌝ }
+// Whether these bytes are the number n. No value that is kept is above n, so none wraps.
+fn is_decimal(w: &[u8], n: usize) -> bool
+    ensures { λ r. ⌜ Tells r (Number n (now (w .entry))) ⌝ }
 {
     if w.len() == 0 {
         return false;
@@ -89,28 +90,127 @@ pub fn is_number(w: &[u8], n: usize) -> bool
     v == n
 }
 
-fn is_digit(b: u8) -> bool {
-    if b < b'0' {
-        return false;
-    }
-    b <= b'9'
+// Whether it is the number n: "decimal digits, first not `0`, any length".
+pub fn is_number(w: &[u8], n: usize) -> bool
+    ensures { λ r. ⌜ OfRead (now (w .entry)) (Number n) r ⌝ }
+{
+    is_decimal(w, n)
 }
 
-// The value of two digits from `at` on; 0, which is no month and no day, where there are none.
-fn two_digits(w: &[u8], at: usize) -> usize {
-    0
+fn within(b: u8, low: u8, high: u8) -> bool
+    ensures { λ r. ⌜ r ≡ between low high b ⌝ }
+{
+    if b < low {
+        return false;
+    }
+    b <= high
+}
+
+// The value of two digits; 100, which is no month, no day and no half of a year, where they are none.
+fn two_digits(a: u8, b: u8) -> usize
+    ensures { λ r. ⌜ r ≡ twoDigits a b ⌝ }
+{
+    if !within(a, b'0', b'9') {
+        return 100;
+    }
+    if !within(b, b'0', b'9') {
+        return 100;
+    }
+    (a - b'0') as usize * 10 + (b - b'0') as usize
+}
+
+fn is_leap(year: usize) -> bool
+    ensures { λ r. ⌜ r ≡ isLeap year ⌝ }
+{
+    if year % 4 != 0 {
+        return false;
+    }
+    if year % 100 != 0 {
+        return true;
+    }
+    year % 400 == 0
+}
+
+fn days_in(year: usize, month: usize) -> usize
+    ensures { λ r. ⌜ r ≡ daysIn year month ⌝ }
+{
+    if month == 2 {
+        if is_leap(year) {
+            return 29;
+        }
+        return 28;
+    }
+    if month == 4 {
+        return 30;
+    }
+    if month == 6 {
+        return 30;
+    }
+    if month == 9 {
+        return 30;
+    }
+    if month == 11 {
+        return 30;
+    }
+    31
+}
+
+// Whether there is such a day.
+fn is_day(year: usize, month: usize, day: usize) -> bool
+    ensures { λ r. ⌜ Tells r (Day year month day) ⌝ }
+{
+    if year < 1 {
+        return false;
+    }
+    if month < 1 {
+        return false;
+    }
+    if 12 < month {
+        return false;
+    }
+    if day < 1 {
+        return false;
+    }
+    day <= days_in(year, month)
 }
 
 // Whether it is "a real Gregorian CCYY-MM-DD, years 0001 to 9999".
 pub fn is_date(w: &[u8]) -> bool
     ensures { λ r. ⌜ OfRead (now (w .entry)) Date r ⌝ }
 {
-    false
+    if w.len() != 10 {
+        return false;
+    }
+    if w[4] != b'-' {
+        return false;
+    }
+    if w[7] != b'-' {
+        return false;
+    }
+    let century = two_digits(w[0], w[1]);
+    if 99 < century {
+        return false;
+    }
+    let rest = two_digits(w[2], w[3]);
+    if 99 < rest {
+        return false;
+    }
+    let month = two_digits(w[5], w[6]);
+    let day = two_digits(w[8], w[9]);
+    is_day(century * 100 + rest, month, day)
 }
 
 // Whether it is two bytes from `low` to `high`.
-fn is_two(w: &[u8], low: u8, high: u8) -> bool {
-    false
+fn is_two(w: &[u8], low: u8, high: u8) -> bool
+    ensures { λ r. ⌜ Tells r (Two (between low high) (now (w .entry))) ⌝ }
+{
+    if w.len() != 2 {
+        return false;
+    }
+    if !within(w[0], low, high) {
+        return false;
+    }
+    within(w[1], low, high)
 }
 
 // "two letters A to Z"
@@ -134,13 +234,14 @@ pub fn is_whole(w: &[u8], n: usize) -> bool
     if n == 0 {
         return same(w, b"1..0");
     }
-    if w.len() < 3 {
+    let size = w.len();
+    if size < 3 {
         return false;
     }
     if !same(&w[0..3], b"1..") {
         return false;
     }
-    is_number(&w[3..w.len()], n)
+    is_decimal(&w[3..size], n)
 }
 
 // Which kind a moltype names.
