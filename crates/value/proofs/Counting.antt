@@ -9,6 +9,7 @@ use lib.Dec.{eqb}
 use borrow.Author.Tests.{eqb-true, eqb-false, eq-eqb, ne-eqb}
 use Rattle.paper.specs.Bytes.{bytes, spell, raw}
 use Rattle.paper.specs.Lists.{Count, end, has, lacks}
+use Rattle.value.specs.Reading.{Characters}
 use Rattle.value.proofs.Numbers.{suffix}
 
 -- ---- characters
@@ -50,6 +51,45 @@ pub chars-raw : (v : List ℕ) → chars false (raw v) ≡ length v
 chars-raw [] = refl
 chars-raw (b ∷ v) = one b (raw v) ∙ ap suc (chars-raw v)
 
+-- what a byte adds, and whether an entity goes on behind it
+abbrev pub more : Bool → ℕ
+more true = 0
+more false = 1
+
+abbrev pub next : Bool → ℕ → Bool
+next true b = not (eqb b 59)
+next false b = eqb b 38
+
+chars-on : (t : Bool) (b : ℕ) (w : List ℕ) → chars t (b ∷ w) ≡ more t + chars (next t b) w
+chars-on true b w = omega arith
+chars-on false b w = omega arith
+
+-- n characters start before i, and the rest from i on
+abbrev pub Left : List ℕ → ℕ → Bool → ℕ → Type 0
+Left w n t i = (n ≤ i) × (n + chars t (drop i w) ≡ chars false w)
+
+pub left-next : (w : List ℕ) (i n : ℕ) (t : Bool) → i < length w → Left w n t i → (m : ℕ) (u : Bool) → m ≡ n + more t → u ≡ next t (getD w i 0)
+    → Left w m u (i + 1)
+left-next w i n t h l m u p q =
+    let b = getD w i 0 in
+    let e : chars t (drop i w) ≡ more t + chars u (drop (i + 1) w)
+    = ap (chars t) (suffix w i h) ∙ chars-on t b (drop (i + 1) w) ∙ ap (λ (v : Bool). more t + chars v (drop (i + 1) w)) (sym q) in
+    (omega (arith, l .0, p, at-most t), omega (arith, l .1, p, e))
+  where
+    at-most : (t : Bool) → more t ≤ 1
+    at-most true = omega arith
+    at-most false = omega arith
+
+pub left-none : (w : List ℕ) (i n : ℕ) (t : Bool) → length w ≤ i → Left w n t i → n ≡ chars false w
+left-none w i n t h l = omega (arith, l .1, ap (chars t) (drop-of-length-le w h) ∙ none t)
+  where
+    none : (t : Bool) → chars t [] ≡ 0
+    none true = refl
+    none false = refl
+
+pub counted : {w : List ℕ} {n : ℕ} → n ≡ chars false w → Characters w n
+counted e = record { says = λ v q. e ∙ ap (chars false) q ∙ chars-raw v }
+
 -- ---- bytes other than u
 
 abbrev pub others : ℕ → List ℕ → ℕ
@@ -64,3 +104,13 @@ count-others u (b ∷ w) = go (eqb b u) refl (count-others u w)
         → Count (λ (b : ℕ). ¬ (b ≡ u)) (b ∷ w) (cond t (others u w) (suc (others u w)))
     go true e r = lacks (λ n. n (eqb-true b u e)) r
     go false e r = has (eqb-false b u e) r
+
+module _ (u : ℕ) (w : List ℕ) (i : ℕ) where
+  pub others-lack : i < length w → getD w i 0 ≡ u → others u (drop i w) ≡ others u (drop (i + 1) w)
+  others-lack h e = rw (suffix w i h, eq-eqb (getD w i 0) u e)
+
+  pub others-have : i < length w → ¬ (getD w i 0 ≡ u) → others u (drop i w) ≡ suc (others u (drop (i + 1) w))
+  others-have h e = rw (suffix w i h, ne-eqb (getD w i 0) u e)
+
+  pub others-none : length w ≤ i → others u (drop i w) ≡ 0
+  others-none h = ap (others u) (drop-of-length-le w h)

@@ -11,13 +11,20 @@ use Rattle.paper.specs.Bytes.{bytes, all, raw}
 use Rattle.paper.specs.Values.{isDigit, valueOf, isLeap, daysIn, Digits, Date}
 use Rattle.paper.proofs.Decimal.{digit-bounds}
 use Rattle.value.specs.Parts.{twoDigits, Day}
-use Rattle.value.proofs.Read.{raw-plain, raw-both}
+use Rattle.value.specs.Reading.{Tells, OfRead}
+use Rattle.value.proofs.Read.{raw-plain, raw-both, tells-read}
 use Rattle.value.proofs.Tests.{spread}
 
 -- ---- two digits
 
 pub two-value : (a b : ℕ) → isDigit a ≡ true → isDigit b ≡ true → twoDigits a b ≡ (a - code "0") * 10 + (b - code "0")
 two-value a b p q = rw (p, q)
+
+pub first-none : (a b : ℕ) → isDigit a ≡ false → 100 ≡ twoDigits a b
+first-none a b p = rw p
+
+pub second-none : (a b : ℕ) → isDigit a ≡ true → isDigit b ≡ false → 100 ≡ twoDigits a b
+second-none a b p q = rw (p, q)
 
 -- below 100 both are digits
 pub two-below : (a b : ℕ) → twoDigits a b ≤ 99 → (isDigit a ≡ true) × (isDigit b ≡ true)
@@ -124,3 +131,20 @@ raw-date v x =
     let month = raw-both (x .month) (bytes "-" ++ x .day) (digits (x .month) (x .month-digits .1)) day in
     let rest = raw-both (bytes "-") (x .month ++ (bytes "-" ++ x .day)) refl month in
     ap raw (x .is) ∙ raw-both (x .year) _ (digits (x .year) (x .year-digits .1)) rest ∙ sym (x .is)
+
+-- ---- a test of the bytes
+
+pub no-date : {w : List ℕ} → ¬ Dated w → OfRead w Date false
+no-date n = tells-read Date raw-date false (λ x. n (date-dated x))
+
+module _ {w : List ℕ} (a b m d : ℕ)
+    (p : a ≡ twoDigits (getD w 0 0) (getD w 1 0))
+    (q : b ≡ twoDigits (getD w 2 0) (getD w 3 0))
+    (y : m ≡ twoDigits (getD w 5 0) (getD w 6 0))
+    (z : d ≡ twoDigits (getD w 8 0) (getD w 9 0)) where
+  pub a-date : length w ≡ 10 → getD w 4 0 ≡ code "-" → getD w 7 0 ≡ code "-" → a ≤ 99 → b ≤ 99
+      → (r : Bool) → Tells r (Day (a * 100 + b) m d) → OfRead w Date r
+  a-date s h k f g true t =
+      tells-read Date raw-date true
+      (dated-date (record { size = s; dash = h; dash-two = k; century = omega arith; rest = omega arith; real = rw (p, q, y, z) at t }))
+  a-date s h k f g false t = no-date (λ x. t (rw (p, q, y, z) (x .real)))

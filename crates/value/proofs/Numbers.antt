@@ -6,8 +6,8 @@ use native.Mathlib.Omega.{arith}
 use mathlib.Core.Path.{_≡_, refl, sym, ap, _∙_, subst}
 use mathlib.Core.Bool.{Bool, true, false}
 use mathlib.Core.List.{List, [], _∷_, _++_}
-use lib.ListN.{length, take, drop, getD, drop-of-length-le, take-append-drop}
-use lib.Seq.{drop-cons}
+use lib.ListN.{length, take, drop, getD, drop-of-length-le, take-append-drop, length-drop}
+use lib.Seq.{drop-cons, take-all}
 use Rattle.paper.specs.Bytes.{bytes, all, raw}
 use Rattle.paper.specs.Values.{isDigit, valueFrom, Leads, Number, decimal}
 use Rattle.paper.specs.Rules.{Whole}
@@ -92,6 +92,9 @@ module _ (w : List ℕ) (n : ℕ) where
   pub whole-front : ¬ (take 3 w ≡ bytes "1..") → ¬ Whole n w
   whole-front h e = h (ap (take 3) e)
 
-  pub whole-rest : 1 ≤ n → take 3 w ≡ bytes "1.." → (r : Bool) → Tells r (Number n (drop 3 w)) → Tells r (Whole n w)
-  whole-rest p h true x = sym (take-append-drop 3 w) ∙ (λ i. h i ++ number-decimal x i)
-  whole-rest p h false x = λ e. x (subst (Number n) (sym (ap (drop 3) e)) (decimal-number n p))
+  pub whole-rest : 1 ≤ n → take 3 w ≡ bytes "1.." → (r : Bool) → Tells r (Number n (take (length w - 3) (drop 3 w))) → Tells r (Whole n w)
+  whole-rest p h r x = go r (subst (λ (u : List ℕ). Tells r (Number n u)) (take-all (length w - 3) (drop 3 w) (omega (arith, length-drop 3 w))) x)
+    where
+      go : (r : Bool) → Tells r (Number n (drop 3 w)) → Tells r (Whole n w)
+      go true x = sym (take-append-drop 3 w) ∙ (λ i. h i ++ number-decimal x i)
+      go false x = λ e. x (subst (Number n) (sym (ap (drop 3) e)) (decimal-number n p))

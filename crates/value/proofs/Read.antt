@@ -8,8 +8,11 @@ use lib.ListN.{getD}
 use lib.Dec.{eqb}
 use borrow.Author.Tests.{ne-eqb}
 use Rattle.paper.specs.Bytes.{bytes, spell, raw, all}
+use Rattle.paper.specs.Values.{Two}
+use Rattle.paper.specs.Rules.{dna, rna, aa, kindName}
+use Rattle.paper.specs.Rules as Rules
 use Rattle.paper.proofs.Texts.{raw-once}
-use Rattle.value.specs.Reading.{Tells, OfRead}
+use Rattle.value.specs.Reading.{Tells, OfRead, Names}
 
 -- a class has none of the five characters that are spelled
 abbrev pub Plain : (ℕ → Bool) → Type 0
@@ -46,3 +49,26 @@ tells-read K itself {w} false n = record { says = λ v e k. n (subst K (sym (e �
 -- the same for a word
 pub tells-word : (x : List ℕ) → raw x ≡ x → {w : List ℕ} (r : Bool) → Tells r (w ≡ x) → OfRead w (λ (v : List ℕ). v ≡ x) r
 tells-word x p r t = tells-read (λ (v : List ℕ). v ≡ x) (λ v e. ap raw e ∙ p ∙ sym e) r t
+
+-- and for two letters of a class
+pub tells-two : (f : ℕ → Bool) → Plain f → {w : List ℕ} (r : Bool) → Tells r (Two f w) → OfRead w (Two f) r
+tells-two f plain r t = tells-read (Two f) (λ v x. raw-plain f plain v (x .1)) r t
+
+-- ---- the kinds
+
+names : (k : Rules.Kind) {w : List ℕ} (r : Bool) → Tells r (w ≡ bytes (kindName k)) → OfRead w (λ (v : List ℕ). Names v k) r
+names k r t = tells-word (bytes (kindName k)) (itself k) r t
+  where
+    itself : (k : Rules.Kind) → raw (bytes (kindName k)) ≡ bytes (kindName k)
+    itself dna = refl
+    itself rna = refl
+    itself aa = refl
+
+pub named : (k : Rules.Kind) {w : List ℕ} → w ≡ bytes (kindName k) → (v : List ℕ) → w ≡ raw v → Names v k
+named k e = names k true e .says
+
+pub unnamed : {w : List ℕ} → ¬ (w ≡ bytes "DNA") → ¬ (w ≡ bytes "RNA") → ¬ (w ≡ bytes "AA") → (v : List ℕ) → w ≡ raw v
+    → (k : Rules.Kind) → ¬ Names v k
+unnamed d r a v e dna = names dna false d .says v e
+unnamed d r a v e rna = names rna false r .says v e
+unnamed d r a v e aa = names aa false a .says v e

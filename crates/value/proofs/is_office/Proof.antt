@@ -1,3 +1,6 @@
+use Rattle.value.proofs.Read.{tells-two}
+use Rattle.paper.specs.Values.{isUpper}
+use mathlib.Core.Path.{refl}
 use borrow.Author.Needs.{needs}
 use Rattle.value.proofs.is_office.Statement.{statement}
 use Rattle.value.proofs.is_office.Tie as tie
@@ -11,7 +14,6 @@ is-two-requires c κs = search needs
 
 -- src/lib.rt:217:1
 returns : tie.Need-returns
-returns c = search needs
-
+returns c = tells-two isUpper refl (c .is-two .result) (c .is-two .ensures)
 pub is-office-spec : {M : Type 1} → statement M
 is-office-spec = tie.close (tie.spec is-two-requires returns)
