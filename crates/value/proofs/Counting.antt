@@ -7,7 +7,7 @@ use mathlib.Core.List.{List, [], _∷_, _++_}
 use lib.ListN.{length, drop, getD, drop-of-length-le}
 use lib.Dec.{eqb}
 use borrow.Author.Tests.{eqb-true, eqb-false, eq-eqb, ne-eqb}
-use Rattle.paper.specs.Bytes.{bytes, spell, raw}
+use Rattle.paper.specs.Bytes.{spell, raw}
 use Rattle.paper.specs.Lists.{Count, end, has, lacks}
 use Rattle.value.specs.Reading.{Characters}
 use Rattle.value.proofs.Numbers.{suffix}

@@ -1,5 +1,5 @@
 -- Decimal digits, read from the front.
-use Prim.Native.Nat.{ℕ, zero, suc, _+_, _*_, _-_, _≤_, _<_}
+use Prim.Native.Nat.{ℕ, _+_, _-_, _≤_, _<_}
 use Prim.Native.Char.{code}
 use native.Mathlib.Numerals.{add-one}
 use native.Mathlib.Omega.{arith}

@@ -1,6 +1,5 @@
 -- From a test on raw bytes to whichever text they are written from: the values that the rules take are written as they read.
 use Prim.Native.Nat.{ℕ}
-use Prim.Native.Char.{code}
 use mathlib.Core.Path.{_≡_, refl, sym, ap, _∙_, subst}
 use mathlib.Core.Bool.{Bool, true, false, true≢false}
 use mathlib.Core.List.{List, [], _∷_, _++_, append-assoc, map}

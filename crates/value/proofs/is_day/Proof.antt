@@ -1,33 +1,29 @@
-use Rattle.value.proofs.Tests.{tells}
-use borrow.Author.Tests.{leb-true, leb-false}
-use lib.Dec.{leb}
+-- `value::is_day` meets its contract: each refusal is a bound that does not hold.
 use Prim.Native.Nat.{ℕ, _≤_}
-use mathlib.Core.Path.{subst}
 use native.Mathlib.Omega.{arith}
+use mathlib.Core.Path.{subst}
+use lib.Dec.{leb}
+use borrow.Author.Tests.{leb-true, leb-false}
+use Rattle.value.proofs.Tests.{tells}
 use borrow.Author.Needs.{needs}
 use Rattle.value.proofs.is_day.Statement.{statement}
 use Rattle.value.proofs.is_day.Tie as tie
-use Rattle.value.proofs.is_day.Reads as reads
-use Rattle.value.proofs.is_day.Lts as lts
-use Rattle.value.proofs.days_in.Reads as days-in-reads
 
--- src/lib.rt:163:9
 returns : tie.Need-returns
 returns c = λ x. omega (arith, x .year-real)
--- src/lib.rt:166:9
+
 returns-2 : tie.Need-returns-2
 returns-2 c = λ x. omega (arith, x .month-real)
--- src/lib.rt:169:9
+
 returns-3 : tie.Need-returns-3
 returns-3 c = λ x. omega (arith, x .month-real)
--- src/lib.rt:172:9
+
 returns-4 : tie.Need-returns-4
 returns-4 c = λ x. omega (arith, x .day-real)
--- src/lib.rt:174:12
+
 days-in-requires : tie.Need-days-in-requires
 days-in-requires c κs = search needs
 
--- src/lib.rt:159:1
 returns-5 : tie.Need-returns-5
 returns-5 c = let days = c .days-in .result in
     let day = c .before .before .before .before .before .args .day in
@@ -38,5 +34,6 @@ returns-5 c = let days = c .days-in .result in
       day-real = (omega arith, subst (λ (n : ℕ). day ≤ n) (c .days-in .ensures) (leb-true day days e));
     })
     (λ e x. omega (arith, x .day-real .1, leb-false day days e, c .days-in .ensures))
+
 pub is-day-spec : {M : Type 1} → statement M
 is-day-spec = tie.close (tie.spec returns returns-2 returns-3 returns-4 days-in-requires returns-5)
