@@ -32,7 +32,8 @@ loop-less : tie.Need-loop-less Inv-loop μ-loop
 loop-less c = omega arith
 
 loop-again : tie.Need-loop-again Inv-loop μ-loop
-loop-again c = let l = c .before .before .before .loop in
+loop-again c =
+    let l = c .before .before .before .loop in
     let w = c .before .before .before .before .args .w .now in
     let next = left-next w (l .i) (l .n) (l .inside) (omega arith) (l .inv .1) (c .if1 .n) (c .if1 .inside) in
     let b = getD w (l .i) 0 in (

@@ -32,14 +32,16 @@ loop-less : tie.Need-loop-less Inv-loop μ-loop
 loop-less c = omega arith
 
 loop-again : tie.Need-loop-again Inv-loop μ-loop
-loop-again c = let l = c .before .before .before .loop in
+loop-again c =
+    let l = c .before .before .before .loop in
     let u = c .before .before .before .before .args .undefined in
     let w = c .before .before .before .before .args .w .now in
     ⊎-elim (λ x. (omega arith, omega arith, omega (arith, others-have u w (l .i) (omega arith) (x .0 .taken))))
     (λ x. (omega arith, omega arith, omega (arith, others-lack u w (l .i) (omega arith) (x .0 .left)))) (c .if1 .came)
 
 returns : tie.Need-returns Inv-loop μ-loop
-returns c = let l = c .before .loop in
+returns c =
+    let l = c .before .loop in
     let u = c .before .before .args .undefined in
     let w = c .before .before .args .w .now in
     let e : others u w ≡ l .n = omega (arith, l .inv .2, others-none u w (l .i) (omega arith)) in

@@ -72,15 +72,17 @@ is-day-requires : tie.Need-is-day-requires
 is-day-requires c κs = search needs
 
 returns-6 : tie.Need-returns-6
-returns-6 c = let a = c .before .before .before .before .before .before .before .before .before .before .before .before .two-digits in
+returns-6 c =
+    let three = c .before .before .before .before .before .before .before .before .before .before .before .before .before .before .before in
+    let two = three .before .before in
+    let one = two .before .before in
+    let a = c .before .before .before .before .before .before .before .before .before .before .before .before .two-digits in
     let b = c .before .before .before .before .before .before .before .before .two-digits2 in
     let m = c .before .before .before .before .two-digits3 in
     let d = c .before .two-digits4 in
     let x = c .is-day in
     a-date (a .result) (b .result) (m .result) (d .result) (a .ensures) (b .ensures) (m .ensures) (d .ensures)
-    (c .before .before .before .before .before .before .before .before .before .before .before .before .before .before .before .before .before .before .before .if1 .left)
-    (c .before .before .before .before .before .before .before .before .before .before .before .before .before .before .before .before .before .if2 .left)
-    (c .before .before .before .before .before .before .before .before .before .before .before .before .before .before .before .if3 .left) (omega arith) (omega arith) (x .result) (x .ensures)
+    (one .if1 .left) (two .if2 .left) (three .if3 .left) (omega arith) (omega arith) (x .result) (x .ensures)
 
 pub is-date-spec : {M : Type 1} → statement M
 is-date-spec =

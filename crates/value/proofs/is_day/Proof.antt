@@ -25,7 +25,8 @@ days-in-requires : tie.Need-days-in-requires
 days-in-requires c κs = search needs
 
 returns-5 : tie.Need-returns-5
-returns-5 c = let days = c .days-in .result in
+returns-5 c =
+    let days = c .days-in .result in
     let day = c .before .before .before .before .before .args .day in
     tells (leb day days)
     (λ e. record {

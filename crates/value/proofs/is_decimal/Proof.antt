@@ -1,4 +1,5 @@
--- `value::is_decimal` meets its contract. The loop's invariant: the digits passed have the value `v`, so that there is a number of the value `n` exactly where the rest makes one.
+-- `value::is_decimal` meets its contract. The loop's invariant: the digits passed have the value `v`, and the bytes are the number `n` exactly where
+-- the rest makes it one. The measure is what is left of the length.
 use Prim.Native.Nat.{_-_, _≤_}
 use native.Mathlib.Omega.{arith}
 use lib.ListN.{length}
@@ -26,23 +27,28 @@ returns-2 : tie.Need-returns-2 Inv-loop μ-loop
 returns-2 c = let a = c .before .before .before .args in not-zero (a .w .now) (a .n) (c .if2 .taken)
 
 loop-holds : tie.Need-loop-holds Inv-loop μ-loop
-loop-holds c = let a = c .before .before .before .args in (omega arith, omega arith, begin (a .w .now) (a .n) (c .before .before .if1 .left) (c .if2 .left))
+loop-holds c =
+    let a = c .before .before .before .args in
+    (omega arith, omega arith, begin (a .w .now) (a .n) (c .before .before .if1 .left) (c .if2 .left))
 
 shared-slice-read-b : tie.Need-shared-slice-read-b Inv-loop μ-loop
 shared-slice-read-b c = search needs
 
 returns-3 : tie.Need-returns-3 Inv-loop μ-loop
-returns-3 c = let a = c .before .before .before .before .before .before .before .args in
+returns-3 c =
+    let a = c .before .before .before .before .before .before .before .args in
     let l = c .before .before .before .loop in
     λ x. let d = digit (a .w .now) (a .n) (l .i) (l .v) (l .inv .2) (omega arith) x in omega arith
 
 returns-4 : tie.Need-returns-4 Inv-loop μ-loop
-returns-4 c = let a = c .before .before .before .before .before .before .before .before .args in
+returns-4 c =
+    let a = c .before .before .before .before .before .before .before .before .args in
     let l = c .before .before .before .before .loop in
     λ x. let d = digit (a .w .now) (a .n) (l .i) (l .v) (l .inv .2) (omega arith) x in omega arith
 
 returns-5 : tie.Need-returns-5 Inv-loop μ-loop
-returns-5 c = let a = c .before .before .before .before .before .before .before .before .before .args in
+returns-5 c =
+    let a = c .before .before .before .before .before .before .before .before .before .args in
     let l = c .before .before .before .before .before .loop in
     λ x. let d = digit (a .w .now) (a .n) (l .i) (l .v) (l .inv .2) (omega arith) x in omega arith
 
@@ -56,7 +62,8 @@ sub-if6 : tie.Need-sub-if6 Inv-loop μ-loop
 sub-if6 c = search needs
 
 returns-6 : tie.Need-returns-6 Inv-loop μ-loop
-returns-6 c = let a = c .before .before .before .before .before .before .before .before .before .before .args in
+returns-6 c =
+    let a = c .before .before .before .before .before .before .before .before .before .before .args in
     let l = c .before .before .before .before .before .before .loop in
     λ x. let d = digit (a .w .now) (a .n) (l .i) (l .v) (l .inv .2) (omega arith) x in omega arith
 
@@ -73,12 +80,14 @@ loop-less : tie.Need-loop-less Inv-loop μ-loop
 loop-less c = omega arith
 
 loop-again : tie.Need-loop-again Inv-loop μ-loop
-loop-again c = let a = c .before .before .before .before .before .before .before .before .before .before .args in
+loop-again c =
+    let a = c .before .before .before .before .before .before .before .before .before .before .args in
     let l = c .before .before .before .before .before .before .loop in
     (omega arith, omega arith, next (a .w .now) (a .n) (l .i) (l .v) (l .inv .2) (omega arith) (omega arith) (omega arith))
 
 returns-7 : tie.Need-returns-7 Inv-loop μ-loop
-returns-7 c = let a = c .before .before .before .before .before .args in
+returns-7 c =
+    let a = c .before .before .before .before .before .args in
     let l = c .before .loop in
     tells (eqb (l .v) (a .n))
     (λ e. all-read (a .w .now) (a .n) (l .i) (l .v) (l .inv .2) (omega arith) (eqb-true (l .v) (a .n) e))

@@ -18,7 +18,8 @@ within-requires : tie.Need-within-requires
 within-requires c κs = search needs
 
 returns-2 : tie.Need-returns-2
-returns-2 c = let a = c .before .before .before .before .before .args in
+returns-2 c =
+    let a = c .before .before .before .before .before .args in
     let x = c .before .within in
     two-not (between (a .low) (a .high)) (a .w .now) 0 (omega arith) (sym (x .ensures) ∙ not-true (x .result) (c .if2 .taken))
 
@@ -29,7 +30,8 @@ within-requires-2 : tie.Need-within-requires-2
 within-requires-2 c κs = search needs
 
 returns-3 : tie.Need-returns-3
-returns-3 c = let a = c .before .before .before .before .before .before .before .args in
+returns-3 c =
+    let a = c .before .before .before .before .before .before .before .args in
     let x = c .before .before .before .within in
     let y = c .within2 in
     two-is (between (a .low) (a .high)) (a .w .now) (c .before .before .before .before .before .if1 .left)

@@ -21,12 +21,14 @@ same-requires : tie.Need-same-requires
 same-requires c κs = search needs
 
 returns : tie.Need-returns
-returns c = let x = c .same in
+returns c =
+    let x = c .same in
     subst (λ (n : ℕ). OfRead (c .before .before .before .before .args .w .now) (Whole n) (x .result)) (sym (c .before .before .if1 .taken))
     (tells-word (bytes "1..0") refl (x .result) (x .ensures))
 
 returns-2 : tie.Need-returns-2
-returns-2 c = let a = c .before .before .before .args in
+returns-2 c =
+    let a = c .before .before .before .args in
     tells-read (Whole (a .n)) (raw-whole (a .n) (omega arith)) false (whole-short (a .w .now) (a .n) (c .if2 .taken))
 
 sub-same : tie.Need-sub-same
@@ -45,7 +47,8 @@ same-requires-2 : tie.Need-same-requires-2
 same-requires-2 c κs = search needs
 
 returns-3 : tie.Need-returns-3
-returns-3 c = let a = c .before .before .before .before .before .before .before .args in
+returns-3 c =
+    let a = c .before .before .before .before .before .before .before .args in
     let x = c .before .same2 in
     tells-read (Whole (a .n)) (raw-whole (a .n) (omega arith)) false
     (whole-front (a .w .now) (a .n) (tells-false (x .result) (not-true (x .result) (c .if3 .taken)) (x .ensures)))
@@ -60,11 +63,13 @@ is-decimal-requires : tie.Need-is-decimal-requires
 is-decimal-requires c κs = search needs
 
 returns-4 : tie.Need-returns-4
-returns-4 c = let a = c .before .before .before .before .before .before .before .before .before .args in
+returns-4 c =
+    let a = c .before .before .before .before .before .before .before .before .before .args in
     let x = c .before .before .before .same2 in
     let y = c .is-decimal in
     tells-read (Whole (a .n)) (raw-whole (a .n) (omega arith)) (y .result)
-    (whole-rest (a .w .now) (a .n) (omega arith) (tells-true (x .result) (not-false (x .result) (c .before .before .if3 .left)) (x .ensures)) (y .result) (y .ensures))
+    (whole-rest (a .w .now) (a .n) (omega arith)
+    (tells-true (x .result) (not-false (x .result) (c .before .before .if3 .left)) (x .ensures)) (y .result) (y .ensures))
 
 pub is-whole-spec : {M : Type 1} → statement M
 is-whole-spec =

@@ -34,11 +34,13 @@ returns-3 : tie.Need-returns-3
 returns-3 c = let z = c .before .same3 in record { says = named aa (tells-true (z .result) (c .if3 .taken) (z .ensures)) }
 
 returns-4 : tie.Need-returns-4
-returns-4 c = let x = c .before .before .before .before .before .before .before .same in
+returns-4 c =
+    let x = c .before .before .before .before .before .before .before .same in
     let y = c .before .before .before .before .same2 in
     let z = c .before .same3 in
     record {
-      says = unnamed (tells-false (x .result) (c .before .before .before .before .before .before .if1 .left) (x .ensures)) (tells-false (y .result) (c .before .before .before .if2 .left) (y .ensures))
+      says = unnamed (tells-false (x .result) (c .before .before .before .before .before .before .if1 .left) (x .ensures))
+          (tells-false (y .result) (c .before .before .before .if2 .left) (y .ensures))
           (tells-false (z .result) (c .if3 .left) (z .ensures));
     }
 

@@ -26,7 +26,8 @@ element-copy-out-if1 : tie.Need-element-copy-out-if1 Inv-loop μ-loop
 element-copy-out-if1 c = omega (arith, c .shared-slice-known .given (c .before .before .loop .i))
 
 returns : tie.Need-returns Inv-loop μ-loop
-returns c = let a = c .before .before .before .before .before .args in
+returns c =
+    let a = c .before .before .before .before .before .args in
     let l = c .before .before .before .before .loop in
     stopped (a .w .now) (a .class) (l .i) (omega arith) (a .t .now) (c .before .before .before .before .before .pre)
     (omega (arith, c .before .before .shared-slice-known .given (l .i))) (l .inv .1) (c .if1 .taken)
@@ -38,7 +39,8 @@ loop-less : tie.Need-loop-less Inv-loop μ-loop
 loop-less c = omega arith
 
 loop-again : tie.Need-loop-again Inv-loop μ-loop
-loop-again c = let a = c .before .before .before .before .before .args in
+loop-again c =
+    let a = c .before .before .before .before .before .args in
     let l = c .before .before .before .before .loop in (
       omega arith,
       passed-next (a .w .now) (a .class) (l .i) (omega arith) (a .t .now) (c .before .before .before .before .before .pre)

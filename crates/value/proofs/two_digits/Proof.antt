@@ -12,20 +12,24 @@ within-requires : tie.Need-within-requires
 within-requires c κs = search needs
 
 returns : tie.Need-returns
-returns c = let x = c .before .within in
+returns c =
+    let x = c .before .within in
     first-none (c .before .before .args .a) (c .before .before .args .b) (sym (x .ensures) ∙ not-true (x .result) (c .if1 .taken))
 
 within-requires-2 : tie.Need-within-requires-2
 within-requires-2 c κs = search needs
 
 returns-2 : tie.Need-returns-2
-returns-2 c = let x = c .before .before .before .within in
+returns-2 c =
+    let x = c .before .before .before .within in
     let y = c .before .within2 in
-    second-none (c .before .before .before .before .args .a) (c .before .before .before .before .args .b) (sym (x .ensures) ∙ not-false (x .result) (c .before .before .if1 .left))
+    let r = c .before .before .before .before .args in
+    second-none (r .a) (r .b) (sym (x .ensures) ∙ not-false (x .result) (c .before .before .if1 .left))
     (sym (y .ensures) ∙ not-true (y .result) (c .if2 .taken))
 
 sub-result : tie.Need-sub-result
-sub-result c = let x = c .before .before .before .within in
+sub-result c =
+    let x = c .before .before .before .within in
     omega (arith, digit-bounds (c .before .before .before .before .args .a) (sym (x .ensures) ∙ not-false (x .result) (c .before .before .if1 .left)))
 
 cast-result : tie.Need-cast-result
@@ -35,7 +39,8 @@ mul-result : tie.Need-mul-result
 mul-result c = search needs
 
 sub-result-2 : tie.Need-sub-result-2
-sub-result-2 c = let y = c .before .within2 in
+sub-result-2 c =
+    let y = c .before .within2 in
     omega (arith, digit-bounds (c .before .before .before .before .args .b) (sym (y .ensures) ∙ not-false (y .result) (c .if2 .left)))
 
 cast-result-2 : tie.Need-cast-result-2
@@ -45,9 +50,11 @@ add-result : tie.Need-add-result
 add-result c = search needs
 
 returns-3 : tie.Need-returns-3
-returns-3 c = let x = c .before .before .before .within in
+returns-3 c =
+    let x = c .before .before .before .within in
     let y = c .before .within2 in
-    sym (two-value (c .before .before .before .before .args .a) (c .before .before .before .before .args .b) (sym (x .ensures) ∙ not-false (x .result) (c .before .before .if1 .left))
+    let r = c .before .before .before .before .args in
+    sym (two-value (r .a) (r .b) (sym (x .ensures) ∙ not-false (x .result) (c .before .before .if1 .left))
     (sym (y .ensures) ∙ not-false (y .result) (c .if2 .left)))
 
 pub two-digits-spec : {M : Type 1} → statement M
