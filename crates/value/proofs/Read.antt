@@ -2,7 +2,7 @@
 use Prim.Native.Nat.{ℕ}
 use mathlib.Core.Path.{_≡_, refl, sym, ap, _∙_, subst}
 use mathlib.Core.Bool.{Bool, true, false, true≢false}
-use mathlib.Core.List.{List, [], _∷_, _++_, append-assoc, map}
+use mathlib.Core.List.{List, [], _∷_, _++_, map}
 use lib.ListN.{getD}
 use lib.Dec.{eqb}
 use borrow.Author.Tests.{ne-eqb}
@@ -10,7 +10,7 @@ use Rattle.paper.specs.Bytes.{bytes, spell, raw, all}
 use Rattle.paper.specs.Values.{Two}
 use Rattle.paper.specs.Rules.{dna, rna, aa, kindName}
 use Rattle.paper.specs.Rules as Rules
-use Rattle.paper.proofs.Texts.{raw-once}
+use Rattle.paper.proofs.Texts.{raw-once, raw-append}
 use Rattle.value.specs.Reading.{Tells, OfRead, Names}
 
 -- a class has none of the five characters that are spelled
@@ -31,10 +31,6 @@ module _ (f : ℕ → Bool) (plain : Plain f) where
   pub raw-plain : (v : List ℕ) → all f v → raw v ≡ v
   raw-plain [] a = refl
   raw-plain (b ∷ v) a = λ i. spell-plain b (a .0) i ++ raw-plain v (a .1) i
-
-raw-append : (u z : List ℕ) → raw (u ++ z) ≡ raw u ++ raw z
-raw-append [] z = refl
-raw-append (b ∷ u) z = ap (λ (l : List ℕ). spell b ++ l) (raw-append u z) ∙ sym (append-assoc (spell b) (raw u) (raw z))
 
 -- two texts that are written as they read, one after the other
 pub raw-both : (u z : List ℕ) → raw u ≡ u → raw z ≡ z → raw (u ++ z) ≡ u ++ z
