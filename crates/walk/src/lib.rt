@@ -1,11 +1,14 @@
-// A walk along a listing that is known to be laid out: where each text stands, and what comes next.
-// Relies on the steps of the crate scan and on what they promise; so a text that stands is found by reading it again.
+// A walk along a listing that is known to be laid out: where each text stands, and what comes next. What is known to stand is passed by its
+// length and not compared again. A promise speaks of whatever item of the tree stands at the place; of other bytes it says nothing.
+// Relies on the paper, and in its proofs on the scan's laws of what may follow what.
 use scan::Step;
+ghost use mathlib.Core.Path.{_≡_};
+ghost use lib.ListN.{length, getD};
 ghost use Rattle.paper.specs.Bytes.{isBlank};
 ghost use Rattle.paper.specs.Layout as Form;
 ghost use Rattle.scan.specs.Follow.{Not, anything};
-ghost use Rattle.scan.specs.Texts.{ClassTable, allowedIn};
-ghost use Rattle.walk.specs.Stands.{Finds, FindsMaybe, FindsQualifier, Opens, Reached};
+ghost use Rattle.scan.specs.Texts.{allowedIn, Scanned};
+ghost use Rattle.walk.specs.Stands.{Past, There, others, Ends, Finds};
 
 // A text of the listing, from its first byte to the one behind its last.
 pub struct Part {
@@ -19,117 +22,109 @@ pub struct Found {
     pub next: usize,
 }
 
-// A text that may be missing.
-pub enum Maybe {
-    Absent,
-    Present(Part),
-}
-
-pub struct FoundMaybe {
-    pub part: Maybe,
-    pub next: usize,
-}
-
-// Where a step ends. Where something stands the step doesn't fail, so no promise speaks of a failure.
-pub fn place(st: Step) -> usize
-    ensures { λ r. ⌜ Reached st r ⌝ }
+// The byte at a place.
+fn peek(s: &[u8], at: usize) -> u8
+    ensures { λ r. ⌜ r ≡ getD (now (s .entry)) at 0 ⌝ }
 {
-    match st {
-        Step::Ok { next, far: _ } => next,
-        Step::Fail(k) => k,
+    if at < s.len() { s[at] } else { 0 }
+}
+
+// The place n bytes further.
+fn past(s: &[u8], at: usize, n: usize) -> usize
+    ensures { λ r. ⌜ Past (now (s .entry)) at n r ⌝ }
+{
+    if s.len() < at {
+        return at;
     }
-}
-
-// The text between the rest of a start tag and the end tag. `start` is where the element starts.
-pub fn content(s: &[u8], at: usize, start: usize, name: &[u8], high: bool, t: &[u8; 256]) -> Found
-    requires { ⌜ ClassTable (now t) ⌝ }
-    ensures { λ r. ⌜ Finds (Form.content (now (name .entry)) (allowedIn high) start) anything (now (s .entry)) at r ⌝ }
-{
-    let h = place(scan::blanks(s, Step::Ok { next: at, far: at }));
-    match scan::lit(s, Step::Ok { next: h, far: h }, b"/>") {
-        Step::Ok { next: n, far: _ } => Found {
-            part: Part {
-                from: start,
-                to: start,
-            },
-            next: n,
-        },
-        Step::Fail(_) => {
-            let b = place(scan::lit(s, Step::Ok { next: h, far: h }, b">"));
-            let e = place(scan::text(s, b, b, high, t));
-            let n = place(scan::close(s, Step::Ok { next: e, far: e }, name));
-            Found {
-                part: Part { from: b, to: e },
-                next: n,
-            }
-        }
+    if s.len() - at < n {
+        return at;
     }
+    at + n
 }
 
-// A leaf and the blanks after it.
-pub fn leaf(s: &[u8], at: usize, name: &[u8], t: &[u8; 256]) -> Found
-    requires { ⌜ ClassTable (now t) ⌝ }
-    ensures { λ r. ⌜ Finds (Form.child (Form.leaf (now (name .entry)))) (Not isBlank) (now (s .entry)) at r ⌝ }
+// Whether the bytes x stand here.
+pub fn there(s: &[u8], at: usize, x: &[u8]) -> bool
+    ensures { λ r. ⌜ There (now (x .entry)) (now (s .entry)) at r ⌝ }
 {
-    let b = place(scan::tag(s, Step::Ok { next: at, far: at }, name));
-    let Found { part, next: e } = content(s, b, at, name, false, t);
-    let n = place(scan::blanks(s, Step::Ok { next: e, far: e }));
-    Found { part, next: n }
-}
-
-// Whether an element whose name starts so starts here.
-pub fn opens(s: &[u8], at: usize, name: &[u8]) -> bool
-    ensures { λ r. ⌜ Opens (now (name .entry)) (now (s .entry)) at r ⌝ }
-{
-    match scan::tag(s, Step::Ok { next: at, far: at }, name) {
+    match scan::lit(s, Step::Ok { next: at, far: at }, x) {
         Step::Ok { next: _, far: _ } => true,
         Step::Fail(_) => false,
     }
 }
 
-// A leaf that may be missing, and the blanks after it.
-pub fn leaf_maybe(s: &[u8], at: usize, name: &[u8], t: &[u8; 256]) -> FoundMaybe
-    requires { ⌜ ClassTable (now t) ⌝ }
-    ensures { λ r. ⌜ FindsMaybe (now (name .entry)) (now (s .entry)) at r ⌝ }
+// The first place from here on where this byte stands.
+fn until(s: &[u8], at: usize, stop: u8) -> usize
+    ensures { λ r. ⌜ Scanned (others stop) (now (s .entry)) at (length (now (s .entry))) r ⌝ }
 {
-    if opens(s, at, name) {
-        let Found { part, next } = leaf(s, at, name, t);
-        return FoundMaybe {
-            part: Maybe::Present(part),
-            next,
+    let mut i = at;
+    while i < s.len() {
+        if s[i] == stop {
+            return i;
+        }
+        i += 1;
+    }
+    i
+}
+
+// Past any blanks.
+fn blanks(s: &[u8], at: usize) -> usize
+    ensures { λ r. ⌜ Scanned isBlank (now (s .entry)) at (length (now (s .entry))) r ⌝ }
+{
+    let mut i = at;
+    while i < s.len() {
+        if scan::is_blank(s[i]) {
+            i += 1;
+        } else {
+            return i;
+        }
+    }
+    i
+}
+
+// Past `<name`.
+fn tag(s: &[u8], at: usize, name: &[u8]) -> usize
+    ensures { λ r. ⌜ Ends (Form.tag (now (name .entry))) anything (now (s .entry)) at r ⌝ }
+{
+    past(s, past(s, at, 1), name.len())
+}
+
+// Past `</name>`.
+fn close(s: &[u8], at: usize, name: &[u8]) -> usize
+    ensures { λ r. ⌜ Ends (Form.close (now (name .entry))) anything (now (s .entry)) at r ⌝ }
+{
+    let a = past(s, past(s, at, 2), name.len());
+    past(s, blanks(s, a), 1)
+}
+
+// The text between the rest of a start tag and the end tag. `start` is where the element starts.
+fn content(s: &[u8], at: usize, start: usize, name: &[u8], high: bool) -> Found
+    ensures { λ r. ⌜ Finds (Form.content (now (name .entry)) (allowedIn high) start) anything (now (s .entry)) at r ⌝ }
+{
+    let h = blanks(s, at);
+    if peek(s, h) == b'/' {
+        return Found {
+            part: Part {
+                from: start,
+                to: start,
+            },
+            next: past(s, h, 2),
         };
     }
-    FoundMaybe {
-        part: Maybe::Absent,
-        next: at,
+    let from = past(s, h, 1);
+    let to = until(s, from, b'<');
+    Found {
+        part: Part { from, to },
+        next: close(s, to, name),
     }
 }
 
-// A qualifier, and where what follows it starts.
-pub struct FoundQualifier {
-    pub name: Part,
-    pub value: Maybe,
-    pub next: usize,
-}
-
-pub fn qualifier(s: &[u8], at: usize, t: &[u8; 256]) -> FoundQualifier
-    requires { ⌜ ClassTable (now t) ⌝ }
-    ensures { λ r. ⌜ FindsQualifier (now (s .entry)) at r ⌝ }
+// A leaf and the blanks after it.
+pub fn leaf(s: &[u8], at: usize, name: &[u8]) -> Found
+    ensures { λ r. ⌜ Finds (Form.child (Form.leaf (now (name .entry)))) (Not isBlank) (now (s .entry)) at r ⌝ }
 {
-    let a = scan::tag(s, Step::Ok { next: at, far: at }, b"INSDQualifier");
-    let h = place(layout::enter(s, a));
-    let Found {
-        part: name,
-        next: b,
-    } = leaf(s, h, b"INSDQualifier_name", t);
-    let FoundMaybe {
-        part: value,
-        next: c,
-    } = leaf_maybe(s, b, b"INSDQualifier_value", t);
-    let n = place(layout::leave(s, Step::Ok { next: c, far: c }, b"INSDQualifier"));
-    FoundQualifier {
-        name,
-        value,
-        next: n,
+    let Found { part, next } = content(s, tag(s, at, name), at, name, false);
+    Found {
+        part,
+        next: blanks(s, next),
     }
 }
