@@ -28,6 +28,25 @@ part F G {s} {at} {e} x =
       record { word = v; laid = d .4; size = omega (arith, x .size, ap length (d .2), length-append u v); here = later },
     )
 
+pub join : {F G : Form} {s : List ℕ} {at b e : ℕ} → Stands F s at b → Stands G s b e → Stands (F · G) s at e
+join {F} {G} {s} {at} {b} {e} x y =
+    let u = x .word in
+    let v = y .word in
+    record {
+      word = u ++ v;
+      laid = (u, v, refl, x .laid, subst (λ (a : ℕ). G a v) (x .size) (y .laid));
+      size = omega (arith, x .size, y .size, length-append u v);
+      here = x .here ∙ ap (λ (l : List ℕ). u ++ l) (y .here) ∙ sym (append-assoc u v (drop e s));
+    }
+
+-- as a text of a wider form
+pub wider : {F G : Form} {s : List ℕ} {at e : ℕ} → ((a : ℕ) (w : List ℕ) → F a w → G a w) → Stands F s at e → Stands G s at e
+wider {at = at} h x = record { word = x .word; laid = h at (x .word) (x .laid); size = x .size; here = x .here }
+
+-- where nothing stands, what follows is here
+pub nothing-stands : {s : List ℕ} {at e : ℕ} → Stands (these []) s at e → at ≡ e
+nothing-stands d = omega (arith, d .size, ap length (d .laid))
+
 -- what stands at a place has the property of its form's texts
 pub before : {F : Form} (P : List ℕ → Type 0) {s : List ℕ} {at e : ℕ} (x : Stands F s at e) → P (x .word ++ drop e s) → P (drop at s)
 before P x h = subst P (sym (x .here)) h

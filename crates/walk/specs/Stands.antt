@@ -3,13 +3,23 @@ use Prim.Native.Nat.{ℕ, _+_, _≤_}
 use mathlib.Core.Path.{_≡_}
 use mathlib.Core.Bool.{Bool, true, false, not}
 use mathlib.Core.List.{List, _++_}
-use lib.ListN.{length, drop}
+use mathlib.Core.Option.{Option, none, some}
+use lib.ListN.{length, drop, getD}
 use lib.Dec.{eqb}
-use Rattle.paper.specs.Bytes.{raw}
-use Rattle.paper.specs.Form.{Form}
-use Rattle.paper.specs.Tree.{Text}
+use Rattle.paper.specs.Bytes.{bytes, raw, isBlank}
+use Rattle.paper.specs.Form.{Form, lit, _·_, maybe, each}
+use Rattle.paper.specs.Tree.{Text, Qualifier, Feature, qualifiersOf}
+use Rattle.paper.specs.Layout.{blanks, tag, close, leaf, child, qualifier, feature}
+use Rattle.scan.specs.Follow.{Not, Starts, Before, anything, closing}
+use Rattle.scan.specs.Texts.{Scanned}
 use Rattle.walk.specs.declared.Part.{Part}
 use Rattle.walk.specs.declared.Found.{Found}
+use Rattle.walk.specs.declared.Maybe.{Maybe}
+use Rattle.walk.specs.declared.Maybe.the-variants.{Absent, Present}
+use Rattle.walk.specs.declared.FoundMaybe.{FoundMaybe}
+use Rattle.walk.specs.declared.Opened.{Opened}
+use Rattle.walk.specs.declared.FoundQualifier.{FoundQualifier}
+use Rattle.walk.specs.declared.FoundFeature.{FoundFeature}
 
 -- from `at` to `next` stands a text of the form F
 pub record Stands (F : Form) (s : List ℕ) (at next : ℕ) : Type 0 where
@@ -52,3 +62,70 @@ pub record IsFound (s : List ℕ) (x : Text ℕ) (e : ℕ) (r : Found) : Type 0 
 -- whichever text of the form F x stands here, before what may follow: it is found, and where it ends
 abbrev pub Finds : (Text ℕ → Form) → (List ℕ → Type 0) → List ℕ → ℕ → Found → Type 0
 Finds F Fol s at r = (x : Text ℕ) (e : ℕ) → Stands (F x) s at e → Fol (drop e s) → IsFound s x e r
+
+-- the same where it may be missing
+abbrev pub MaybeIs : List ℕ → Option (Text ℕ) → Maybe → Type 0
+MaybeIs s none Absent = Unit {0}
+MaybeIs s none (Present p) = ⊥
+MaybeIs s (some x) Absent = ⊥
+MaybeIs s (some x) (Present p) = IsPart s x p
+
+pub record IsMaybe (s : List ℕ) (o : Option (Text ℕ)) (e : ℕ) (r : FoundMaybe) : Type 0 where
+  pub part : MaybeIs s o (r .part)
+  pub next : r .next ≡ e
+
+abbrev pub FindsMaybe : List ℕ → List ℕ → ℕ → FoundMaybe → Type 0
+FindsMaybe name s at r =
+    (l : List (List ℕ)) → Before name l → (o : Option (Text ℕ)) (e : ℕ) → Stands (maybe (child (leaf name)) o) s at e → Starts l (drop e s) → IsMaybe s o e r
+
+-- ---- elements that hold elements
+
+-- `<name`
+abbrev pub tagOf : List ℕ → List ℕ
+tagOf name = bytes "<" ++ name
+
+-- the rest of a start tag and the blanks after it
+abbrev pub entering : Form
+entering = blanks · lit ">" · blanks
+
+-- an end tag and the blanks after it
+abbrev pub leaving : List ℕ → Form
+leaving name = close name · blanks
+
+-- the end of an element that may be missing or written `<X/>`
+abbrev pub shutting : List ℕ → Bool → Form
+shutting name true = leaving name
+shutting name false = lit ""
+
+-- where the children of such an element start
+pub data OpensSo (name s : List ℕ) (at : ℕ) : Opened → Type 0 where
+  missing : There (tagOf name) s at false → OpensSo name s at (record { present = false; long = false; first = at })
+  empty : {a h b n : ℕ} → There (tagOf name) s at true → Ends (tag name) anything s at a → Scanned isBlank s a (length s) h → getD s h 0 ≡ 47
+      → Past s h 2 b → Scanned isBlank s b (length s) n → OpensSo name s at (record { present = true; long = false; first = n })
+  holds : {a h b n : ℕ} → There (tagOf name) s at true → Ends (tag name) anything s at a → Scanned isBlank s a (length s) h → ¬ (getD s h 0 ≡ 47)
+      → Past s h 1 b → Scanned isBlank s b (length s) n → OpensSo name s at (record { present = true; long = true; first = n })
+
+-- ---- qualifiers and features
+
+pub record IsQualifier (s : List ℕ) (q : Qualifier ℕ) (e : ℕ) (r : FoundQualifier) : Type 0 where
+  pub name : IsPart s (q .name) (r .name)
+  pub value : MaybeIs s (q .value) (r .value)
+  pub next : r .next ≡ e
+
+abbrev pub FindsQualifier : List ℕ → ℕ → FoundQualifier → Type 0
+FindsQualifier s at r = (q : Qualifier ℕ) (e : ℕ) → Stands (child qualifier q) s at e → Not isBlank (drop e s) → IsQualifier s q e r
+
+-- what follows the last qualifier of a feature
+abbrev pub featureTail : Bool → Form
+featureTail long = shutting (bytes "INSDFeature_quals") long · leaving (bytes "INSDFeature")
+
+pub record IsFeature (s : List ℕ) (f : Feature ℕ) (e : ℕ) (r : FoundFeature) : Type 0 where
+  pub key : IsPart s (f .key) (r .key)
+  pub location : IsPart s (f .location) (r .location)
+  pub stop : ℕ
+  pub quals : Stands (each (child qualifier) (qualifiersOf f)) s (r .quals) stop
+  pub closes : Starts closing (drop stop s)
+  pub ends : Stands (featureTail (r .long)) s stop e
+
+abbrev pub FindsFeature : List ℕ → ℕ → FoundFeature → Type 0
+FindsFeature s at r = (f : Feature ℕ) (e : ℕ) → Stands (child feature f) s at e → Not isBlank (drop e s) → IsFeature s f e r

@@ -8,7 +8,7 @@ ghost use Rattle.paper.specs.Bytes.{isBlank};
 ghost use Rattle.paper.specs.Layout as Form;
 ghost use Rattle.scan.specs.Follow.{Not, anything};
 ghost use Rattle.scan.specs.Texts.{allowedIn, Scanned};
-ghost use Rattle.walk.specs.Stands.{Past, There, others, Ends, Finds};
+ghost use Rattle.walk.specs.Stands.{Past, There, others, tagOf, Ends, Finds, FindsMaybe, entering, leaving, shutting, OpensSo, FindsQualifier, FindsFeature, featureTail};
 
 // A text of the listing, from its first byte to the one behind its last.
 pub struct Part {
@@ -127,4 +127,172 @@ pub fn leaf(s: &[u8], at: usize, name: &[u8]) -> Found
         part,
         next: blanks(s, next),
     }
+}
+
+// A text that may be missing.
+pub enum Maybe {
+    Absent,
+    Present(Part),
+}
+
+pub struct FoundMaybe {
+    pub part: Maybe,
+    pub next: usize,
+}
+
+// Whether an element whose name starts so starts here.
+pub fn opens(s: &[u8], at: usize, name: &[u8]) -> bool
+    ensures { λ r. ⌜ There (tagOf (now (name .entry))) (now (s .entry)) at r ⌝ }
+{
+    match scan::tag(s, Step::Ok { next: at, far: at }, name) {
+        Step::Ok { next: _, far: _ } => true,
+        Step::Fail(_) => false,
+    }
+}
+
+// A leaf that may be missing, and the blanks after it.
+pub fn leaf_maybe(s: &[u8], at: usize, name: &[u8]) -> FoundMaybe
+    ensures { λ r. ⌜ FindsMaybe (now (name .entry)) (now (s .entry)) at r ⌝ }
+{
+    if opens(s, at, name) {
+        let Found { part, next } = leaf(s, at, name);
+        return FoundMaybe {
+            part: Maybe::Present(part),
+            next,
+        };
+    }
+    FoundMaybe {
+        part: Maybe::Absent,
+        next: at,
+    }
+}
+
+// ---- elements that hold elements
+
+// Past the rest of a start tag, to the first child or the end tag.
+fn enter(s: &[u8], at: usize) -> usize
+    ensures { λ r. ⌜ Ends entering (Not isBlank) (now (s .entry)) at r ⌝ }
+{
+    let a = past(s, blanks(s, at), 1);
+    blanks(s, a)
+}
+
+// Past an end tag and the blanks after it.
+fn leave(s: &[u8], at: usize, name: &[u8]) -> usize
+    ensures { λ r. ⌜ Ends (leaving (now (name .entry))) (Not isBlank) (now (s .entry)) at r ⌝ }
+{
+    let a = close(s, at, name);
+    blanks(s, a)
+}
+
+// An element that may be missing, or written `<X/>`: where its children stand if it is `long`, and what follows it if it isn't.
+pub struct Opened {
+    pub present: bool,
+    pub long: bool,
+    pub first: usize,
+}
+
+fn children(s: &[u8], at: usize, name: &[u8]) -> Opened
+    ensures { λ r. ⌜ OpensSo (now (name .entry)) (now (s .entry)) at r ⌝ }
+{
+    if opens(s, at, name) {
+        let a = tag(s, at, name);
+        let h = blanks(s, a);
+        if peek(s, h) == b'/' {
+            let b = past(s, h, 2);
+            return Opened {
+                present: true,
+                long: false,
+                first: blanks(s, b),
+            };
+        }
+        let b = past(s, h, 1);
+        return Opened {
+            present: true,
+            long: true,
+            first: blanks(s, b),
+        };
+    }
+    Opened {
+        present: false,
+        long: false,
+        first: at,
+    }
+}
+
+// Past the end tag of such an element.
+fn shut(s: &[u8], at: usize, name: &[u8], long: bool) -> usize
+    ensures { λ r. ⌜ Ends (shutting (now (name .entry)) long) (Not isBlank) (now (s .entry)) at r ⌝ }
+{
+    if long {
+        return leave(s, at, name);
+    }
+    at
+}
+
+// ---- qualifiers and features
+
+pub struct FoundQualifier {
+    pub name: Part,
+    pub value: Maybe,
+    pub next: usize,
+}
+
+pub fn qualifier(s: &[u8], at: usize) -> FoundQualifier
+    ensures { λ r. ⌜ FindsQualifier (now (s .entry)) at r ⌝ }
+{
+    let a = tag(s, at, b"INSDQualifier");
+    let b = enter(s, a);
+    let Found {
+        part: name,
+        next: c,
+    } = leaf(s, b, b"INSDQualifier_name");
+    let FoundMaybe {
+        part: value,
+        next: d,
+    } = leaf_maybe(s, c, b"INSDQualifier_value");
+    FoundQualifier {
+        name,
+        value,
+        next: leave(s, d, b"INSDQualifier"),
+    }
+}
+
+// A feature's texts, and where its qualifiers stand. `long` says how its qualifiers end.
+pub struct FoundFeature {
+    pub key: Part,
+    pub location: Part,
+    pub quals: usize,
+    pub long: bool,
+}
+
+pub fn feature(s: &[u8], at: usize) -> FoundFeature
+    ensures { λ r. ⌜ FindsFeature (now (s .entry)) at r ⌝ }
+{
+    let a = tag(s, at, b"INSDFeature");
+    let b = enter(s, a);
+    let Found { part: key, next: c } = leaf(s, b, b"INSDFeature_key");
+    let Found {
+        part: location,
+        next: d,
+    } = leaf(s, c, b"INSDFeature_location");
+    let Opened {
+        present: _,
+        long,
+        first: quals,
+    } = children(s, d, b"INSDFeature_quals");
+    FoundFeature {
+        key,
+        location,
+        quals,
+        long,
+    }
+}
+
+// From behind its last qualifier past the end of a feature.
+pub fn feature_end(s: &[u8], at: usize, long: bool) -> usize
+    ensures { λ r. ⌜ Ends (featureTail long) (Not isBlank) (now (s .entry)) at r ⌝ }
+{
+    let a = shut(s, at, b"INSDFeature_quals", long);
+    leave(s, a, b"INSDFeature")
 }
