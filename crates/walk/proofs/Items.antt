@@ -15,7 +15,7 @@ use Rattle.scan.specs.Follow.{Not, Starts, first, later, Before, anything, clos
 use Rattle.scan.specs.Texts.{Scanned}
 use Rattle.scan.proofs.Fronts.{Leads, leads-all, leads-seq, leads-less, leads-by, leads-starts, leads-sharp, whole, maybe-starts, each-starts, starts-sharp, starts-apart, starts-wider}
 use Rattle.scan.proofs.Tags.{close-leads, leaf-element}
-use Rattle.walk.specs.Stands.{Stands, Past, There, tagOf, Ends, Finds, FindsMaybe, entering, leaving, shutting, OpensSo, missing, empty, holds, FindsQualifier, FindsFeature, featureTail}
+use Rattle.walk.specs.Stands.{Stands, Past, There, tagOf, isThere, Ends, Finds, FindsMaybe, entering, leaving, shutting, OpensSo, missing, empty, holds, FindsQualifier, FindsFeature, featureTail}
 use Rattle.walk.specs.declared.Found.{Found}
 use Rattle.walk.specs.declared.FoundMaybe.{FoundMaybe}
 use Rattle.walk.specs.declared.Maybe.the-variants.{Absent, Present}
@@ -53,10 +53,10 @@ leaving-sharp name b e d = no-blank (bytes "</") refl (leads-seq (bytes "</") (c
 -- ---- what may be missing
 
 -- an element with the blanks after it starts with its tag
-tag-leads : (name : List ℕ) (F : Form) → Leads (tagOf name) (tag name · F · blanks)
+pub tag-leads : (name : List ℕ) (F : Form) → Leads (tagOf name) (tag name · F · blanks)
 tag-leads name F = leads-seq (tagOf name) (tag name · F) blanks (leads-seq (tagOf name) (tag name) F (leads-all (tagOf name)))
 
-tag-there : (name : List ℕ) (F : Form) {s : List ℕ} {at e : ℕ} → Leads (tagOf name) F → Stands F s at e → (y : List ℕ) × (drop at s ≡ tagOf name ++ y)
+pub tag-there : (name : List ℕ) (F : Form) {s : List ℕ} {at e : ℕ} → Leads (tagOf name) F → Stands F s at e → (y : List ℕ) × (drop at s ≡ tagOf name ++ y)
 tag-there name F {s} {at} {e} l d =
     let k = l at (d .word) (d .laid) in
     (k .0 ++ drop e s, d .here ∙ ap (λ (c : List ℕ). c ++ drop e s) (k .1) ∙ append-assoc (tagOf name) (k .0) (drop e s))
@@ -72,7 +72,7 @@ module _ {A : Type 0} (name : List ℕ) (F : A → Form) (leads : (a : A) → Le
   there-some l b fol t none d = absurd (starts-apart (tagOf name) l (drop e s) (t .0) (b .clash) (ap (λ (i : ℕ). drop i s) (sym (nothing-stands d)) ∙ t .1) fol)
   there-some l b fol t (some a) d = (a, refl, d)
 
-leaf-leads : (name : List ℕ) (x : Text ℕ) → Leads (tagOf name) (child (leaf name) x)
+pub leaf-leads : (name : List ℕ) (x : Text ℕ) → Leads (tagOf name) (child (leaf name) x)
 leaf-leads name x = leads-seq (tagOf name) (leaf name x) blanks (leaf-element name .leads x)
 
 module _ {name s : List ℕ} {at : ℕ} where
@@ -143,10 +143,6 @@ pub record Within (name : List ℕ) (D : Form) (l : List (List ℕ)) (s : List �
   pub children : Stands D s (r .first) stop
   pub follows : Starts (bytes "</" ∷ l) (drop stop s)
   pub ends : Stands (shutting name (r .long)) s stop e
-
-abbrev pub isThere : {A : Type 0} → Option A → Bool
-isThere none = false
-isThere (some a) = true
 
 module _ {A : Type 0} (name : List ℕ) (nothing : A → Type 0) (C : A → Form) (sharp : (a : A) → Sharp (C a))
     (D : Option A → Form) (absent : (at : ℕ) → D none at []) (void : (a : A) → nothing a → (at : ℕ) → D (some a) at []) (held-as : (a : A) (at : ℕ) (w : List ℕ) → C a at w → D (some a) at w) where
@@ -264,7 +260,7 @@ qualifier-found {s} p i name value l q e d fol =
 
 -- ---- a feature
 
-qualifier-leads : (q : Qualifier ℕ) → Leads (bytes "<INSDQualifier") (child qualifier q)
+pub qualifier-leads : (q : Qualifier ℕ) → Leads (bytes "<INSDQualifier") (child qualifier q)
 qualifier-leads q =
     tag-leads (bytes "INSDQualifier")
     (holding (bytes "INSDQualifier") (child (leaf (bytes "INSDQualifier_name")) (q .name) · child? (leaf (bytes "INSDQualifier_value")) (q .value)))

@@ -2,15 +2,15 @@
 use Prim.Native.Nat.{ℕ, _+_, _≤_}
 use mathlib.Core.Path.{_≡_}
 use mathlib.Core.Bool.{Bool, true, false, not}
-use mathlib.Core.List.{List, _++_}
+use mathlib.Core.List.{List, [], _∷_, _++_}
 use mathlib.Core.Option.{Option, none, some}
 use lib.ListN.{length, drop, getD}
 use lib.Dec.{eqb}
 use Rattle.paper.specs.Bytes.{bytes, raw, isBlank}
 use Rattle.paper.specs.Form.{Form, lit, _·_, maybe, each}
-use Rattle.paper.specs.Tree.{Text, Qualifier, Feature, qualifiersOf}
-use Rattle.paper.specs.Layout.{blanks, tag, close, leaf, child, qualifier, feature}
-use Rattle.scan.specs.Follow.{Not, Starts, Before, anything, closing}
+use Rattle.paper.specs.Tree.{Text, Qualifier, Feature, Table, Sequence, qualifiersOf}
+use Rattle.paper.specs.Layout.{blanks, tag, close, attribute, leaf, child, child?, qualifier, feature, table, otherIds, sequence}
+use Rattle.scan.specs.Follow.{Not, Starts, Before, Named, anything, closing}
 use Rattle.scan.specs.Texts.{Scanned}
 use Rattle.walk.specs.declared.Part.{Part}
 use Rattle.walk.specs.declared.Found.{Found}
@@ -20,6 +20,9 @@ use Rattle.walk.specs.declared.FoundMaybe.{FoundMaybe}
 use Rattle.walk.specs.declared.Opened.{Opened}
 use Rattle.walk.specs.declared.FoundQualifier.{FoundQualifier}
 use Rattle.walk.specs.declared.FoundFeature.{FoundFeature}
+use Rattle.walk.specs.declared.FoundTable.{FoundTable}
+use Rattle.walk.specs.declared.FoundIds.{FoundIds}
+use Rattle.walk.specs.declared.FoundSequence.{FoundSequence}
 
 -- from `at` to `next` stands a text of the form F
 pub record Stands (F : Form) (s : List ℕ) (at next : ℕ) : Type 0 where
@@ -48,6 +51,10 @@ others stop b = not (eqb b stop)
 -- whatever of the form F stands here, before what may follow, ends at r
 pub record Ends (F : Form) (Fol : List ℕ → Type 0) (s : List ℕ) (at r : ℕ) : Type 0 where
   pub is : (e : ℕ) → Stands F s at e → Fol (drop e s) → r ≡ e
+
+-- whatever F x stands here ends at r
+pub record Over {A : Type 0} (F : A → Form) (Fol : List ℕ → Type 0) (s : List ℕ) (at r : ℕ) : Type 0 where
+  pub is : (x : A) (e : ℕ) → Stands (F x) s at e → Fol (drop e s) → r ≡ e
 
 -- the part is where the text x is written
 pub record IsPart (s : List ℕ) (x : Text ℕ) (p : Part) : Type 0 where
@@ -129,3 +136,57 @@ pub record IsFeature (s : List ℕ) (f : Feature ℕ) (e : ℕ) (r : FoundFeatur
 
 abbrev pub FindsFeature : List ℕ → ℕ → FoundFeature → Type 0
 FindsFeature s at r = (f : Feature ℕ) (e : ℕ) → Stands (child feature f) s at e → Not isBlank (drop e s) → IsFeature s f e r
+
+-- ---- sequences
+
+abbrev pub FindsAttribute : List ℕ → List ℕ → ℕ → Found → Type 0
+FindsAttribute name s at r = Named name → Finds (attribute name) anything s at r
+
+abbrev pub isThere : {A : Type 0} → Option A → Bool
+isThere none = false
+isThere (some a) = true
+
+-- what may follow other-seqids, and what a feature table
+abbrev pub residuesNext : List (List ℕ)
+residuesNext = bytes "<INSDSeq_sequence" ∷ []
+
+abbrev pub tableNext : List (List ℕ)
+tableNext = bytes "<INSDSeq_feature-table" ∷ residuesNext
+
+pub record IsIds (o : Option (Option (Text ℕ))) (e : ℕ) (r : FoundIds) : Type 0 where
+  pub present : r .present ≡ isThere o
+  pub next : r .next ≡ e
+
+abbrev pub FindsIds : List ℕ → ℕ → FoundIds → Type 0
+FindsIds s at r = (o : Option (Option (Text ℕ))) (e : ℕ) → Stands (child? otherIds o) s at e → Starts tableNext (drop e s) → IsIds o e r
+
+-- the features of the table t stand from `first` on
+pub record TableAt (s : List ℕ) (t : Table ℕ) (place at : ℕ) : Type 0 where
+  pub is : place ≡ t .place
+  pub stop : ℕ
+  pub features : Stands (each (child feature) (t .features)) s at stop
+  pub closes : Starts closing (drop stop s)
+
+abbrev pub TableIs : List ℕ → Option (Table ℕ) → FoundTable → Type 0
+TableIs s none r = r .present ≡ false
+TableIs s (some t) r = (r .present ≡ true) × TableAt s t (r .place) (r .first)
+
+pub record IsTable (s : List ℕ) (o : Option (Table ℕ)) (e : ℕ) (r : FoundTable) : Type 0 where
+  pub table : TableIs s o r
+  pub next : r .next ≡ e
+
+abbrev pub FindsTable : List ℕ → ℕ → FoundTable → Type 0
+FindsTable s at r = (o : Option (Table ℕ)) (e : ℕ) → Stands (child? table o) s at e → Starts residuesNext (drop e s) → IsTable s o e r
+
+pub record IsSequence (s : List ℕ) (q : Sequence ℕ) (e : ℕ) (r : FoundSequence) : Type 0 where
+  pub number : IsPart s (q .number) (r .number)
+  pub declared : IsPart s (q .declared) (r .declared)
+  pub moltype : IsPart s (q .moltype) (r .moltype)
+  pub division : IsPart s (q .division) (r .division)
+  pub ids : r .ids ≡ isThere (q .otherIds)
+  pub table : TableIs s (q .table) (r .table)
+  pub residues : IsPart s (q .residues) (r .residues)
+  pub next : r .next ≡ e
+
+abbrev pub FindsSequence : List ℕ → ℕ → FoundSequence → Type 0
+FindsSequence s at r = (q : Sequence ℕ) (e : ℕ) → Stands (child sequence q) s at e → Not isBlank (drop e s) → IsSequence s q e r

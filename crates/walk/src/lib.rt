@@ -4,11 +4,12 @@
 use scan::Step;
 ghost use mathlib.Core.Path.{_≡_};
 ghost use lib.ListN.{length, getD};
-ghost use Rattle.paper.specs.Bytes.{isBlank};
+ghost use Rattle.paper.specs.Bytes.{bytes, isBlank};
 ghost use Rattle.paper.specs.Layout as Form;
-ghost use Rattle.scan.specs.Follow.{Not, anything};
+ghost use Rattle.paper.specs.Form.{each};
+ghost use Rattle.scan.specs.Follow.{Not, Starts, anything, closing};
 ghost use Rattle.scan.specs.Texts.{allowedIn, Scanned};
-ghost use Rattle.walk.specs.Stands.{Past, There, others, tagOf, Ends, Finds, FindsMaybe, entering, leaving, shutting, OpensSo, FindsQualifier, FindsFeature, featureTail};
+ghost use Rattle.walk.specs.Stands.{Past, There, others, tagOf, Ends, Finds, FindsMaybe, entering, leaving, shutting, OpensSo, Over, FindsQualifier, FindsFeature, featureTail, FindsTable, FindsAttribute, FindsIds, FindsSequence};
 
 // A text of the listing, from its first byte to the one behind its last.
 pub struct Part {
@@ -295,4 +296,204 @@ pub fn feature_end(s: &[u8], at: usize, long: bool) -> usize
 {
     let a = shut(s, at, b"INSDFeature_quals", long);
     leave(s, a, b"INSDFeature")
+}
+
+// Whether a qualifier stands here, and not the end of the list.
+pub fn qualifier_here(s: &[u8], at: usize) -> bool
+    ensures { λ r. ⌜ There (bytes "<INSDQualifier") (now (s .entry)) at r ⌝ }
+{
+    opens(s, at, b"INSDQualifier")
+}
+
+// Past the qualifiers that stand here.
+fn qualifiers_over(s: &[u8], first: usize) -> usize
+    ensures { λ r. ⌜ Over (each (Form.child Form.qualifier)) (Starts closing) (now (s .entry)) first r ⌝ }
+{
+    let mut at = first;
+    loop {
+        if qualifier_here(s, at) {
+            let FoundQualifier {
+                name: _,
+                value: _,
+                next,
+            } = qualifier(s, at);
+            if next <= at {
+                return at;
+            }
+            at = next;
+        } else {
+            return at;
+        }
+    }
+}
+
+// Whether a feature stands here, and not the end of the list.
+pub fn feature_here(s: &[u8], at: usize) -> bool
+    ensures { λ r. ⌜ There (bytes "<INSDFeature") (now (s .entry)) at r ⌝ }
+{
+    opens(s, at, b"INSDFeature")
+}
+
+// Past a feature.
+pub fn feature_over(s: &[u8], at: usize) -> usize
+    ensures { λ r. ⌜ Over (Form.child Form.feature) (Not isBlank) (now (s .entry)) at r ⌝ }
+{
+    let FoundFeature {
+        key: _,
+        location: _,
+        quals,
+        long,
+    } = feature(s, at);
+    let a = qualifiers_over(s, quals);
+    feature_end(s, a, long)
+}
+
+// Past the features that stand here.
+fn features_over(s: &[u8], first: usize) -> usize
+    ensures { λ r. ⌜ Over (each (Form.child Form.feature)) (Starts closing) (now (s .entry)) first r ⌝ }
+{
+    let mut at = first;
+    loop {
+        if feature_here(s, at) {
+            let next = feature_over(s, at);
+            if next <= at {
+                return at;
+            }
+            at = next;
+        } else {
+            return at;
+        }
+    }
+}
+
+// ---- sequences
+
+// A feature table that may be missing: its place, and where its features stand.
+pub struct FoundTable {
+    pub present: bool,
+    pub place: usize,
+    pub first: usize,
+    pub next: usize,
+}
+
+fn table(s: &[u8], at: usize) -> FoundTable
+    ensures { λ r. ⌜ FindsTable (now (s .entry)) at r ⌝ }
+{
+    if opens(s, at, b"INSDSeq_feature-table") {
+        let a = tag(s, at, b"INSDSeq_feature-table");
+        let first = enter(s, a);
+        let b = features_over(s, first);
+        return FoundTable {
+            present: true,
+            place: at,
+            first,
+            next: leave(s, b, b"INSDSeq_feature-table"),
+        };
+    }
+    FoundTable {
+        present: false,
+        place: at,
+        first: at,
+        next: at,
+    }
+}
+
+// An attribute.
+fn attribute(s: &[u8], at: usize, name: &[u8]) -> Found
+    ensures { λ r. ⌜ FindsAttribute (now (name .entry)) (now (s .entry)) at r ⌝ }
+{
+    let a = past(s, blanks(s, at), name.len());
+    let from = past(s, a, 2);
+    let to = until(s, from, b'"');
+    Found {
+        part: Part { from, to },
+        next: past(s, to, 1),
+    }
+}
+
+// Past other-seqids, and whether they are there.
+pub struct FoundIds {
+    pub present: bool,
+    pub next: usize,
+}
+
+fn other_ids(s: &[u8], at: usize) -> FoundIds
+    ensures { λ r. ⌜ FindsIds (now (s .entry)) at r ⌝ }
+{
+    let Opened {
+        present,
+        long,
+        first,
+    } = children(s, at, b"INSDSeq_other-seqids");
+    let FoundMaybe { part: _, next } = leaf_maybe(s, first, b"INSDSeqid");
+    FoundIds {
+        present,
+        next: shut(s, next, b"INSDSeq_other-seqids", long),
+    }
+}
+
+pub struct FoundSequence {
+    pub number: Part,
+    pub declared: Part,
+    pub moltype: Part,
+    pub division: Part,
+    pub ids: bool,
+    pub table: FoundTable,
+    pub residues: Part,
+    pub next: usize,
+}
+
+pub fn sequence(s: &[u8], at: usize) -> FoundSequence
+    ensures { λ r. ⌜ FindsSequence (now (s .entry)) at r ⌝ }
+{
+    let a = tag(s, at, b"SequenceData");
+    let Found {
+        part: number,
+        next: b,
+    } = attribute(s, a, b"sequenceIDNumber");
+    let c = enter(s, b);
+    let d = tag(s, c, b"INSDSeq");
+    let e = enter(s, d);
+    let Found {
+        part: declared,
+        next: f,
+    } = leaf(s, e, b"INSDSeq_length");
+    let Found {
+        part: moltype,
+        next: g,
+    } = leaf(s, f, b"INSDSeq_moltype");
+    let Found {
+        part: division,
+        next: h,
+    } = leaf(s, g, b"INSDSeq_division");
+    let FoundIds {
+        present: ids,
+        next: i,
+    } = other_ids(s, h);
+    let FoundTable {
+        present,
+        place,
+        first,
+        next: j,
+    } = table(s, i);
+    let Found {
+        part: residues,
+        next: k,
+    } = leaf(s, j, b"INSDSeq_sequence");
+    let l = leave(s, k, b"INSDSeq");
+    FoundSequence {
+        number,
+        declared,
+        moltype,
+        division,
+        ids,
+        table: FoundTable {
+            present,
+            place,
+            first,
+            next: j,
+        },
+        residues,
+        next: leave(s, l, b"SequenceData"),
+    }
 }
