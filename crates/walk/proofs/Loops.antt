@@ -5,9 +5,9 @@ use mathlib.Core.Path.{_≡_, refl, sym, ap, _∙_, subst}
 use mathlib.Core.Bool.{Bool, true, false}
 use mathlib.Core.List.{List, [], _∷_, _++_}
 use lib.ListN.{length, drop, length-append, length-drop}
-use Rattle.paper.specs.Bytes.{bytes, isBlank}
+use Rattle.paper.specs.Bytes.{isBlank}
 use Rattle.paper.specs.Form.{Form, each}
-use Rattle.scan.specs.Follow.{Not, Starts, closing, clashes, sharp}
+use Rattle.scan.specs.Follow.{Not, Starts, Before}
 use Rattle.scan.proofs.Fronts.{Leads, leads-by, leads-long, whole, each-starts, starts-sharp, starts-apart}
 use Rattle.walk.specs.Stands.{Stands, There, tagOf, Over}
 use Rattle.walk.proofs.Places.{part, before, from, nothing-stands}
@@ -30,7 +30,8 @@ pub record Item {A : Type 0} (F : A → Form) (s : List ℕ) (k : List A) (q e :
   pub follows : Not isBlank (drop end s)
   pub onward : q < end
 
-module _ {A : Type 0} (name : List ℕ) (F : A → Form) (leads : (a : A) → Leads (tagOf name) (F a)) {s : List ℕ} where
+-- fl are the words that may follow the list
+module _ {A : Type 0} (name : List ℕ) (F : A → Form) (leads : (a : A) → Leads (tagOf name) (F a)) (fl : List (List ℕ)) {s : List ℕ} where
   -- where no item starts the list is at its end
   pub left-none : {q e : ℕ} {t : Bool} → t ≡ false → There (tagOf name) s q t → (k : List A) → Stands (each F k) s q e → (k ≡ []) × (q ≡ e)
   left-none h t [] d = (refl, nothing-stands d)
@@ -40,11 +41,11 @@ module _ {A : Type 0} (name : List ℕ) (F : A → Form) (leads : (a : A) → Le
       absurd (subst (There (tagOf name) s q) h t (y .0) (y .1))
 
   -- where one starts it is the first of the list
-  pub left-some : {q e : ℕ} {t : Bool} → clashes (tagOf name) closing ≡ true → t ≡ true → There (tagOf name) s q t → Starts closing (drop e s)
+  pub left-some : {q e : ℕ} {t : Bool} → Before name fl → t ≡ true → There (tagOf name) s q t → Starts fl (drop e s)
       → (k : List A) → Stands (each F k) s q e → Item F s k q e
   left-some {q} {e} c h t fol [] d =
       let y = subst (There (tagOf name) s q) h t in
-      absurd (starts-apart (tagOf name) closing (drop e s) (y .0) c (ap (λ (i : ℕ). drop i s) (sym (nothing-stands d)) ∙ y .1) fol)
+      absurd (starts-apart (tagOf name) fl (drop e s) (y .0) (c .clash) (ap (λ (i : ℕ). drop i s) (sym (nothing-stands d)) ∙ y .1) fol)
   left-some {q} {e} c h t fol (a ∷ k) d =
       let u = part (F a) (each F k) d in
       record {
@@ -56,36 +57,36 @@ module _ {A : Type 0} (name : List ℕ) (F : A → Form) (leads : (a : A) → Le
         behind = u .2;
         follows =
             before (Not isBlank) (u .2)
-            (starts-sharp isBlank (tagOf name ∷ closing) refl (u .2 .word ++ drop e s)
-            (each-starts whole (tagOf name) F (leads-by (tagOf name) F leads) closing k (u .0) (u .2 .word) (drop e s) (u .2 .laid) fol));
+            (starts-sharp isBlank (tagOf name ∷ fl) (c .sharps) (u .2 .word ++ drop e s)
+            (each-starts whole (tagOf name) F (leads-by (tagOf name) F leads) fl k (u .0) (u .2 .word) (drop e s) (u .2 .laid) fol));
         onward = omega (arith, u .1 .size, leads-long 60 name (F a) (leads a) q (u .1 .word) (u .1 .laid));
       }
 
 -- what is left of whichever list stands at `first`
-pub record Left {A : Type 0} (F : A → Form) (s : List ℕ) (first at : ℕ) : Type 0 where
-  pub is : (l : List A) (e : ℕ) → Stands (each F l) s first e → Starts closing (drop e s) → (k : List A) × Stands (each F k) s at e
+pub record Left {A : Type 0} (F : A → Form) (fl : List (List ℕ)) (s : List ℕ) (first at : ℕ) : Type 0 where
+  pub is : (l : List A) (e : ℕ) → Stands (each F l) s first e → Starts fl (drop e s) → (k : List A) × Stands (each F k) s at e
 
-module _ {A : Type 0} (name : List ℕ) (F : A → Form) (leads : (a : A) → Leads (tagOf name) (F a)) (c : clashes (tagOf name) closing ≡ true) {s : List ℕ} {first at : ℕ} where
-  pub over-next : {t : Bool} {n : ℕ} → t ≡ true → There (tagOf name) s at t → Left F s first at → Over F (Not isBlank) s at n → Left F s first n
+module _ {A : Type 0} (name : List ℕ) (F : A → Form) (leads : (a : A) → Leads (tagOf name) (F a)) (fl : List (List ℕ)) (c : Before name fl) {s : List ℕ} {first at : ℕ} where
+  pub over-next : {t : Bool} {n : ℕ} → t ≡ true → There (tagOf name) s at t → Left F fl s first at → Over F (Not isBlank) s at n → Left F fl s first n
   over-next h t w o =
       record {
         is =
             λ l e d fol.
             let k = w .is l e d fol in
-            let i = left-some name F leads c h t fol (k .0) (k .1) in
+            let i = left-some name F leads fl c h t fol (k .0) (k .1) in
             (i .others, from (o .is (i .item) (i .end) (i .here) (i .follows)) (i .behind));
       }
 
-  pub over-stuck : {t : Bool} {n : ℕ} → t ≡ true → There (tagOf name) s at t → Left F s first at → Over F (Not isBlank) s at n → n ≤ at
-      → Over (each F) (Starts closing) s first at
+  pub over-stuck : {t : Bool} {n : ℕ} → t ≡ true → There (tagOf name) s at t → Left F fl s first at → Over F (Not isBlank) s at n → n ≤ at
+      → Over (each F) (Starts fl) s first at
   over-stuck h t w o stuck =
       record {
         is =
             λ l e d fol.
             let k = w .is l e d fol in
-            let i = left-some name F leads c h t fol (k .0) (k .1) in
+            let i = left-some name F leads fl c h t fol (k .0) (k .1) in
             absurd (omega (arith, stuck, i .onward, o .is (i .item) (i .end) (i .here) (i .follows)));
       }
 
-  pub over-done : {t : Bool} → t ≡ false → There (tagOf name) s at t → Left F s first at → Over (each F) (Starts closing) s first at
-  over-done h t w = record { is = λ l e d fol. let k = w .is l e d fol in left-none name F leads h t (k .0) (k .1) .1 }
+  pub over-done : {t : Bool} → t ≡ false → There (tagOf name) s at t → Left F fl s first at → Over (each F) (Starts fl) s first at
+  over-done h t w = record { is = λ l e d fol. let k = w .is l e d fol in left-none name F leads fl h t (k .0) (k .1) .1 }
