@@ -17,16 +17,13 @@ use Rattle.paper.specs.Form.{Form, lit, _·_}
 use Rattle.paper.specs.Values.{isDigit}
 use Rattle.paper.specs.Locations.{Piece, point, before, after, range, site, number, sign, pieceText}
 use Rattle.paper.proofs.Decimal.{digit-bounds}
+use Rattle.paper.proofs.Texts.{all-append}
 use Rattle.location.specs.Readings.{LastStart}
 use Rattle.location.specs.Walking.{Written}
 use Rattle.paper.proofs.Texts.{raw-append}
 
 abbrev noComma : ℕ → Bool
 noComma b = not (eqb b (code ","))
-
-all-append : (u v : List ℕ) → all noComma u → all noComma v → all noComma (u ++ v)
-all-append [] v h k = k
-all-append (b ∷ u) v h k = (h .0, all-append u v (h .1) k)
 
 all-at : (w : List ℕ) (n : ℕ) → n < length w → all noComma w → noComma (getD w n 0) ≡ true
 all-at [] n l h = absurd (omega arith)
@@ -43,7 +40,7 @@ plain-lit : (x : String) → all noComma (bytes x) → Plain (lit x)
 plain-lit x h at w e = subst (all noComma) (sym e) h
 
 plain-then : {F G : Form} → Plain F → Plain G → Plain (F · G)
-plain-then f g at w x = subst (all noComma) (sym (x .2)) (all-append (x .0) (x .1) (f at (x .0) (x .3)) (g (at + length (x .0)) (x .1) (x .4)))
+plain-then f g at w x = subst (all noComma) (sym (x .2)) (all-append noComma (x .0) (x .1) (f at (x .0) (x .3)) (g (at + length (x .0)) (x .1) (x .4)))
 
 plain-number : (n : ℕ) → Plain (number n)
 plain-number n at w x = digits w (x .digits)
@@ -87,7 +84,7 @@ plain-spell b h = go (ℕ-discrete b 60) (ℕ-discrete b 62) (ℕ-discrete b 38)
 
 plain-raw : (w : List ℕ) → all noComma w → all noComma (raw w)
 plain-raw [] h = tt
-plain-raw (b ∷ w) h = all-append (spell b) (raw w) (plain-spell b (h .0)) (plain-raw w (h .1))
+plain-raw (b ∷ w) h = all-append noComma (spell b) (raw w) (plain-spell b (h .0)) (plain-raw w (h .1))
 
 module _ {s : List ℕ} {L : ℕ} {c : Bool} {p : Piece} {i j : ℕ} {z : List ℕ} (h : Written s L c p i j z) where
   written-size : length s - i ≡ length (raw (h .text)) + (length s - j)

@@ -20,32 +20,48 @@ unspell w =
     (cond (eqb (getD w 2 0) 109) (38, drop 5 w) (39, drop 6 w)))))
     (getD w 0 0, drop 1 w)
 
-pub unspell-spell : (b : ℕ) (r : List ℕ) → unspell (spell b ++ r) ≡ (b, r)
-unspell-spell b r = lt (eqb b 60) refl
+-- what holds of each of the five characters as it is written, and of every other one as itself, holds of each
+pub spell-cases : (P : ℕ → List ℕ → Type 0)
+    → P 60 (bytes "&lt;") → P 62 (bytes "&gt;") → P 38 (bytes "&amp;") → P 34 (bytes "&quot;") → P 39 (bytes "&apos;")
+    → ((b : ℕ) → eqb b 60 ≡ false → eqb b 62 ≡ false → eqb b 38 ≡ false → eqb b 34 ≡ false → eqb b 39 ≡ false → P b (b ∷ []))
+    → (b : ℕ) → P b (spell b)
+spell-cases P lt gt amp quot apos other b = by-lt (eqb b 60) refl
   where
-    is : (c : ℕ) → eqb b c ≡ true → unspell (spell c ++ r) ≡ (c, r) → unspell (spell b ++ r) ≡ (b, r)
-    is c e h = subst (λ (k : ℕ). unspell (spell k ++ r) ≡ (k, r)) (sym (eqb-true b c e)) h
+    is : (c : ℕ) → eqb b c ≡ true → P c (spell c) → P b (spell b)
+    is c e h = subst (λ (k : ℕ). P k (spell k)) (sym (eqb-true b c e)) h
 
-    plain : eqb b 60 ≡ false → eqb b 62 ≡ false → eqb b 38 ≡ false → eqb b 34 ≡ false → (t : Bool) → eqb b 39 ≡ t
-        → unspell (spell b ++ r) ≡ (b, r)
-    plain e f g h true k = is 39 k refl
-    plain e f g h false k = rw (e, f, g, h, k, g)
+    by-apos : eqb b 60 ≡ false → eqb b 62 ≡ false → eqb b 38 ≡ false → eqb b 34 ≡ false → (t : Bool) → eqb b 39 ≡ t → P b (spell b)
+    by-apos e f g h true k = is 39 k apos
+    by-apos e f g h false k = rw (e, f, g, h, k) (other b e f g h k)
 
-    quot : eqb b 60 ≡ false → eqb b 62 ≡ false → eqb b 38 ≡ false → (t : Bool) → eqb b 34 ≡ t → unspell (spell b ++ r) ≡ (b, r)
-    quot e f g true h = is 34 h refl
-    quot e f g false h = plain e f g h (eqb b 39) refl
+    by-quot : eqb b 60 ≡ false → eqb b 62 ≡ false → eqb b 38 ≡ false → (t : Bool) → eqb b 34 ≡ t → P b (spell b)
+    by-quot e f g true h = is 34 h quot
+    by-quot e f g false h = by-apos e f g h (eqb b 39) refl
 
-    amp : eqb b 60 ≡ false → eqb b 62 ≡ false → (t : Bool) → eqb b 38 ≡ t → unspell (spell b ++ r) ≡ (b, r)
-    amp e f true g = is 38 g refl
-    amp e f false g = quot e f g (eqb b 34) refl
+    by-amp : eqb b 60 ≡ false → eqb b 62 ≡ false → (t : Bool) → eqb b 38 ≡ t → P b (spell b)
+    by-amp e f true g = is 38 g amp
+    by-amp e f false g = by-quot e f g (eqb b 34) refl
 
-    gt : eqb b 60 ≡ false → (t : Bool) → eqb b 62 ≡ t → unspell (spell b ++ r) ≡ (b, r)
-    gt e true f = is 62 f refl
-    gt e false f = amp e f (eqb b 38) refl
+    by-gt : eqb b 60 ≡ false → (t : Bool) → eqb b 62 ≡ t → P b (spell b)
+    by-gt e true f = is 62 f gt
+    by-gt e false f = by-amp e f (eqb b 38) refl
 
-    lt : (t : Bool) → eqb b 60 ≡ t → unspell (spell b ++ r) ≡ (b, r)
-    lt true e = is 60 e refl
-    lt false e = gt e (eqb b 62) refl
+    by-lt : (t : Bool) → eqb b 60 ≡ t → P b (spell b)
+    by-lt true e = is 60 e lt
+    by-lt false e = by-gt e (eqb b 62) refl
+
+pub unspell-spell : (b : ℕ) (r : List ℕ) → unspell (spell b ++ r) ≡ (b, r)
+unspell-spell b r =
+    spell-cases (λ (c : ℕ) (w : List ℕ). unspell (w ++ r) ≡ (c, r)) refl refl refl refl refl (λ c e f g h k. rw g refl) b
+
+pub all-append : (f : ℕ → Bool) (u v : List ℕ) → all f u → all f v → all f (u ++ v)
+all-append f [] v h k = k
+all-append f (b ∷ u) v h k = (h .0, all-append f u v (h .1) k)
+
+-- what every character is written with, a text is written with
+pub raw-all : (f : ℕ → Bool) → ((b : ℕ) → all f (spell b)) → (v : List ℕ) → all f (raw v)
+raw-all f h [] = tt
+raw-all f h (b ∷ v) = all-append f (spell b) (raw v) (h b) (raw-all f h v)
 
 front-empty : (u v : List ℕ) → u ++ v ≡ [] → u ≡ []
 front-empty [] v e = refl

@@ -167,7 +167,7 @@ pub skip-none : (z : List ℕ) → Not isBlank z → skip z ≡ z
 skip-none [] n = refl
 skip-none (b ∷ z) n = rw n
 
-gap-blank : (at : ℕ) (w : List ℕ) → gap at w → all isBlank w
+pub gap-blank : (at : ℕ) (w : List ℕ) → gap at w → all isBlank w
 gap-blank at w d = subst (all isBlank) (sym (d .2 ∙ ap (λ (u : List ℕ). u ++ d .1) (d .3 .1))) (d .3 .2, d .4)
 
 pub skip-gap : (at : ℕ) (w z : List ℕ) → gap at w → skip (w ++ z) ≡ skip z

@@ -1,89 +1,305 @@
--- An element that holds elements: where its children stand, and where it ends. And the items found by their parts.
-use Prim.Native.Nat.{ℕ}
-use mathlib.Core.Path.{_≡_, refl, subst}
-use mathlib.Core.List.{List, _∷_, _++_}
-use lib.ListN.{drop}
+-- Elements that hold elements: where their children stand, and where they end. And the items found by their parts.
+use Prim.Native.Nat.{ℕ, _+_}
+use native.Mathlib.Omega.{arith}
+use mathlib.Core.Path.{_≡_, refl, sym, ap, _∙_, subst}
+use mathlib.Core.Bool.{Bool, true, false}
+use mathlib.Core.Logic.{_⊎_, inl, inr}
+use mathlib.Core.List.{List, [], _∷_, _++_, append-assoc}
+use mathlib.Core.Option.{Option, none, some}
+use lib.ListN.{length, drop, getD, length-append}
 use Rattle.paper.specs.Bytes.{bytes, isBlank}
-use Rattle.paper.specs.Form.{Form, lit, _·_, maybe}
-use Rattle.paper.specs.Layout.{blanks, tag, close, leaf, child, holding, qualifier}
-use Rattle.scan.specs.Reads.{Reads, Passes}
-use Rattle.scan.specs.Follow.{Not, Starts, anything, closing}
-use Rattle.scan.specs.declared.Step.{Step}
-use Rattle.scan.specs.declared.Step.the-variants.{Ok}
-use Rattle.scan.proofs.Fronts.{leads-sharp, leads-all, leads-seq, leads-by, leads-starts, whole, maybe-starts, starts-sharp}
+use Rattle.paper.specs.Form.{Form, these, lit, _·_, _∪_, given, maybe, each}
+use Rattle.paper.specs.Tree.{Text, Qualifier, listed}
+use Rattle.paper.specs.Layout.{blanks, tag, close, leaf, child, child?, holding, holding?, qualifier, quals}
+use Rattle.scan.specs.Follow.{Not, Starts, first, later, Before, anything, closing, sharp}
+use Rattle.scan.specs.Texts.{Scanned}
+use Rattle.scan.proofs.Fronts.{Leads, leads-all, leads-seq, leads-less, leads-by, leads-starts, leads-sharp, whole, maybe-starts, each-starts, starts-sharp, starts-apart, starts-wider}
 use Rattle.scan.proofs.Tags.{close-leads, leaf-element}
-use Rattle.layout.specs.Parts.{Enters, Leaves}
-use Rattle.walk.specs.Stands.{Stands, Reached, Finds, FindsMaybe, FindsQualifier}
+use Rattle.walk.specs.Stands.{Stands, Past, There, tagOf, isThere, Ends, Finds, FindsMaybe, entering, leaving, shutting, OpensSo, missing, empty, holds, FindsQualifier, FindsFeature, featureTail}
 use Rattle.walk.specs.declared.Found.{Found}
 use Rattle.walk.specs.declared.FoundMaybe.{FoundMaybe}
-use Rattle.walk.proofs.Places.{part, along}
-use Rattle.walk.proofs.Leaves.{before, from}
+use Rattle.walk.specs.declared.Maybe.the-variants.{Absent, Present}
+use Rattle.walk.specs.declared.Opened.{Opened}
+use Rattle.walk.proofs.Places.{part, join, wider, before, from, nothing-stands, past-these, run-ends}
+use Rattle.walk.proofs.Leaves.{no-blank, first-byte}
 
--- a reading that goes on from a step that did not fail
-goes : {A : Type 0} {L : A → Form} {Fol : List ℕ → Type 0} {s : List ℕ} {x y : Step} {at far e : ℕ} (b : A)
-    → x ≡ Ok at far → Reads L Fol s x y → Stands (L b) s at e → Fol (drop e s) → (f : ℕ) × (y ≡ Ok e f)
-goes {L = L} {Fol = Fol} {s = s} {y = y} b h r t f = along b (subst (λ (x : Step). Reads L Fol s x y) h r) t f
+-- ---- tags
 
--- the children stand from h on, then the end tag and blanks, up to e
-pub record Inside (name : List ℕ) (C : Form) (s : List ℕ) (h e : ℕ) : Type 0 where
+pub enter-ends : {s : List ℕ} {at h b r : ℕ} → Scanned isBlank s at (length s) h → Past s h 1 b → Scanned isBlank s b (length s) r
+    → Ends entering (Not isBlank) s at r
+enter-ends c p k =
+    record {
+      is =
+          λ e d fol.
+          let u = part (blanks · lit ">") blanks d in
+          let v = part blanks (lit ">") (u .1) in
+          let eh = run-ends isBlank c .is (v .0) (v .1) (no-blank (bytes ">") refl (leads-all (bytes ">")) (v .2)) in
+          run-ends isBlank k .is e (from (past-these (bytes ">") refl p (from eh (v .2))) (u .2)) fol;
+    }
+
+pub leave-ends : {name s : List ℕ} {at a r : ℕ} → Ends (close name) anything s at a → Scanned isBlank s a (length s) r → Ends (leaving name) (Not isBlank) s at r
+leave-ends {name} p c =
+    record { is = λ e d fol. let u = part (close name) blanks d in run-ends isBlank c .is e (from (p .is (u .0) (u .1) tt) (u .2)) fol }
+
+-- one after another
+pub then-ends : (F G : Form) {Fol : List ℕ → Type 0} {s : List ℕ} {at a r : ℕ} → ((b e : ℕ) → Stands G s b e → Not isBlank (drop b s))
+    → Ends F (Not isBlank) s at a → Ends G Fol s a r → Ends (F · G) Fol s at r
+then-ends F G sharp p q =
+    record { is = λ e d fol. let u = part F G d in q .is e (from (p .is (u .0) (u .1) (sharp (u .0) e (u .2))) (u .2)) fol }
+
+pub leaving-sharp : (name : List ℕ) {s : List ℕ} (b e : ℕ) → Stands (leaving name) s b e → Not isBlank (drop b s)
+leaving-sharp name b e d = no-blank (bytes "</") refl (leads-seq (bytes "</") (close name) blanks (close-leads name)) d
+
+-- ---- what may be missing
+
+-- an element with the blanks after it starts with its tag
+pub tag-leads : (name : List ℕ) (F : Form) → Leads (tagOf name) (tag name · F · blanks)
+tag-leads name F = leads-seq (tagOf name) (tag name · F) blanks (leads-seq (tagOf name) (tag name) F (leads-all (tagOf name)))
+
+pub tag-there : (name : List ℕ) (F : Form) {s : List ℕ} {at e : ℕ} → Leads (tagOf name) F → Stands F s at e → (y : List ℕ) × (drop at s ≡ tagOf name ++ y)
+tag-there name F {s} {at} {e} l d =
+    let k = l at (d .word) (d .laid) in
+    (k .0 ++ drop e s, d .here ∙ ap (λ (c : List ℕ). c ++ drop e s) (k .1) ∙ append-assoc (tagOf name) (k .0) (drop e s))
+
+-- where the tag is not there no such item stands, and where it is one does
+module _ {A : Type 0} (name : List ℕ) (F : A → Form) (leads : (a : A) → Leads (tagOf name) (F a)) {s : List ℕ} {at e : ℕ} where
+  pub missing-none : There (tagOf name) s at false → (o : Option A) → Stands (maybe F o) s at e → (o ≡ none) × (at ≡ e)
+  missing-none t none d = (refl, nothing-stands d)
+  missing-none t (some a) d = let k = tag-there name (F a) (leads a) d in absurd (t (k .0) (k .1))
+
+  pub there-some : (l : List (List ℕ)) → Before name l → Starts l (drop e s) → There (tagOf name) s at true → (o : Option A) → Stands (maybe F o) s at e
+      → (a : A) × (o ≡ some a) × Stands (F a) s at e
+  there-some l b fol t none d = absurd (starts-apart (tagOf name) l (drop e s) (t .0) (b .clash) (ap (λ (i : ℕ). drop i s) (sym (nothing-stands d)) ∙ t .1) fol)
+  there-some l b fol t (some a) d = (a, refl, d)
+
+pub leaf-leads : (name : List ℕ) (x : Text ℕ) → Leads (tagOf name) (child (leaf name) x)
+leaf-leads name x = leads-seq (tagOf name) (leaf name x) blanks (leaf-element name .leads x)
+
+module _ {name s : List ℕ} {at : ℕ} where
+  pub leaf-absent : {q : Bool} → q ≡ false → There (tagOf name) s at q → FindsMaybe name s at (record { part = Absent; next = at })
+  leaf-absent h t l b o e d fol =
+      let k = missing-none name (child (leaf name)) (leaf-leads name) (subst (There (tagOf name) s at) h t) o d in
+      record { part = rw (k .0) tt; next = k .1 }
+
+  pub leaf-present : {q : Bool} {r : Found} → q ≡ true → There (tagOf name) s at q → Finds (child (leaf name)) (Not isBlank) s at r
+      → FindsMaybe name s at (record { part = Present (r .part); next = r .next })
+  leaf-present h t finds l b o e d fol =
+      let k = there-some name (child (leaf name)) (leaf-leads name) l b fol (subst (There (tagOf name) s at) h t) o d in
+      let y = finds (k .0) e (k .2) (starts-sharp isBlank l (b .sharps) (drop e s) fol) in
+      record { part = rw (k .1) (y .part); next = y .next }
+
+-- ---- an element that holds elements
+
+-- its children stand from r on, then its end
+pub record Inside (name : List ℕ) (C : Form) (s : List ℕ) (r e : ℕ) : Type 0 where
   pub end : ℕ
-  pub children : Stands C s h end
+  pub children : Stands C s r end
   pub closes : Starts closing (drop end s)
-  pub leaves : (g n : ℕ) (y : Step) → Leaves name s (Ok end g) y → Reached y n → n ≡ e
+  pub leaves : Stands (leaving name) s end e
 
-pub inside : (name : List ℕ) (C : Form) {s : List ℕ} {at f h e : ℕ} {a r : Step} → ((at : ℕ) (w z : List ℕ) → C at w → Starts closing z → Not isBlank (w ++ z))
-    → Passes (tag name) anything s (Ok at f) a → Enters s a r → Reached r h → Stands (child (λ (u : Unit {0}). tag name · holding name C) tt) s at e
-    → Not isBlank (drop e s) → Inside name C s h e
-inside name C {s} {h = h} {e = e} front p i hr d fol =
+closes-at : (name : List ℕ) {s : List ℕ} {at e : ℕ} → Stands (close name) s at e → Starts closing (drop at s)
+closes-at name {s} {at} {e} d = before (Starts closing) d (leads-starts (bytes "</") (close name) (close-leads name) at (d .word) (drop e s) (d .laid))
+
+-- no blank stands before the children
+abbrev pub Sharp : Form → Type 0
+Sharp C = (at : ℕ) (w z : List ℕ) → C at w → Starts closing z → Not isBlank (w ++ z)
+
+pub inside : (name : List ℕ) (C : Form) {s : List ℕ} {a m r e : ℕ} → Sharp C → Ends entering (Not isBlank) s a r
+    → Stands (holding name C) s a m → Stands blanks s m e → Inside name C s r e
+inside name C {s} sharp p d after =
+    let w = part blanks (lit ">" · blanks · C · close name) d in
+    let k = part (lit ">" · blanks · C) (close name) (w .2) in
+    let c = part (lit ">" · blanks) C (k .1) in
+    let n = part (lit ">") blanks (c .1) in
+    let cl = closes-at name (k .2) in
+    let er = p .is (c .0) (join (join (w .1) (n .1)) (n .2)) (before (Not isBlank) (c .2) (sharp (c .0) (c .2 .word) (drop (k .0) s) (c .2 .laid) cl)) in
+    record { end = k .0; children = from er (c .2); closes = cl; leaves = join (k .2) after }
+
+-- such a child
+pub held : (name : List ℕ) (C : Form) {s : List ℕ} {at a r e : ℕ} → Sharp C → Ends (tag name) anything s at a → Ends entering (Not isBlank) s a r
+    → Stands ((tag name · holding name C) · blanks) s at e → Inside name C s r e
+held name C sharp p q d =
     let u = part (tag name · holding name C) blanks d in
     let v = part (tag name) (holding name C) (u .1) in
-    let w = part blanks (lit ">" · blanks · C · close name) (v .2) in
-    let k = part (lit ">" · blanks · C) (close name) (w .2) in
-    let m = part (lit ">" · blanks) C (k .1) in
-    let n = part (lit ">") blanks (m .1) in
-    let cl : Starts closing (drop (k .0) s) = before (Starts closing) (k .2) (leads-starts (bytes "</") (close name) (close-leads name) (k .0) (k .2 .word) (drop (u .0) s) (k .2 .laid)) in
-    let gt : Not isBlank (drop (w .0) s) =
-    before (Not isBlank) (w .2)
-    (leads-sharp isBlank (bytes ">") (lit ">" · blanks · C · close name) refl
-    (leads-seq (bytes ">") (lit ">" · blanks · C) (close name) (leads-seq (bytes ">") (lit ">" · blanks) C (leads-seq (bytes ">") (lit ">") blanks (leads-all (bytes ">")))))
-    (w .0) (w .2 .word) (drop (u .0) s) (w .2 .laid)) in
-    let ch : Not isBlank (drop (m .0) s) = before (Not isBlank) (m .2) (front (m .0) (m .2 .word) (drop (k .0) s) (m .2 .laid) cl) in
-    let ea = along tt p (v .1) tt in
-    let eh = goes tt (ea .1) (i .before) (w .1) gt in
-    let eo = goes tt (eh .1) (i .opens) (n .1) tt in
-    let er = goes tt (eo .1) (i .after) (n .2) ch in
-    record {
-      end = k .0;
-      children = from (subst (λ (y : Step). Reached y h) (er .1) hr) (m .2);
-      closes = cl;
-      leaves = λ g x y l hy. let ec = along tt (l .closes) (k .2) tt in let ey = goes tt (ec .1) (l .after) (u .2) fol in subst (λ (c : Step). Reached c x) (ey .1) hy;
-    }
+    inside name C sharp q (from (p .is (v .0) (v .1) tt) (v .2)) (u .2)
+
+-- ---- an element that may be missing or empty
+
+module _ {name s : List ℕ} {at : ℕ} where
+  pub opens-missing : {q : Bool} → q ≡ false → There (tagOf name) s at q → OpensSo name s at (record { present = false; long = false; first = at })
+  opens-missing h t = missing (subst (There (tagOf name) s at) h t)
+
+  pub opens-empty : {q : Bool} {p a h b n : ℕ} → q ≡ true → There (tagOf name) s at q → Ends (tag name) anything s at a → Scanned isBlank s a (length s) h
+      → p ≡ getD s h 0 → p ≡ 47 → Past s h 2 b → Scanned isBlank s b (length s) n → OpensSo name s at (record { present = true; long = false; first = n })
+  opens-empty h t e c g k p d = empty (subst (There (tagOf name) s at) h t) e c (sym g ∙ k) p d
+
+  pub opens-holds : {q : Bool} {p a h b n : ℕ} → q ≡ true → There (tagOf name) s at q → Ends (tag name) anything s at a → Scanned isBlank s a (length s) h
+      → p ≡ getD s h 0 → ¬ (p ≡ 47) → Past s h 1 b → Scanned isBlank s b (length s) n → OpensSo name s at (record { present = true; long = true; first = n })
+  opens-holds h t e c g k p d = holds (subst (There (tagOf name) s at) h t) e c (λ j. k (g ∙ j)) p d
+
+-- its children D stand from r on, then its end
+pub record Within (name : List ℕ) (D : Form) (l : List (List ℕ)) (s : List ℕ) (r : Opened) (e : ℕ) : Type 0 where
+  pub stop : ℕ
+  pub children : Stands D s (r .first) stop
+  pub follows : Starts (bytes "</" ∷ l) (drop stop s)
+  pub ends : Stands (shutting name (r .long)) s stop e
+
+module _ {A : Type 0} (name : List ℕ) (nothing : A → Type 0) (C : A → Form) (sharp : (a : A) → Sharp (C a))
+    (D : Option A → Form) (absent : (at : ℕ) → D none at []) (void : (a : A) → nothing a → (at : ℕ) → D (some a) at []) (held-as : (a : A) (at : ℕ) (w : List ℕ) → C a at w → D (some a) at w) where
+  abbrev pub E : A → Form
+  E a = tag name · holding? name (nothing a) (C a)
+
+  leads : (a : A) → Leads (tagOf name) (child E a)
+  leads a = tag-leads name (holding? name (nothing a) (C a))
+
+  abbrev pub Full : A → Form
+  Full a = lit ">" · blanks · C a · close name
+
+  full-leads : (a : A) → Leads (bytes ">") (Full a)
+  full-leads a = leads-seq (bytes ">") (lit ">" · blanks · C a) (close name) (leads-seq (bytes ">") (lit ">" · blanks) (C a) (leads-seq (bytes ">") (lit ">") blanks (leads-all (bytes ">"))))
+
+  module _ {s : List ℕ} {e : ℕ} (l : List (List ℕ)) (b : Before name l) (fol : Starts l (drop e s)) where
+    -- nothing stands, and what follows is here
+    none-at : (D' : Form) (r : Opened) → r .long ≡ false → ((p : ℕ) → D' p []) → r .first ≡ e → Within name D' l s r e
+    none-at D' r h n q =
+        record {
+          stop = r .first;
+          children = record { word = []; laid = n (r .first); size = omega arith; here = refl };
+          follows = later (subst (λ (i : ℕ). Starts l (drop i s)) (sym q) fol);
+          ends = rw h (record { word = []; laid = refl; size = omega (arith, q); here = ap (λ (i : ℕ). drop i s) q });
+        }
+
+    -- what stands behind the tag and the blanks
+    at-head : {at a h : ℕ} (x : A) → Ends (tag name) anything s at a → Scanned isBlank s a (length s) h → Stands (child E x) s at e
+        → (m : ℕ) × Stands (given (nothing x) (lit "/>") ∪ Full x) s h m × Stands blanks s m e
+    at-head x p c d =
+        let u = part (E x) blanks d in
+        let v = part (tag name) (holding? name (nothing x) (C x)) (u .1) in
+        let w = part blanks (given (nothing x) (lit "/>") ∪ Full x) (v .2) in
+        let eh = run-ends isBlank c .is (w .0) (from (p .is (v .0) (v .1) tt) (w .1)) (head-sharp x (w .0) (u .0) (w .2 .word) (w .2 .laid) (w .2 .here)) in
+        (u .0, from eh (w .2), u .2)
+      where
+        head-sharp : (x : A) (i m : ℕ) (w : List ℕ) → (given (nothing x) (lit "/>") ∪ Full x) i w → drop i s ≡ w ++ drop m s → Not isBlank (drop i s)
+        head-sharp x i m w (inl k) q = subst (Not isBlank) (sym (q ∙ ap (λ (u : List ℕ). u ++ drop m s) (k .1))) refl
+        head-sharp x i m w (inr k) q = subst (Not isBlank) (sym q) (leads-sharp isBlank (bytes ">") (Full x) refl (full-leads x) i w (drop m s) k)
+
+    empty-at : {h i n : ℕ} (x : A) (m : ℕ) → getD s h 0 ≡ 47 → Past s h 2 i → Scanned isBlank s i (length s) n
+        → Stands (given (nothing x) (lit "/>") ∪ Full x) s h m → Stands blanks s m e → Within name (D (some x)) l s (record { present = true; long = false; first = n }) e
+    empty-at {h} {i} {n} x m byte p c d after = by-kind (d .word) (d .laid) (d .size) (d .here)
+      where
+        by-kind : (w : List ℕ) → (given (nothing x) (lit "/>") ∪ Full x) h w → m ≡ h + length w → drop h s ≡ w ++ drop m s
+            → Within name (D (some x)) l s (record { present = true; long = false; first = n }) e
+        by-kind w (inl k) z q =
+            let ei = past-these (bytes "/>") refl p (record { word = w; laid = k .1; size = z; here = q }) in
+            none-at (D (some x)) (record { present = true; long = false; first = n }) refl (void x (k .0))
+            (run-ends isBlank c .is e (from ei after) (starts-sharp isBlank l (b .sharps) (drop e s) fol))
+        by-kind w (inr k) z q =
+            let g = first-byte 62 [] {F = Full x} (full-leads x) (record { word = w; laid = k; size = z; here = q }) in
+            let o : _≡_ {A = ℕ} 47 62 = sym byte ∙ g in
+            absurd (omega arith)
+
+    holds-at : {h i n : ℕ} (x : A) (m : ℕ) → ¬ (getD s h 0 ≡ 47) → Past s h 1 i → Scanned isBlank s i (length s) n
+        → Stands (given (nothing x) (lit "/>") ∪ Full x) s h m → Stands blanks s m e → Within name (D (some x)) l s (record { present = true; long = true; first = n }) e
+    holds-at {h} {i} {n} x m byte p c d after = by-kind (d .word) (d .laid) (d .size) (d .here)
+      where
+        by-kind : (w : List ℕ) → (given (nothing x) (lit "/>") ∪ Full x) h w → m ≡ h + length w → drop h s ≡ w ++ drop m s
+            → Within name (D (some x)) l s (record { present = true; long = true; first = n }) e
+        by-kind w (inl k) z q =
+            absurd (byte (first-byte 47 (bytes ">") {F = lit "/>"} (leads-all (bytes "/>")) (record { word = w; laid = k .1; size = z; here = q })))
+        by-kind w (inr k) z q =
+            let u = part (lit ">" · blanks · C x) (close name) (record { word = w; laid = k; size = z; here = q }) in
+            let v = part (lit ">" · blanks) (C x) (u .1) in
+            let y = part (lit ">") blanks (v .1) in
+            let cl = closes-at name (u .2) in
+            let en = run-ends isBlank c .is (v .0) (from (past-these (bytes ">") refl p (y .1)) (y .2))
+            (before (Not isBlank) (v .2) (sharp x (v .0) (v .2 .word) (drop (u .0) s) (v .2 .laid) cl)) in
+            record { stop = u .0; children = wider (held-as x) (from en (v .2)); follows = closing-first (drop (u .0) s) cl; ends = join (u .2) after }
+          where
+            closing-first : (z : List ℕ) → Starts closing z → Starts (bytes "</" ∷ l) z
+            closing-first z (first y h) = first y h
+
+    pub within : {at : ℕ} {r : Opened} → OpensSo name s at r → (o : Option A) → Stands (maybe (child E) o) s at e
+        → Within name (D o) l s r e × (r .present ≡ isThere o)
+    within {at} (missing t) o d =
+        let k = missing-none name (child E) leads t o d in
+        rw (k .0) (none-at (D none) (record { present = false; long = false; first = at }) refl absent (k .1), refl)
+    within (empty t p c byte q n) o d =
+        let k = there-some name (child E) leads l b fol t o d in
+        let h = at-head (k .0) p c (k .2) in
+        rw (k .1) (empty-at (k .0) (h .0) byte q n (h .1) (h .2), refl)
+    within (holds t p c byte q n) o d =
+        let k = there-some name (child E) leads l b fol t o d in
+        let h = at-head (k .0) p c (k .2) in
+        rw (k .1) (holds-at (k .0) (h .0) byte q n (h .1) (h .2), refl)
 
 -- ---- a qualifier
 
-pub qualifier-found : {s : List ℕ} {at f h g n : ℕ} {a r y : Step} {x : Found} {v : FoundMaybe}
-    → Passes (tag (bytes "INSDQualifier")) anything s (Ok at f) a → Enters s a r → Reached r h
-    → Finds (child (leaf (bytes "INSDQualifier_name"))) (Not isBlank) s h x → FindsMaybe (bytes "INSDQualifier_value") s (x .next) v
-    → Leaves (bytes "INSDQualifier") s (Ok (v .next) g) y → Reached y n
+-- a leaf comes first, before what may follow it
+leaf-sharp : (name : List ℕ) (x : Text ℕ) (F : Form) (at : ℕ) (w z : List ℕ) → (child (leaf name) x · F) at w → Not isBlank (w ++ z)
+leaf-sharp name x F at w z =
+    leads-sharp isBlank (bytes "<") (child (leaf name) x · F) refl
+    (leads-seq (bytes "<") (child (leaf name) x) F (leads-less (bytes "<") name (child (leaf name) x) (leaf-leads name x))) at w z
+
+pub qualifier-found : {s : List ℕ} {at a b n : ℕ} {x : Found} {v : FoundMaybe} → Ends (tag (bytes "INSDQualifier")) anything s at a
+    → Ends entering (Not isBlank) s a b → Finds (child (leaf (bytes "INSDQualifier_name"))) (Not isBlank) s b x
+    → FindsMaybe (bytes "INSDQualifier_value") s (x .next) v → Ends (leaving (bytes "INSDQualifier")) (Not isBlank) s (v .next) n
     → FindsQualifier s at (record { name = x .part; value = v .part; next = n })
-qualifier-found {s} {g = g} {n = n} {y = y} p i hr name value l hy q e d fol =
+qualifier-found {s} p i name value l q e d fol =
     let N = child (leaf (bytes "INSDQualifier_name")) (q .name) in
     let W = maybe (child (leaf (bytes "INSDQualifier_value"))) (q .value) in
-    let o = inside (bytes "INSDQualifier") (N · W)
-    (λ at w z c e. leads-sharp isBlank (bytes "<INSDQualifier_name") (N · W) refl
-    (leads-seq (bytes "<INSDQualifier_name") N W (leads-seq (bytes "<INSDQualifier_name") (leaf (bytes "INSDQualifier_name") (q .name)) blanks (leaf-element (bytes "INSDQualifier_name") .leads (q .name))))
-    at w z c) p i hr d fol in
+    let o = held (bytes "INSDQualifier") (N · W) (λ at w z c e. leaf-sharp (bytes "INSDQualifier_name") (q .name) W at w z c) p i d in
     let k = part N W (o .children) in
     let st : Starts (bytes "<INSDQualifier_value" ∷ closing) (drop (k .0) s) =
     before (Starts (bytes "<INSDQualifier_value" ∷ closing)) (k .2)
     (maybe-starts whole (bytes "<INSDQualifier_value") (child (leaf (bytes "INSDQualifier_value")))
-    (leads-by (bytes "<INSDQualifier_value") (child (leaf (bytes "INSDQualifier_value")))
-    (λ x. leads-seq (bytes "<INSDQualifier_value") (leaf (bytes "INSDQualifier_value") x) blanks (leaf-element (bytes "INSDQualifier_value") .leads x)))
+    (leads-by (bytes "<INSDQualifier_value") (child (leaf (bytes "INSDQualifier_value"))) (leaf-leads (bytes "INSDQualifier_value")))
     closing (q .value) (k .0) (k .2 .word) (drop (o .end) s) (k .2 .laid) (o .closes)) in
     let fn = name (q .name) (k .0) (k .1) (starts-sharp isBlank (bytes "<INSDQualifier_value" ∷ closing) refl (drop (k .0) s) st) in
     let fv = value closing (record { clash = refl; sharps = refl }) (q .value) (o .end) (from (fn .next) (k .2)) (o .closes) in
+    record { name = fn .part; value = fv .part; next = l .is e (from (fv .next) (o .leaves)) fol }
+
+-- ---- a feature
+
+pub qualifier-leads : (q : Qualifier ℕ) → Leads (bytes "<INSDQualifier") (child qualifier q)
+qualifier-leads q =
+    tag-leads (bytes "INSDQualifier")
+    (holding (bytes "INSDQualifier") (child (leaf (bytes "INSDQualifier_name")) (q .name) · child? (leaf (bytes "INSDQualifier_value")) (q .value)))
+
+quals-sharp : (l : List (Qualifier ℕ)) → Sharp (each (child qualifier) l)
+quals-sharp l at w z d c =
+    starts-sharp isBlank (bytes "<INSDQualifier" ∷ closing) refl (w ++ z)
+    (each-starts whole (bytes "<INSDQualifier") (child qualifier) (leads-by (bytes "<INSDQualifier") (child qualifier) qualifier-leads) closing l at w z d c)
+
+quals-leads : (l : List (Qualifier ℕ)) → Leads (bytes "<INSDFeature_quals") (child quals l)
+quals-leads l = tag-leads (bytes "INSDFeature_quals") (holding? (bytes "INSDFeature_quals") (l ≡ []) (each (child qualifier) l))
+
+pub feature-found : {s : List ℕ} {at a b : ℕ} {x y : Found} {r : Opened} → Ends (tag (bytes "INSDFeature")) anything s at a
+    → Ends entering (Not isBlank) s a b → Finds (child (leaf (bytes "INSDFeature_key"))) (Not isBlank) s b x
+    → Finds (child (leaf (bytes "INSDFeature_location"))) (Not isBlank) s (x .next) y → OpensSo (bytes "INSDFeature_quals") s (y .next) r
+    → FindsFeature s at (record { key = x .part; location = y .part; quals = r .first; long = r .long })
+feature-found {s} {y = y} {r = r} p i key location o f e d fol =
+    let K = child (leaf (bytes "INSDFeature_key")) (f .key) in
+    let L = child (leaf (bytes "INSDFeature_location")) (f .location) in
+    let Q = child? quals (f .quals) in
+    let u = held (bytes "INSDFeature") (K · L · Q)
+    (λ at w z c e. leads-sharp isBlank (bytes "<") (K · L · Q) refl
+    (leads-seq (bytes "<") (K · L) Q (leads-seq (bytes "<") K L (leads-less (bytes "<") (bytes "INSDFeature_key") K (leaf-leads (bytes "INSDFeature_key") (f .key))))) at w z c) p i d in
+    let k = part (K · L) Q (u .children) in
+    let j = part K L (k .1) in
+    let st : Starts (bytes "<INSDFeature_quals" ∷ closing) (drop (k .0) s) =
+    before (Starts (bytes "<INSDFeature_quals" ∷ closing)) (k .2)
+    (maybe-starts whole (bytes "<INSDFeature_quals") (child quals) (leads-by (bytes "<INSDFeature_quals") (child quals) quals-leads)
+    closing (f .quals) (k .0) (k .2 .word) (drop (u .end) s) (k .2 .laid) (u .closes)) in
+    let fk = key (f .key) (j .0) (j .1) (no-blank (bytes "<INSDFeature_location") refl (leaf-leads (bytes "INSDFeature_location") (f .location)) (j .2)) in
+    let fl = location (f .location) (k .0) (from (fk .next) (j .2)) (starts-sharp isBlank (bytes "<INSDFeature_quals" ∷ closing) refl (drop (k .0) s) st) in
+    let c = within (bytes "INSDFeature_quals") (λ (l : List (Qualifier ℕ)). l ≡ []) (each (child qualifier)) quals-sharp
+    (λ (g : Option (List (Qualifier ℕ))). each (child qualifier) (listed g)) (λ at. refl) (λ l h at. rw h refl) (λ l at w g. g)
+    closing (record { clash = refl; sharps = refl }) (u .closes) o (f .quals) (from (fl .next) (k .2)) in
     record {
-      name = fn .part;
-      value = fv .part;
-      next = o .leaves g n y (subst (λ (c : ℕ). Leaves (bytes "INSDQualifier") s (Ok c g) y) (fv .next) l) hy;
+      key = fk .part;
+      location = fl .part;
+      stop = c .0 .stop;
+      quals = c .0 .children;
+      closes = starts-wider closing (bytes "</" ∷ closing) refl (drop (c .0 .stop) s) (c .0 .follows);
+      ends = join (c .0 .ends) (u .leaves);
     }

@@ -1,119 +1,145 @@
--- A text found again, from what the readings of its parts promise.
+-- A tag, a text and a leaf found again, each from what is promised of its parts.
 use Prim.Native.Nat.{ℕ, suc, _+_}
 use native.Mathlib.Omega.{arith}
 use mathlib.Core.Path.{_≡_, refl, sym, ap, _∙_, subst}
-use mathlib.Core.Bool.{Bool, true, false}
+use mathlib.Core.Bool.{Bool, true, false, not}
 use mathlib.Core.Logic.{inl, inr}
-use mathlib.Core.Option.{none, some}
-use mathlib.Core.List.{List, [], _∷_, _++_, append-assoc}
-use lib.ListN.{length, take, drop}
-use Rattle.paper.specs.Bytes.{bytes, raw, isBlank}
-use Rattle.paper.specs.Form.{Form, lit, _·_, maybe}
+use mathlib.Core.List.{List, [], _∷_, _++_}
+use lib.ListN.{length, take, drop, getD}
+use lib.Seq.{getD-drop}
+use Rattle.paper.specs.Bytes.{bytes, all, raw, spell, isBlank}
+use Rattle.paper.specs.Form.{Form, these, lit, _·_}
 use Rattle.paper.specs.Tree.{Text}
 use Rattle.paper.specs.Layout.{blanks, text, tag, close, content, leaf, child}
-use Rattle.scan.specs.Reads.{Reads, Passes}
-use Rattle.scan.specs.Follow.{Not, anything, first}
-use Rattle.scan.specs.Texts.{allowedIn, isText}
-use Rattle.scan.specs.declared.Step.{Step}
+use Rattle.paper.proofs.Texts.{spell-cases, raw-all}
+use Rattle.scan.specs.Reads.{Passes}
+use Rattle.scan.specs.Follow.{Not, anything, sharp}
+use Rattle.scan.specs.Texts.{allowedIn, Scanned}
 use Rattle.scan.specs.declared.Step.the-variants.{Ok, Fail}
-use Rattle.scan.proofs.Fronts.{leads-sharp, not-there, whole, leads-by, starts-apart, starts-sharp}
-use Rattle.scan.proofs.Tags.{Body, Long, body-sharp, close-leads, text-sharp, long-leads, leaf-element}
-use Rattle.walk.specs.Stands.{Stands, Reached, Opens, Finds, IsFound, FindsMaybe}
+use Rattle.scan.proofs.Fronts.{Leads, leads-all, leads-sharp}
+use Rattle.scan.proofs.Tags.{Body, Long, body-sharp, close-leads, long-leads}
+use Rattle.walk.specs.Stands.{Stands, Past, There, others, Ends, Finds, IsPart, IsFound}
 use Rattle.walk.specs.declared.Found.{Found}
-use Rattle.walk.specs.declared.Maybe.the-variants.{Absent, Present}
-use Rattle.walk.proofs.Places.{part, no-fail, reached}
+use Rattle.walk.proofs.Places.{part, before, from, past-these, pasts, scan-end, run-ends}
 
--- what stands at a place has the property of its form's texts
-pub before : {F : Form} (P : List ℕ → Type 0) {s : List ℕ} {at e : ℕ} (x : Stands F s at e) → P (x .word ++ drop e s) → P (drop at s)
-before P x h = subst P (sym (x .here)) h
+-- ---- what a text starts with
 
--- what stands from a place stands from a place that is the same
-pub from : {F : Form} {s : List ℕ} {at b e : ℕ} → at ≡ b → Stands F s b e → Stands F s at e
-from {F} {s} {e = e} h x = subst (λ (a : ℕ). Stands F s a e) (sym h) x
+-- what starts with such a word starts with no blank
+pub no-blank : (k : List ℕ) {F : Form} {s : List ℕ} {at e : ℕ} → sharp isBlank (k ∷ []) ≡ true → Leads k F → Stands F s at e → Not isBlank (drop at s)
+no-blank k {F} {s} {at} {e} h l d = before (Not isBlank) d (leads-sharp isBlank k F h l at (d .word) (drop e s) (d .laid))
 
-module _ (name : List ℕ) (high : Bool) {s : List ℕ} {start at f h : ℕ} {x : Step} (p : Passes blanks (Not isBlank) s (Ok at f) x) (hp : Reached x h) where
+-- its first byte
+pub first-byte : (b : ℕ) (k : List ℕ) {F : Form} {s : List ℕ} {at e : ℕ} → Leads (b ∷ k) F → Stands F s at e → getD s at 0 ≡ b
+first-byte b k {F} {s} {at} {e} l d =
+    let y = l at (d .word) (d .laid) in
+    ap (λ (i : ℕ). getD s i 0) (omega arith) ∙ sym (getD-drop at s 0 0) ∙ ap (λ (u : List ℕ). getD u 0 0) (d .here ∙ ap (λ (u : List ℕ). u ++ drop e s) (y .1))
+
+-- whether some bytes stand here, as they are read
+pub there-so : {x s : List ℕ} {at f n g : ℕ} → Passes (these x) anything s (Ok at f) (Ok n g) → There x s at true
+there-so p = let y = p .is .4 in (y .rest, y .split ∙ ap (λ (u : List ℕ). u ++ y .rest) (y .laid))
+
+pub there-not : {x s : List ℕ} {at f k : ℕ} → Passes (these x) anything s (Ok at f) (Fail k) → There x s at false
+there-not {x} p y e = p .is .2 .none tt x y refl tt (ap (take (suc (p .is .0))) (sym e))
+
+-- ---- tags
+
+pub tag-ends : {name s : List ℕ} {at a r : ℕ} → Past s at 1 a → Past s a (length name) r → Ends (tag name) anything s at r
+tag-ends {name} p q = record { is = λ e d f. pasts (bytes "<") name refl p q d }
+
+pub close-ends : {name s : List ℕ} {at a b h r : ℕ} → Past s at 2 a → Past s a (length name) b → Scanned isBlank s b (length s) h → Past s h 1 r
+    → Ends (close name) anything s at r
+close-ends {name} p q c o =
+    record {
+      is =
+          λ e d f.
+          let u = part (these (bytes "</" ++ name) · blanks) (lit ">") d in
+          let v = part (these (bytes "</" ++ name)) blanks (u .1) in
+          let eh = run-ends isBlank c .is (u .0) (from (pasts (bytes "</") name refl p q (v .1)) (v .2)) (no-blank (bytes ">") refl (leads-all (bytes ">")) (u .2)) in
+          past-these (bytes ">") refl o (from eh (u .2));
+    }
+
+-- ---- texts
+
+-- no text is written with `<` or `"`
+free-lt : (b : ℕ) → all (others 60) (spell b)
+free-lt =
+    spell-cases (λ (b : ℕ) (w : List ℕ). all (others 60) w)
+    (refl, (refl, (refl, (refl, tt)))) (refl, (refl, (refl, (refl, tt)))) (refl, (refl, (refl, (refl, (refl, tt)))))
+    (refl, (refl, (refl, (refl, (refl, (refl, tt)))))) (refl, (refl, (refl, (refl, (refl, (refl, tt)))))) (λ b e f g h k. (ap not e, tt))
+
+pub free-quote : (b : ℕ) → all (others 34) (spell b)
+free-quote =
+    spell-cases (λ (b : ℕ) (w : List ℕ). all (others 34) w)
+    (refl, (refl, (refl, (refl, tt)))) (refl, (refl, (refl, (refl, tt)))) (refl, (refl, (refl, (refl, (refl, tt)))))
+    (refl, (refl, (refl, (refl, (refl, (refl, tt)))))) (refl, (refl, (refl, (refl, (refl, (refl, tt)))))) (λ b e f g h k. (ap not h, tt))
+
+-- so the first one behind a text's start is where it ends
+pub text-found : (stop : ℕ) → ((b : ℕ) → all (others stop) (spell b)) → (allowed : ℕ → Bool) {s : List ℕ} {b c e : ℕ} (t : Text ℕ)
+    → Scanned (others stop) s b (length s) c → Stands (text allowed t) s b e → Not (others stop) (drop e s) → (c ≡ e) × IsPart s t (record { from = b; to = c })
+text-found stop free allowed {s} {b} {c} {e} t sc d n =
+    let r = raw (t .read) in
+    let here : drop b s ≡ r ++ drop e s = d .here ∙ ap (λ (u : List ℕ). u ++ drop e s) (d .laid .2) in
+    let size : c ≡ b + length r = scan-end (others stop) sc r (drop e s) here (raw-all (others stop) free (t .read)) n in
+    let end : c ≡ e = omega (arith, size, d .size, ap length (d .laid .2)) in (
+      end,
+      record {
+        first = sym (d .laid .0);
+        behind = omega (arith, size, d .laid .0);
+        here = here ∙ ap (λ (k : ℕ). r ++ drop k s) (sym end);
+      },
+    )
+
+module _ (name : List ℕ) (high : Bool) {s : List ℕ} {start at h : ℕ} (sc : Scanned isBlank s at (length s) h) where
   -- what stands behind the blanks
   body-at : (t : Text ℕ) (e : ℕ) → Stands (content name (allowedIn high) start t) s at e → Stands (Body name high start t) s h e
   body-at t e d =
       let u = part blanks (Body name high start t) d in
-      from (reached tt p hp (u .1) (before (Not isBlank) (u .2) (body-sharp name high start t _ _ _ (u .2 .laid)))) (u .2)
+      from (run-ends isBlank sc .is (u .0) (u .1) (before (Not isBlank) (u .2) (body-sharp name high start t _ _ _ (u .2 .laid)))) (u .2)
 
-  pub short-found : {g n i : ℕ} → Passes (lit "/>") anything s (Ok h g) (Ok n i)
+  pub short-found : {p n : ℕ} → p ≡ getD s h 0 → p ≡ 47 → Past s h 2 n
       → Finds (content name (allowedIn high) start) anything s at (record { part = record { from = start; to = start }; next = n })
-  short-found {n = n} q t e d fol = let y = body-at t e d in by-kind (y .word) (y .laid) (y .size) (y .here)
+  short-found {p} {n} hp is q t e d fol = let y = body-at t e d in by-kind (y .word) (y .laid) (y .size) (y .here)
     where
-      here : (r : List ℕ) × (drop h s ≡ bytes "/>" ++ r)
-      here = let y = q .is .4 in (y .rest, y .split ∙ ap (λ (u : List ℕ). u ++ y .rest) (y .laid))
-
-      by-kind : (w : List ℕ) → Body name high start t h w → e ≡ h + length w → drop h s ≡ w ++ drop e s → IsFound t e (record { part = record { from = start; to = start }; next = n })
+      by-kind : (w : List ℕ) → Body name high start t h w → e ≡ h + length w → drop h s ≡ w ++ drop e s
+          → IsFound s t e (record { part = record { from = start; to = start }; next = n })
       by-kind w (inl l) z k =
           record {
-            part = record { first = sym (l .0 .0); behind = omega (arith, l .0 .0, ap (λ (c : List ℕ). length (raw c)) (l .0 .1)) };
-            next = reached tt q refl (record { word = w; laid = l .1; size = z; here = k }) tt;
+            part =
+                record {
+                  first = sym (l .0 .0);
+                  behind = omega (arith, l .0 .0, ap (λ (c : List ℕ). length (raw c)) (l .0 .1));
+                  here = ap (λ (c : List ℕ). raw c ++ drop start s) (sym (l .0 .1));
+                };
+            next = past-these (bytes "/>") refl q (record { word = w; laid = l .1; size = z; here = k });
           }
       by-kind w (inr l) z k =
-          absurd
-          (not-there whole (bytes ">") (Long name high) (leads-by (bytes ">") (Long name high) (long-leads name high start)) (bytes "/>" ∷ []) refl t h w (drop e s) l
-          (first (here .0) (sym k ∙ here .1)))
+          let g = first-byte 62 [] {F = Long name high t} (long-leads name high start t) (record { word = w; laid = l; size = z; here = k }) in
+          let c : _≡_ {A = ℕ} 47 62 = sym is ∙ hp ∙ g in
+          absurd (omega arith)
 
-  pub long-found : {g i j m k b c n : ℕ} {y z v : Step} → Passes (lit "/>") anything s (Ok h g) (Fail k)
-      → Passes (lit ">") anything s (Ok h i) y → Reached y b → Reads (text (allowedIn high)) (Not (isText high)) s (Ok b j) z → Reached z c
-      → Passes (close name) anything s (Ok c m) v → Reached v n
+  pub long-found : {p b c n : ℕ} → p ≡ getD s h 0 → ¬ (p ≡ 47) → Past s h 1 b → Scanned (others 60) s b (length s) c
+      → Ends (close name) anything s c n
       → Finds (content name (allowedIn high) start) anything s at (record { part = record { from = b; to = c }; next = n })
-  long-found {b = b} {c = c} {n = n} miss q hq r hr o ho t e d fol = let y = body-at t e d in by-kind (y .word) (y .laid) (y .size) (y .here)
+  long-found {p} {b} {c} {n} hp not q sc o t e d fol = let y = body-at t e d in by-kind (y .word) (y .laid) (y .size) (y .here)
     where
-      by-kind : (w : List ℕ) → Body name high start t h w → e ≡ h + length w → drop h s ≡ w ++ drop e s → IsFound t e (record { part = record { from = b; to = c }; next = n })
-      by-kind w (inl l) z k = absurd (no-fail tt miss (record { word = w; laid = l .1; size = z; here = k }) tt)
+      by-kind : (w : List ℕ) → Body name high start t h w → e ≡ h + length w → drop h s ≡ w ++ drop e s
+          → IsFound s t e (record { part = record { from = b; to = c }; next = n })
+      by-kind w (inl l) z k =
+          absurd (not (hp ∙ first-byte 47 (bytes ">") {F = lit "/>"} (leads-all (bytes "/>")) (record { word = w; laid = l .1; size = z; here = k })))
       by-kind w (inr l) z k =
           let u = part (lit ">" · text (allowedIn high) t) (close name) (record { word = w; laid = l; size = z; here = k }) in
           let v = part (lit ">") (text (allowedIn high) t) (u .1) in
-          let eb = reached tt q hq (v .1) tt in
-          let st = from eb (v .2) in
-          let ee : c ≡ u .0 = reached t r hr st (before (Not (isText high)) (u .2) (leads-sharp (isText high) (bytes "</") (close name) (text-sharp high) (close-leads name) (u .0) (u .2 .word) (drop e s) (u .2 .laid))) in
-          record {
-            part = record { first = sym (st .laid .0); behind = omega (arith, ee, st .size, st .laid .0, ap length (st .laid .2)) };
-            next = reached tt o ho (from ee (u .2)) tt;
-          }
+          let st = from (past-these (bytes ">") refl q (v .1)) (v .2) in
+          let x = text-found 60 free-lt (allowedIn high) t sc st
+          (before (Not (others 60)) (u .2) (leads-sharp (others 60) (bytes "</") (close name) refl (close-leads name) (u .0) (u .2 .word) (drop e s) (u .2 .laid))) in
+          record { part = x .1; next = o .is e (from (x .0) (u .2)) tt }
 
 -- a leaf and the blanks after it
-pub leaf-found : {name s : List ℕ} {at f b m n : ℕ} {y z : Step} {r : Found} → Passes (tag name) anything s (Ok at f) y → Reached y b
-    → Finds (content name (allowedIn false) at) anything s b r → Passes blanks (Not isBlank) s (Ok (r .next) m) z → Reached z n
-    → Finds (child (leaf name)) (Not isBlank) s at (record { part = r .part; next = n })
-leaf-found {name} {at = at} p hp finds q hq t e d fol =
+pub leaf-found : {name s : List ℕ} {at a n : ℕ} {r : Found} → Ends (tag name) anything s at a → Finds (content name (allowedIn false) at) anything s a r
+    → Scanned isBlank s (r .next) (length s) n → Finds (child (leaf name)) (Not isBlank) s at (record { part = r .part; next = n })
+leaf-found {name} {at = at} p finds q t e d fol =
     let u = part (leaf name t) blanks d in
     let w = u .1 in
     let v = part (tag name) (content name (allowedIn false) at t) (record { word = w .word; laid = w .laid; size = w .size; here = w .here }) in
-    let r = finds t (u .0) (from (reached tt p hp (v .1) tt) (v .2)) tt in
-    record { part = r .part; next = reached tt q hq (from (r .next) (u .2)) fol }
-
--- ---- what may be missing
-
-pub opens-there : {name s : List ℕ} {at f n g : ℕ} → Passes (tag name) anything s (Ok at f) (Ok n g) → Opens name s at true
-opens-there p = let y = p .is .4 in (y .rest, y .split ∙ ap (λ (u : List ℕ). u ++ y .rest) (y .laid))
-
-pub opens-not : {name s : List ℕ} {at f k : ℕ} → Passes (tag name) anything s (Ok at f) (Fail k) → Opens name s at false
-opens-not {name} p y e = p .is .2 .none tt (bytes "<" ++ name) y refl tt (ap (take (suc (p .is .0))) (sym e))
-
--- where nothing stands, what follows is here
-nothing-stands : {A : Type 0} (F : A → Form) {s : List ℕ} {at e : ℕ} → Stands (maybe F none) s at e → at ≡ e
-nothing-stands F d = omega (arith, d .size, ap length (d .laid))
-
-module _ {name s : List ℕ} {at : ℕ} where
-  pub leaf-absent : {r : Bool} → r ≡ false → Opens name s at r → FindsMaybe name s at (record { part = Absent; next = at })
-  leaf-absent h o l b none e d fol = record { part = tt; next = nothing-stands (child (leaf name)) d }
-  leaf-absent h o l b (some x) e d fol =
-      let u = part (leaf name x) blanks d in
-      let k = leaf-element name .leads x at (u .1 .word) (u .1 .laid) in
-      absurd
-      (subst (Opens name s at) h o (k .0 ++ drop (u .0) s)
-      (u .1 .here ∙ ap (λ (c : List ℕ). c ++ drop (u .0) s) (k .1) ∙ append-assoc (bytes "<" ++ name) (k .0) (drop (u .0) s)))
-
-  pub leaf-present : {q : Bool} {r : Found} → q ≡ true → Opens name s at q → Finds (child (leaf name)) (Not isBlank) s at r
-      → FindsMaybe name s at (record { part = Present (r .part); next = r .next })
-  leaf-present h o finds l b none e d fol =
-      let there = subst (Opens name s at) h o in
-      absurd
-      (starts-apart (bytes "<" ++ name) l (drop e s) (there .0) (b .clash) (ap (λ (a : ℕ). drop a s) (sym (nothing-stands (child (leaf name)) d)) ∙ there .1) fol)
-  leaf-present h o finds l b (some x) e d fol =
-      let y = finds x e d (starts-sharp isBlank l (b .sharps) (drop e s) fol) in
-      record { part = y .part; next = y .next }
+    let r = finds t (u .0) (from (p .is (v .0) (v .1) tt) (v .2)) tt in
+    record { part = r .part; next = run-ends isBlank q .is e (from (r .next) (u .2)) fol }

@@ -1,3 +1,5 @@
 pub mod Places
 pub mod Leaves
 pub mod Items
+pub mod Loops
+pub mod Sequences

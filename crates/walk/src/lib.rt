@@ -1,11 +1,15 @@
-// A walk along a listing that is known to be laid out: where each text stands, and what comes next.
-// Relies on the steps of the crate scan and on what they promise; so a text that stands is found by reading it again.
+// A walk along a listing that is known to be laid out: where each text stands, and what comes next. What is known to stand is passed by its
+// length and not compared again. A promise speaks of whatever item of the tree stands at the place; of other bytes it says nothing.
+// Relies on the paper, and in its proofs on the scan's laws of what may follow what.
 use scan::Step;
-ghost use Rattle.paper.specs.Bytes.{isBlank};
+ghost use mathlib.Core.Path.{_≡_};
+ghost use lib.ListN.{length, getD};
+ghost use Rattle.paper.specs.Bytes.{bytes, isBlank};
 ghost use Rattle.paper.specs.Layout as Form;
-ghost use Rattle.scan.specs.Follow.{Not, anything};
-ghost use Rattle.scan.specs.Texts.{ClassTable, allowedIn};
-ghost use Rattle.walk.specs.Stands.{Finds, FindsMaybe, FindsQualifier, Opens, Reached};
+ghost use Rattle.paper.specs.Form.{each};
+ghost use Rattle.scan.specs.Follow.{Not, Starts, anything, closing};
+ghost use Rattle.scan.specs.Texts.{allowedIn, Scanned};
+ghost use Rattle.walk.specs.Stands.{Past, There, others, tagOf, Ends, Finds, FindsMaybe, entering, leaving, shutting, OpensSo, Over, FindsQualifier, FindsFeature, featureTail, FindsTable, FindsAttribute, FindsIds, FindsSequence};
 
 // A text of the listing, from its first byte to the one behind its last.
 pub struct Part {
@@ -19,6 +23,113 @@ pub struct Found {
     pub next: usize,
 }
 
+// The byte at a place.
+fn peek(s: &[u8], at: usize) -> u8
+    ensures { λ r. ⌜ r ≡ getD (now (s .entry)) at 0 ⌝ }
+{
+    if at < s.len() { s[at] } else { 0 }
+}
+
+// The place n bytes further.
+fn past(s: &[u8], at: usize, n: usize) -> usize
+    ensures { λ r. ⌜ Past (now (s .entry)) at n r ⌝ }
+{
+    if s.len() < at {
+        return at;
+    }
+    if s.len() - at < n {
+        return at;
+    }
+    at + n
+}
+
+// Whether the bytes x stand here.
+pub fn there(s: &[u8], at: usize, x: &[u8]) -> bool
+    ensures { λ r. ⌜ There (now (x .entry)) (now (s .entry)) at r ⌝ }
+{
+    match scan::lit(s, Step::Ok { next: at, far: at }, x) {
+        Step::Ok { next: _, far: _ } => true,
+        Step::Fail(_) => false,
+    }
+}
+
+// The first place from here on where this byte stands.
+fn until(s: &[u8], at: usize, stop: u8) -> usize
+    ensures { λ r. ⌜ Scanned (others stop) (now (s .entry)) at (length (now (s .entry))) r ⌝ }
+{
+    let mut i = at;
+    while i < s.len() {
+        if s[i] == stop {
+            return i;
+        }
+        i += 1;
+    }
+    i
+}
+
+// Past any blanks.
+fn blanks(s: &[u8], at: usize) -> usize
+    ensures { λ r. ⌜ Scanned isBlank (now (s .entry)) at (length (now (s .entry))) r ⌝ }
+{
+    let mut i = at;
+    while i < s.len() {
+        if scan::is_blank(s[i]) {
+            i += 1;
+        } else {
+            return i;
+        }
+    }
+    i
+}
+
+// Past `<name`.
+fn tag(s: &[u8], at: usize, name: &[u8]) -> usize
+    ensures { λ r. ⌜ Ends (Form.tag (now (name .entry))) anything (now (s .entry)) at r ⌝ }
+{
+    past(s, past(s, at, 1), name.len())
+}
+
+// Past `</name>`.
+fn close(s: &[u8], at: usize, name: &[u8]) -> usize
+    ensures { λ r. ⌜ Ends (Form.close (now (name .entry))) anything (now (s .entry)) at r ⌝ }
+{
+    let a = past(s, past(s, at, 2), name.len());
+    past(s, blanks(s, a), 1)
+}
+
+// The text between the rest of a start tag and the end tag. `start` is where the element starts.
+fn content(s: &[u8], at: usize, start: usize, name: &[u8], high: bool) -> Found
+    ensures { λ r. ⌜ Finds (Form.content (now (name .entry)) (allowedIn high) start) anything (now (s .entry)) at r ⌝ }
+{
+    let h = blanks(s, at);
+    if peek(s, h) == b'/' {
+        return Found {
+            part: Part {
+                from: start,
+                to: start,
+            },
+            next: past(s, h, 2),
+        };
+    }
+    let from = past(s, h, 1);
+    let to = until(s, from, b'<');
+    Found {
+        part: Part { from, to },
+        next: close(s, to, name),
+    }
+}
+
+// A leaf and the blanks after it.
+pub fn leaf(s: &[u8], at: usize, name: &[u8]) -> Found
+    ensures { λ r. ⌜ Finds (Form.child (Form.leaf (now (name .entry)))) (Not isBlank) (now (s .entry)) at r ⌝ }
+{
+    let Found { part, next } = content(s, tag(s, at, name), at, name, false);
+    Found {
+        part,
+        next: blanks(s, next),
+    }
+}
+
 // A text that may be missing.
 pub enum Maybe {
     Absent,
@@ -30,56 +141,9 @@ pub struct FoundMaybe {
     pub next: usize,
 }
 
-// Where a step ends. Where something stands the step doesn't fail, so no promise speaks of a failure.
-pub fn place(st: Step) -> usize
-    ensures { λ r. ⌜ Reached st r ⌝ }
-{
-    match st {
-        Step::Ok { next, far: _ } => next,
-        Step::Fail(k) => k,
-    }
-}
-
-// The text between the rest of a start tag and the end tag. `start` is where the element starts.
-pub fn content(s: &[u8], at: usize, start: usize, name: &[u8], high: bool, t: &[u8; 256]) -> Found
-    requires { ⌜ ClassTable (now t) ⌝ }
-    ensures { λ r. ⌜ Finds (Form.content (now (name .entry)) (allowedIn high) start) anything (now (s .entry)) at r ⌝ }
-{
-    let h = place(scan::blanks(s, Step::Ok { next: at, far: at }));
-    match scan::lit(s, Step::Ok { next: h, far: h }, b"/>") {
-        Step::Ok { next: n, far: _ } => Found {
-            part: Part {
-                from: start,
-                to: start,
-            },
-            next: n,
-        },
-        Step::Fail(_) => {
-            let b = place(scan::lit(s, Step::Ok { next: h, far: h }, b">"));
-            let e = place(scan::text(s, b, b, high, t));
-            let n = place(scan::close(s, Step::Ok { next: e, far: e }, name));
-            Found {
-                part: Part { from: b, to: e },
-                next: n,
-            }
-        }
-    }
-}
-
-// A leaf and the blanks after it.
-pub fn leaf(s: &[u8], at: usize, name: &[u8], t: &[u8; 256]) -> Found
-    requires { ⌜ ClassTable (now t) ⌝ }
-    ensures { λ r. ⌜ Finds (Form.child (Form.leaf (now (name .entry)))) (Not isBlank) (now (s .entry)) at r ⌝ }
-{
-    let b = place(scan::tag(s, Step::Ok { next: at, far: at }, name));
-    let Found { part, next: e } = content(s, b, at, name, false, t);
-    let n = place(scan::blanks(s, Step::Ok { next: e, far: e }));
-    Found { part, next: n }
-}
-
 // Whether an element whose name starts so starts here.
 pub fn opens(s: &[u8], at: usize, name: &[u8]) -> bool
-    ensures { λ r. ⌜ Opens (now (name .entry)) (now (s .entry)) at r ⌝ }
+    ensures { λ r. ⌜ There (tagOf (now (name .entry))) (now (s .entry)) at r ⌝ }
 {
     match scan::tag(s, Step::Ok { next: at, far: at }, name) {
         Step::Ok { next: _, far: _ } => true,
@@ -88,12 +152,11 @@ pub fn opens(s: &[u8], at: usize, name: &[u8]) -> bool
 }
 
 // A leaf that may be missing, and the blanks after it.
-pub fn leaf_maybe(s: &[u8], at: usize, name: &[u8], t: &[u8; 256]) -> FoundMaybe
-    requires { ⌜ ClassTable (now t) ⌝ }
+pub fn leaf_maybe(s: &[u8], at: usize, name: &[u8]) -> FoundMaybe
     ensures { λ r. ⌜ FindsMaybe (now (name .entry)) (now (s .entry)) at r ⌝ }
 {
     if opens(s, at, name) {
-        let Found { part, next } = leaf(s, at, name, t);
+        let Found { part, next } = leaf(s, at, name);
         return FoundMaybe {
             part: Maybe::Present(part),
             next,
@@ -105,31 +168,332 @@ pub fn leaf_maybe(s: &[u8], at: usize, name: &[u8], t: &[u8; 256]) -> FoundMaybe
     }
 }
 
-// A qualifier, and where what follows it starts.
+// ---- elements that hold elements
+
+// Past the rest of a start tag, to the first child or the end tag.
+fn enter(s: &[u8], at: usize) -> usize
+    ensures { λ r. ⌜ Ends entering (Not isBlank) (now (s .entry)) at r ⌝ }
+{
+    let a = past(s, blanks(s, at), 1);
+    blanks(s, a)
+}
+
+// Past an end tag and the blanks after it.
+fn leave(s: &[u8], at: usize, name: &[u8]) -> usize
+    ensures { λ r. ⌜ Ends (leaving (now (name .entry))) (Not isBlank) (now (s .entry)) at r ⌝ }
+{
+    let a = close(s, at, name);
+    blanks(s, a)
+}
+
+// An element that may be missing, or written `<X/>`: where its children stand if it is `long`, and what follows it if it isn't.
+pub struct Opened {
+    pub present: bool,
+    pub long: bool,
+    pub first: usize,
+}
+
+fn children(s: &[u8], at: usize, name: &[u8]) -> Opened
+    ensures { λ r. ⌜ OpensSo (now (name .entry)) (now (s .entry)) at r ⌝ }
+{
+    if opens(s, at, name) {
+        let a = tag(s, at, name);
+        let h = blanks(s, a);
+        if peek(s, h) == b'/' {
+            let b = past(s, h, 2);
+            return Opened {
+                present: true,
+                long: false,
+                first: blanks(s, b),
+            };
+        }
+        let b = past(s, h, 1);
+        return Opened {
+            present: true,
+            long: true,
+            first: blanks(s, b),
+        };
+    }
+    Opened {
+        present: false,
+        long: false,
+        first: at,
+    }
+}
+
+// Past the end tag of such an element.
+fn shut(s: &[u8], at: usize, name: &[u8], long: bool) -> usize
+    ensures { λ r. ⌜ Ends (shutting (now (name .entry)) long) (Not isBlank) (now (s .entry)) at r ⌝ }
+{
+    if long {
+        return leave(s, at, name);
+    }
+    at
+}
+
+// ---- qualifiers and features
+
 pub struct FoundQualifier {
     pub name: Part,
     pub value: Maybe,
     pub next: usize,
 }
 
-pub fn qualifier(s: &[u8], at: usize, t: &[u8; 256]) -> FoundQualifier
-    requires { ⌜ ClassTable (now t) ⌝ }
+pub fn qualifier(s: &[u8], at: usize) -> FoundQualifier
     ensures { λ r. ⌜ FindsQualifier (now (s .entry)) at r ⌝ }
 {
-    let a = scan::tag(s, Step::Ok { next: at, far: at }, b"INSDQualifier");
-    let h = place(layout::enter(s, a));
+    let a = tag(s, at, b"INSDQualifier");
+    let b = enter(s, a);
     let Found {
         part: name,
-        next: b,
-    } = leaf(s, h, b"INSDQualifier_name", t);
+        next: c,
+    } = leaf(s, b, b"INSDQualifier_name");
     let FoundMaybe {
         part: value,
-        next: c,
-    } = leaf_maybe(s, b, b"INSDQualifier_value", t);
-    let n = place(layout::leave(s, Step::Ok { next: c, far: c }, b"INSDQualifier"));
+        next: d,
+    } = leaf_maybe(s, c, b"INSDQualifier_value");
     FoundQualifier {
         name,
         value,
-        next: n,
+        next: leave(s, d, b"INSDQualifier"),
+    }
+}
+
+// A feature's texts, and where its qualifiers stand. `long` says how its qualifiers end.
+pub struct FoundFeature {
+    pub key: Part,
+    pub location: Part,
+    pub quals: usize,
+    pub long: bool,
+}
+
+pub fn feature(s: &[u8], at: usize) -> FoundFeature
+    ensures { λ r. ⌜ FindsFeature (now (s .entry)) at r ⌝ }
+{
+    let a = tag(s, at, b"INSDFeature");
+    let b = enter(s, a);
+    let Found { part: key, next: c } = leaf(s, b, b"INSDFeature_key");
+    let Found {
+        part: location,
+        next: d,
+    } = leaf(s, c, b"INSDFeature_location");
+    let Opened {
+        present: _,
+        long,
+        first: quals,
+    } = children(s, d, b"INSDFeature_quals");
+    FoundFeature {
+        key,
+        location,
+        quals,
+        long,
+    }
+}
+
+// From behind its last qualifier past the end of a feature.
+pub fn feature_end(s: &[u8], at: usize, long: bool) -> usize
+    ensures { λ r. ⌜ Ends (featureTail long) (Not isBlank) (now (s .entry)) at r ⌝ }
+{
+    let a = shut(s, at, b"INSDFeature_quals", long);
+    leave(s, a, b"INSDFeature")
+}
+
+// Whether a qualifier stands here, and not the end of the list.
+pub fn qualifier_here(s: &[u8], at: usize) -> bool
+    ensures { λ r. ⌜ There (bytes "<INSDQualifier") (now (s .entry)) at r ⌝ }
+{
+    opens(s, at, b"INSDQualifier")
+}
+
+// Past the qualifiers that stand here.
+fn qualifiers_over(s: &[u8], first: usize) -> usize
+    ensures { λ r. ⌜ Over (each (Form.child Form.qualifier)) (Starts closing) (now (s .entry)) first r ⌝ }
+{
+    let mut at = first;
+    loop {
+        if qualifier_here(s, at) {
+            let FoundQualifier {
+                name: _,
+                value: _,
+                next,
+            } = qualifier(s, at);
+            if next <= at {
+                return at;
+            }
+            at = next;
+        } else {
+            return at;
+        }
+    }
+}
+
+// Whether a feature stands here, and not the end of the list.
+pub fn feature_here(s: &[u8], at: usize) -> bool
+    ensures { λ r. ⌜ There (bytes "<INSDFeature") (now (s .entry)) at r ⌝ }
+{
+    opens(s, at, b"INSDFeature")
+}
+
+// Past a feature.
+pub fn feature_over(s: &[u8], at: usize) -> usize
+    ensures { λ r. ⌜ Over (Form.child Form.feature) (Not isBlank) (now (s .entry)) at r ⌝ }
+{
+    let FoundFeature {
+        key: _,
+        location: _,
+        quals,
+        long,
+    } = feature(s, at);
+    let a = qualifiers_over(s, quals);
+    feature_end(s, a, long)
+}
+
+// Past the features that stand here.
+fn features_over(s: &[u8], first: usize) -> usize
+    ensures { λ r. ⌜ Over (each (Form.child Form.feature)) (Starts closing) (now (s .entry)) first r ⌝ }
+{
+    let mut at = first;
+    loop {
+        if feature_here(s, at) {
+            let next = feature_over(s, at);
+            if next <= at {
+                return at;
+            }
+            at = next;
+        } else {
+            return at;
+        }
+    }
+}
+
+// ---- sequences
+
+// A feature table that may be missing: its place, and where its features stand.
+pub struct FoundTable {
+    pub present: bool,
+    pub place: usize,
+    pub first: usize,
+    pub next: usize,
+}
+
+fn table(s: &[u8], at: usize) -> FoundTable
+    ensures { λ r. ⌜ FindsTable (now (s .entry)) at r ⌝ }
+{
+    if opens(s, at, b"INSDSeq_feature-table") {
+        let a = tag(s, at, b"INSDSeq_feature-table");
+        let first = enter(s, a);
+        let b = features_over(s, first);
+        return FoundTable {
+            present: true,
+            place: at,
+            first,
+            next: leave(s, b, b"INSDSeq_feature-table"),
+        };
+    }
+    FoundTable {
+        present: false,
+        place: at,
+        first: at,
+        next: at,
+    }
+}
+
+// An attribute.
+fn attribute(s: &[u8], at: usize, name: &[u8]) -> Found
+    ensures { λ r. ⌜ FindsAttribute (now (name .entry)) (now (s .entry)) at r ⌝ }
+{
+    let a = past(s, blanks(s, at), name.len());
+    let from = past(s, a, 2);
+    let to = until(s, from, b'"');
+    Found {
+        part: Part { from, to },
+        next: past(s, to, 1),
+    }
+}
+
+// Past other-seqids, and whether they are there.
+pub struct FoundIds {
+    pub present: bool,
+    pub next: usize,
+}
+
+fn other_ids(s: &[u8], at: usize) -> FoundIds
+    ensures { λ r. ⌜ FindsIds (now (s .entry)) at r ⌝ }
+{
+    let Opened {
+        present,
+        long,
+        first,
+    } = children(s, at, b"INSDSeq_other-seqids");
+    let FoundMaybe { part: _, next } = leaf_maybe(s, first, b"INSDSeqid");
+    FoundIds {
+        present,
+        next: shut(s, next, b"INSDSeq_other-seqids", long),
+    }
+}
+
+pub struct FoundSequence {
+    pub number: Part,
+    pub declared: Part,
+    pub moltype: Part,
+    pub division: Part,
+    pub ids: bool,
+    pub table: FoundTable,
+    pub residues: Part,
+    pub next: usize,
+}
+
+pub fn sequence(s: &[u8], at: usize) -> FoundSequence
+    ensures { λ r. ⌜ FindsSequence (now (s .entry)) at r ⌝ }
+{
+    let a = tag(s, at, b"SequenceData");
+    let Found {
+        part: number,
+        next: b,
+    } = attribute(s, a, b"sequenceIDNumber");
+    let c = enter(s, b);
+    let d = tag(s, c, b"INSDSeq");
+    let e = enter(s, d);
+    let Found {
+        part: declared,
+        next: f,
+    } = leaf(s, e, b"INSDSeq_length");
+    let Found {
+        part: moltype,
+        next: g,
+    } = leaf(s, f, b"INSDSeq_moltype");
+    let Found {
+        part: division,
+        next: h,
+    } = leaf(s, g, b"INSDSeq_division");
+    let FoundIds {
+        present: ids,
+        next: i,
+    } = other_ids(s, h);
+    let FoundTable {
+        present,
+        place,
+        first,
+        next: j,
+    } = table(s, i);
+    let Found {
+        part: residues,
+        next: k,
+    } = leaf(s, j, b"INSDSeq_sequence");
+    let l = leave(s, k, b"INSDSeq");
+    FoundSequence {
+        number,
+        declared,
+        moltype,
+        division,
+        ids,
+        table: FoundTable {
+            present,
+            place,
+            first,
+            next: j,
+        },
+        residues,
+        next: leave(s, l, b"SequenceData"),
     }
 }

@@ -1,6 +1,6 @@
--- `walk::opens` meets its contract: the tag is read, or it is not there.
+-- `walk::opens` meets its contract: the scan's reading of the tag.
 use Rattle.scan.proofs.Steps.{step-is}
-use Rattle.walk.proofs.Leaves.{opens-there, opens-not}
+use Rattle.walk.proofs.Leaves.{there-so, there-not}
 use borrow.Author.Needs.{needs}
 use Rattle.walk.proofs.opens.Statement.{statement}
 use Rattle.walk.proofs.opens.Tie as tie
@@ -15,10 +15,10 @@ enum-told-2 : tie.Need-enum-told-2
 enum-told-2 c = search needs
 
 returns : tie.Need-returns
-returns c = opens-there (step-is (c .before .before .tag .ensures) (c .enum-told .given .1))
+returns c = there-so (step-is (c .before .before .tag .ensures) (c .enum-told .given .1))
 
 returns-2 : tie.Need-returns-2
-returns-2 c = opens-not (step-is (c .before .before .tag .ensures) (c .enum-told2 .given .1))
+returns-2 c = there-not (step-is (c .before .before .tag .ensures) (c .enum-told2 .given .1))
 
 pub opens-spec : {M : Type 1} → statement M
 opens-spec = tie.close (tie.spec tag-requires enum-told enum-told-2 returns returns-2)

@@ -13,9 +13,6 @@ tag-requires c κs = search needs
 enter-requires : tie.Need-enter-requires
 enter-requires c κs = search needs
 
-place-requires : tie.Need-place-requires
-place-requires c κs = search needs
-
 slice-aggregate-leaf : tie.Need-slice-aggregate-leaf
 slice-aggregate-leaf c = search needs
 
@@ -34,13 +31,8 @@ slice-aggregate-leave c = search needs
 leave-requires : tie.Need-leave-requires
 leave-requires c κs = search needs
 
-place-requires-2 : tie.Need-place-requires-2
-place-requires-2 c κs = search needs
-
 returns : tie.Need-returns
-returns c =
-    qualifier-found (c .before .before .before .before .before .before .before .before .before .before .tag .ensures) (c .before .before .before .before .before .before .before .before .before .enter .ensures) (c .before .before .before .before .before .before .before .before .place .ensures) (c .before .before .before .before .before .before .leaf .ensures) (c .before .before .before .leaf-maybe .ensures)
-    (c .before .leave .ensures) (c .place2 .ensures)
+returns c = qualifier-found (c .before .before .before .before .before .before .before .before .tag .ensures) (c .before .before .before .before .before .before .before .enter .ensures) (c .before .before .before .before .before .leaf .ensures) (c .before .before .leaf-maybe .ensures) (c .leave .ensures)
 
 pub qualifier-spec : {M : Type 1} → statement M
 qualifier-spec =
@@ -49,12 +41,10 @@ qualifier-spec =
     slice-aggregate-tag
     tag-requires
     enter-requires
-    place-requires
     slice-aggregate-leaf
     leaf-requires
     slice-aggregate-leaf-maybe
     leaf-maybe-requires
     slice-aggregate-leave
     leave-requires
-    place-requires-2
     returns)

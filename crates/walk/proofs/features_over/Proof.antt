@@ -1,0 +1,56 @@
+-- `walk::features_over` meets its contract. The loop's invariant: what is left of the list stands at `at`. The measure is what is left of the text.
+use Prim.Native.Nat.{_-_, _≤_}
+use native.Mathlib.Omega.{arith}
+use denote.Ref.{now}
+use lib.ListN.{length}
+use Rattle.paper.specs.Bytes.{bytes}
+use Rattle.paper.specs.Layout.{child, feature}
+use mathlib.Core.Path.{refl}
+use Rattle.scan.specs.Follow.{closing}
+use Rattle.walk.proofs.Sequences.{feature-leads}
+use Rattle.walk.proofs.Loops.{Left, there-inside, over-next, over-stuck, over-done}
+use borrow.Author.Needs.{needs}
+use Rattle.walk.proofs.features_over.Statement.{statement}
+use Rattle.walk.proofs.features_over.Tie as tie
+
+abbrev Inv-loop : tie.InvT-loop
+Inv-loop s first at₀ at = Left (child feature) closing s first at
+
+abbrev μ-loop : tie.MeasureT-loop
+μ-loop s first at₀ at = length s - at
+
+loop-holds : tie.Need-loop-holds Inv-loop μ-loop
+loop-holds c = record { is = λ l e d fol. (l, d) }
+
+feature-here-requires : tie.Need-feature-here-requires Inv-loop μ-loop
+feature-here-requires c κs = search needs
+
+feature-over-requires : tie.Need-feature-over-requires Inv-loop μ-loop
+feature-over-requires c κs = search needs
+
+returns : tie.Need-returns Inv-loop μ-loop
+returns c =
+    over-stuck (bytes "INSDFeature") (child feature) feature-leads closing (record { clash = refl; sharps = refl }) (c .before .before .if1 .taken) (c .before .before .before .feature-here .ensures) (c .before .before .before .before .loop .inv) (c .before .feature-over .ensures) (c .if2 .taken)
+
+loop-less : tie.Need-loop-less Inv-loop μ-loop
+loop-less c = omega (arith, there-inside 60 (bytes "INSDFeature") (now (c .before .before .before .before .before .before .args .s)) (c .before .before .before .before .loop .at) (c .before .before .if1 .taken) (c .before .before .before .feature-here .ensures))
+
+loop-again : tie.Need-loop-again Inv-loop μ-loop
+loop-again c = over-next (bytes "INSDFeature") (child feature) feature-leads closing (record { clash = refl; sharps = refl }) (c .before .before .if1 .taken) (c .before .before .before .feature-here .ensures) (c .before .before .before .before .loop .inv) (c .before .feature-over .ensures)
+
+returns-2 : tie.Need-returns-2 Inv-loop μ-loop
+returns-2 c = over-done (bytes "INSDFeature") (child feature) feature-leads closing (record { clash = refl; sharps = refl }) (c .if1 .left) (c .before .feature-here .ensures) (c .before .before .loop .inv)
+
+pub features-over-spec : {M : Type 1} → statement M
+features-over-spec =
+    tie.close
+    (tie.spec
+    Inv-loop
+    μ-loop
+    loop-holds
+    feature-here-requires
+    feature-over-requires
+    returns
+    loop-less
+    loop-again
+    returns-2)

@@ -1,0 +1,17 @@
+-- `walk::leave` meets its contract.
+use Rattle.walk.proofs.Items.{leave-ends}
+use borrow.Author.Needs.{needs}
+use Rattle.walk.proofs.leave.Statement.{statement}
+use Rattle.walk.proofs.leave.Tie as tie
+
+close-requires : tie.Need-close-requires
+close-requires c κs = search needs
+
+blanks-requires : tie.Need-blanks-requires
+blanks-requires c κs = search needs
+
+returns : tie.Need-returns
+returns c = leave-ends (c .before .close .ensures) (c .blanks .ensures)
+
+pub leave-spec : {M : Type 1} → statement M
+leave-spec = tie.close (tie.spec close-requires blanks-requires returns)
