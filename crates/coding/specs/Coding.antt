@@ -1,0 +1,37 @@
+-- What is promised of the judgement of a coding region.
+use Prim.Native.Nat.{ℕ}
+use mathlib.Core.Path.{_≡_}
+use mathlib.Core.List.{List}
+use lib.ListN.{drop}
+use Rattle.paper.specs.Form.{each}
+use Rattle.paper.specs.Layout.{child, qualifier}
+use Rattle.paper.specs.Tree.{Sequence, Feature, qualifiersOf}
+use Rattle.paper.specs.Rules.{L, Coding, Unjudged}
+use Rattle.scan.specs.Follow.{Starts, closing}
+use Rattle.walk.specs.Stands.{Stands, IsPart}
+use Rattle.walk.specs.declared.Part.{Part}
+use Rattle.value.specs.Reading.{Tells}
+use Rattle.location.specs.Judging.{Judged}
+use Rattle.location.specs.declared.judging.Verdict.{Verdict}
+use Rattle.judging.specs.Sets.{Firsts, InCoding}
+use Rattle.judging.specs.Known.{Knows}
+use Rattle.judging.specs.declared.Known.{Known}
+use Rattle.coding.specs.declared.Region.{Region}
+
+-- the feature f of the sequence q is the coding region that is judged, and its qualifiers stand from `first` to `stop`
+pub record Asked (s : List ℕ) (key : ℕ) (location : Part) (first : ℕ) (known : Known) (verdict : Verdict) (q : Sequence ℕ) (f : Feature ℕ) (stop : ℕ) : Type 0 where
+  pub knows : Knows s q known
+  pub coding : Coding q f
+  pub at : key ≡ f .key .place
+  pub located : IsPart s (f .location) location
+  pub judged : Judged (L q) (f .location .read) verdict
+  pub quals : Stands (each (child qualifier) (qualifiersOf f)) s first stop
+  pub closes : Starts closing (drop stop s)
+
+pub record IsRegion (q : Sequence ℕ) (f : Feature ℕ) (stop : ℕ) (r : Region) : Type 0 where
+  pub fault : Firsts (InCoding q f) (r .fault)
+  pub unjudged : Tells (r .unjudged) (Unjudged f)
+  pub next : r .next ≡ stop
+
+pub record JudgesCoding (s : List ℕ) (key : ℕ) (location : Part) (first : ℕ) (known : Known) (verdict : Verdict) (r : Region) : Type 0 where
+  pub says : (q : Sequence ℕ) (f : Feature ℕ) (stop : ℕ) → Asked s key location first known verdict q f stop → IsRegion q f stop r

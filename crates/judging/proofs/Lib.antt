@@ -1,0 +1,3 @@
+pub mod Faults
+pub mod Bytes
+pub mod Seen

@@ -1,0 +1,3 @@
+-- What the contracts of the judge's parts cite.
+pub mod Sets
+pub mod Known
