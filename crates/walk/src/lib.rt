@@ -306,7 +306,7 @@ pub fn qualifier_here(s: &[u8], at: usize) -> bool
 }
 
 // Past the qualifiers that stand here.
-fn qualifiers_over(s: &[u8], first: usize) -> usize
+pub fn qualifiers_over(s: &[u8], first: usize) -> usize
     ensures { λ r. ⌜ Over (each (Form.child Form.qualifier)) (Starts closing) (now (s .entry)) first r ⌝ }
 {
     let mut at = first;
