@@ -1,3 +1,5 @@
 pub mod Faults
 pub mod Bytes
 pub mod Seen
+pub mod Moltypes
+pub mod Values

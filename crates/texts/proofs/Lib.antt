@@ -1,0 +1,3 @@
+pub mod Sizes
+pub mod Empties
+pub mod Sums
