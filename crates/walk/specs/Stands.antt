@@ -190,3 +190,53 @@ pub record IsSequence (s : List ℕ) (q : Sequence ℕ) (e : ℕ) (r : FoundSequ
 
 abbrev pub FindsSequence : List ℕ → ℕ → FoundSequence → Type 0
 FindsSequence s at r = (q : Sequence ℕ) (e : ℕ) → Stands (child sequence q) s at e → Not isBlank (drop e s) → IsSequence s q e r
+
+-- ---- the header
+
+-- the texts that some header values are asked of
+abbrev pub officeIn : Option (Identification ℕ) → Option (Text ℕ)
+officeIn none = none
+officeIn (some x) = x .office
+
+abbrev pub filedIn : Option (Identification ℕ) → Option (Text ℕ)
+filedIn none = none
+filedIn (some x) = x .filed
+
+abbrev pub languageIn : Option (Party ℕ) → Option (Text ℕ)
+languageIn none = none
+languageIn (some x) = some (x .name .languageCode)
+
+abbrev pub identifiedBy : Heading ℕ → Option (Identification ℕ)
+identifiedBy (reference t) = none
+identifiedBy (application x t) = some x
+
+abbrev pub FindsAttributeMaybe : List ℕ → List ℕ → ℕ → FoundMaybe → Type 0
+FindsAttributeMaybe name s at r =
+    Named name → (l : List (List ℕ)) → clashes name l ≡ true → (o : Option (Text ℕ)) (e : ℕ) → Stands (attribute? name o) s at e → Starts l (skip (drop e s)) → IsMaybe s o e r
+
+abbrev pub FindsSpoken : List ℕ → List ℕ → ℕ → Found → Type 0
+FindsSpoken name s at r = (x : Spoken ℕ) (e : ℕ) → Stands (child (spoken name) x) s at e → Not isBlank (drop e s) → IsFound s (x .languageCode) e r
+
+-- what stands behind the header: the titles, the total, the sequences
+pub record Behind (s : List ℕ) (l : Listing ℕ) (at : ℕ) : Type 0 where
+  pub stop : ℕ
+  pub titles : Stands (each (child (spoken (bytes "InventionTitle"))) (l .titles)) s at stop
+  pub next : ℕ
+  pub total : Stands (child (leaf (bytes "SequenceTotalQuantity")) (l .total)) s stop next
+  pub end : ℕ
+  pub sequences : Stands (each (child sequence) (l .sequences)) s next end
+  pub closes : Starts closing (drop end s)
+
+pub record IsHeader (s : List ℕ) (l : Listing ℕ) (r : FoundHeader) : Type 0 where
+  pub version : IsPart s (l .dtdVersion) (r .version)
+  pub produced : MaybeIs s (l .productionDate) (r .produced)
+  pub office : MaybeIs s (officeIn (identifiedBy (l .heading))) (r .office)
+  pub filed : MaybeIs s (filedIn (identifiedBy (l .heading))) (r .filed)
+  pub first-office : MaybeIs s (officeIn (l .earliest)) (r .first_office)
+  pub first-filed : MaybeIs s (filedIn (l .earliest)) (r .first_filed)
+  pub applicant : MaybeIs s (languageIn (l .applicant)) (r .applicant)
+  pub inventor : MaybeIs s (languageIn (l .inventor)) (r .inventor)
+  pub behind : Behind s l (r .titles)
+
+abbrev pub FindsHeader : List ℕ → FoundHeader → Type 0
+FindsHeader s r = (l : Listing ℕ) → LaidOut l s → IsHeader s l r

@@ -497,3 +497,56 @@ pub fn sequence(s: &[u8], at: usize) -> FoundSequence
         next: leave(s, l, b"SequenceData"),
     }
 }
+
+// Whether a sequence stands here, and not the end of the list.
+pub fn sequence_here(s: &[u8], at: usize) -> bool
+    ensures { λ r. ⌜ There (bytes "<SequenceData") (now (s .entry)) at r ⌝ }
+{
+    opens(s, at, b"SequenceData")
+}
+
+// ---- the header
+
+// An attribute that may be missing.
+fn attribute_maybe(s: &[u8], at: usize, name: &[u8]) -> FoundMaybe
+    ensures { λ r. ⌜ FindsAttributeMaybe (now (name .entry)) (now (s .entry)) at r ⌝ }
+{
+    if there(s, blanks(s, at), name) {
+        let Found { part, next } = attribute(s, at, name);
+        return FoundMaybe {
+            part: Maybe::Present(part),
+            next,
+        };
+    }
+    FoundMaybe {
+        part: Maybe::Absent,
+        next: at,
+    }
+}
+
+// The languageCode of a text that has one, and what follows the text.
+fn spoken(s: &[u8], at: usize, name: &[u8]) -> Found
+    ensures { λ r. ⌜ FindsSpoken (now (name .entry)) (now (s .entry)) at r ⌝ }
+{
+    let a = tag(s, at, name);
+    let Found { part, next: b } = attribute(s, a, b"languageCode");
+    let Found { part: _, next: c } = content(s, b, at, name, true);
+    Found {
+        part,
+        next: blanks(s, c),
+    }
+}
+
+// Whether a title stands here, and not the total.
+pub fn title_here(s: &[u8], at: usize) -> bool
+    ensures { λ r. ⌜ There (bytes "<InventionTitle") (now (s .entry)) at r ⌝ }
+{
+    opens(s, at, b"InventionTitle")
+}
+
+// The languageCode of a title.
+pub fn title(s: &[u8], at: usize) -> Found
+    ensures { λ r. ⌜ FindsSpoken (bytes "InventionTitle") (now (s .entry)) at r ⌝ }
+{
+    spoken(s, at, b"InventionTitle")
+}
