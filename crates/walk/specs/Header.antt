@@ -99,8 +99,8 @@ FindsHeading s at r = (h : Heading ℕ) (e : ℕ) → Stands (heading h) s at e 
 pub record IsParties (s : List ℕ) (l : Listing ℕ) (e : ℕ) (r : FoundParties) : Type 0 where
   pub office : MaybeIs s (officeIn (identifiedBy (l .heading))) (r .office)
   pub filed : MaybeIs s (filedIn (identifiedBy (l .heading))) (r .filed)
-  pub first-office : MaybeIs s (officeIn (l .earliest)) (r .first_office)
-  pub first-filed : MaybeIs s (filedIn (l .earliest)) (r .first_filed)
+  pub first-office : MaybeIs s (officeIn (l .earliest)) (r .«first_office»)
+  pub first-filed : MaybeIs s (filedIn (l .earliest)) (r .«first_filed»)
   pub applicant : MaybeIs s (languageIn (l .applicant)) (r .applicant)
   pub inventor : MaybeIs s (languageIn (l .inventor)) (r .inventor)
   pub next : r .next ≡ e
@@ -129,8 +129,8 @@ pub record IsHeader (s : List ℕ) (l : Listing ℕ) (r : FoundHeader) : Type 0 
   pub produced : MaybeIs s (l .productionDate) (r .produced)
   pub office : MaybeIs s (officeIn (identifiedBy (l .heading))) (r .office)
   pub filed : MaybeIs s (filedIn (identifiedBy (l .heading))) (r .filed)
-  pub first-office : MaybeIs s (officeIn (l .earliest)) (r .first_office)
-  pub first-filed : MaybeIs s (filedIn (l .earliest)) (r .first_filed)
+  pub first-office : MaybeIs s (officeIn (l .earliest)) (r .«first_office»)
+  pub first-filed : MaybeIs s (filedIn (l .earliest)) (r .«first_filed»)
   pub applicant : MaybeIs s (languageIn (l .applicant)) (r .applicant)
   pub inventor : MaybeIs s (languageIn (l .inventor)) (r .inventor)
   pub behind : Behind s l (r .titles)

@@ -1,31 +1,24 @@
+-- `walk::attribute_maybe` meets its contract: the attribute, or nothing.
+use denote.Ref.{now}
+use Rattle.walk.proofs.Entries.{attribute-absent, attribute-present}
 use borrow.Author.Needs.{needs}
 use Rattle.walk.proofs.attribute_maybe.Statement.{statement}
 use Rattle.walk.proofs.attribute_maybe.Tie as tie
-use Rattle.walk.proofs.attribute_maybe.Reads as reads
-use Rattle.walk.proofs.attribute_maybe.Lts as lts
-use Rattle.walk.proofs.attribute.Reads as attribute-reads
-use Rattle.walk.proofs.blanks.Reads as blanks-reads
-use Rattle.walk.proofs.there.Reads as there-reads
 
--- src/lib.rt:515:17
 blanks-requires : tie.Need-blanks-requires
 blanks-requires c κs = search needs
 
--- src/lib.rt:515:8
 there-requires : tie.Need-there-requires
 there-requires c κs = search needs
 
--- src/lib.rt:516:36
 attribute-requires : tie.Need-attribute-requires
 attribute-requires c κs = search needs
 
--- src/lib.rt:517:9
 returns : tie.Need-returns
-returns c = search needs
+returns c = attribute-present (now (c .before .before .before .before .before .before .before .args .name)) (c .before .before .before .before .blanks .ensures) (c .before .before .if1 .taken) (c .before .before .before .there .ensures) (c .before .attribute .ensures)
 
--- src/lib.rt:512:1
 returns-2 : tie.Need-returns-2
-returns-2 c = search needs
+returns-2 c = attribute-absent (now (c .before .before .before .before .before .args .name)) (c .before .before .blanks .ensures) (c .if1 .left) (c .before .there .ensures)
 
 pub attribute-maybe-spec : {M : Type 1} → statement M
 attribute-maybe-spec =
