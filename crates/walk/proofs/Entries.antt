@@ -1,6 +1,5 @@
 -- Attributes, identifications and names that may be missing, the heading and the root's attributes, found by their parts.
 use Prim.Native.Nat.{ℕ, _+_}
-use native.Mathlib.Omega.{arith}
 use mathlib.Core.Path.{_≡_, refl, sym, ap, _∙_, subst}
 use mathlib.Core.Bool.{Bool, true, false}
 use mathlib.Core.List.{List, [], _∷_, _++_}
@@ -8,20 +7,20 @@ use mathlib.Core.Option.{Option, none, some}
 use lib.ListN.{length, drop}
 use lib.Seq.{drop-drop, drop-append-seam}
 use Rattle.paper.specs.Bytes.{bytes, isBlank, all}
-use Rattle.paper.specs.Form.{Form, lit, _·_, maybe}
-use Rattle.paper.specs.Tree.{Text, Spoken, Party, Identification, Heading, reference, application, Listing}
-use Rattle.paper.specs.Layout.{blanks, tag, attribute, attribute?, content, leaf, spoken, child, child?, holding, identification, heading, party, attributes, parties}
-use Rattle.scan.specs.Follow.{Not, Starts, anything, closing, sharp, clashes, skip}
+use Rattle.paper.specs.Form.{Form, _·_, maybe}
+use Rattle.paper.specs.Tree.{Text, Spoken, Party, Identification}
+use Rattle.paper.specs.Layout.{blanks, tag, attribute, attribute?, content, leaf, spoken, child, child?, holding, identification, party}
+use Rattle.scan.specs.Follow.{Not, Starts, anything, closing, sharp, skip}
 use Rattle.scan.specs.Texts.{allowedIn, Scanned}
 use Rattle.scan.proofs.Fronts.{Leads, leads-seq, leads-less, leads-sharp, starts-sharp, named-sharp}
 use Rattle.scan.proofs.Tags.{attribute-leads, spoken-element}
 use Rattle.walk.specs.Stands.{Stands, There, tagOf, Ends, Finds, FindsMaybe, IsMaybe, FindsAttribute, entering, leaving}
-use Rattle.walk.specs.Header.{FindsAttributeMaybe, tagEnd, FindsAttributes, FindsSpoken, FindsParty, IsIdentification, FindsIdentification, FindsIdentificationMaybe, identifiedBy, titled, inventing, applying, earlier, FindsHeading, FindsParties}
+use Rattle.walk.specs.Header.{FindsAttributeMaybe, tagEnd, FindsAttributes, FindsSpoken, FindsParty, FindsIdentification, FindsIdentificationMaybe}
 use Rattle.walk.specs.declared.Found.{Found}
 use Rattle.walk.specs.declared.FoundMaybe.{FoundMaybe}
 use Rattle.walk.specs.declared.Maybe.the-variants.{Absent, Present}
 use Rattle.walk.specs.declared.FoundIdentification.{FoundIdentification}
-use Rattle.walk.proofs.Places.{part, join, from, scan-end, run-ends}
+use Rattle.walk.proofs.Places.{part, from, scan-end, run-ends}
 use Rattle.walk.proofs.Leaves.{starts-at}
 use Rattle.walk.proofs.Items.{Sharp, held, absent-by, present-by, starts-by, missing-none, there-some, tag-starts, tag-leads, leaf-leads}
 

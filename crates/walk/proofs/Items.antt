@@ -3,19 +3,19 @@ use Prim.Native.Nat.{ℕ, _+_}
 use native.Mathlib.Omega.{arith}
 use mathlib.Core.Path.{_≡_, refl, sym, ap, _∙_, subst}
 use mathlib.Core.Bool.{Bool, true, false}
-use mathlib.Core.Logic.{_⊎_, inl, inr}
+use mathlib.Core.Logic.{inl, inr}
 use mathlib.Core.List.{List, [], _∷_, _++_, append-assoc}
 use mathlib.Core.Option.{Option, none, some}
-use lib.ListN.{length, drop, getD, length-append}
+use lib.ListN.{length, drop, getD}
 use Rattle.paper.specs.Bytes.{bytes, isBlank}
-use Rattle.paper.specs.Form.{Form, these, lit, run, _·_, _∪_, given, maybe, each}
+use Rattle.paper.specs.Form.{Form, lit, run, _·_, _∪_, given, maybe, each}
 use Rattle.paper.specs.Tree.{Text, Qualifier, listed}
 use Rattle.paper.specs.Layout.{blanks, tag, close, leaf, child, child?, holding, holding?, qualifier, quals}
 use Rattle.scan.specs.Follow.{Not, Starts, first, later, Before, anything, closing, clashes, sharp}
 use Rattle.scan.specs.Texts.{Scanned}
 use Rattle.scan.proofs.Fronts.{Leads, LeadsBy, leads-all, leads-seq, leads-less, leads-by, leads-sharp, whole, maybe-starts, each-starts, starts-sharp, starts-apart, starts-wider}
 use Rattle.scan.proofs.Tags.{close-leads, leaf-element}
-use Rattle.walk.specs.Stands.{Stands, Past, There, tagOf, isThere, Ends, Finds, FindsMaybe, entering, leaving, shutting, OpensSo, missing, empty, holds, FindsQualifier, FindsFeature, featureTail}
+use Rattle.walk.specs.Stands.{Stands, Past, There, tagOf, isThere, Ends, Finds, FindsMaybe, entering, leaving, shutting, OpensSo, missing, empty, holds, FindsQualifier, FindsFeature}
 use Rattle.walk.specs.declared.Found.{Found}
 use Rattle.walk.specs.declared.FoundMaybe.{FoundMaybe}
 use Rattle.walk.specs.declared.Maybe.the-variants.{Absent, Present}

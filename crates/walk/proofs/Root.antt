@@ -5,28 +5,28 @@ use native.Mathlib.Omega.{arith}
 use mathlib.Core.Path.{_≡_, refl, sym, ap, _∙_, subst}
 use mathlib.Core.Bool.{Bool, true, false, _&&_, not, and-eq-true-iff}
 use mathlib.Core.List.{List, [], _∷_, _++_, append-assoc, append-nil}
-use mathlib.Core.Option.{Option, none, some}
+use mathlib.Core.Option.{Option, some}
 use lib.ListN.{length, drop}
 use lib.Seq.{drop-length}
 use lib.Dec.{eqb}
 use borrow.Author.Tests.{eqb-true}
 use Rattle.paper.specs.Bytes.{bytes, isBlank, all}
 use Rattle.paper.specs.Form.{Form, these, lit, run, _·_, maybe, each, each⁺}
-use Rattle.paper.specs.Tree.{Text, Spoken, Party, Identification, Heading, reference, application, Sequence, Listing}
-use Rattle.paper.specs.Layout.{blanks, gap, tag, close, attribute, attribute?, leaf, spoken, child, child?, holding, identification, heading, party, sequence, attributes, parties, root, doctype, document, LaidOut}
+use Rattle.paper.specs.Tree.{Text, Party, Heading, reference, application, Sequence, Listing}
+use Rattle.paper.specs.Layout.{blanks, gap, tag, close, leaf, spoken, child, child?, holding, identification, heading, party, sequence, attributes, parties, root, doctype, document, LaidOut}
 use Rattle.paper.proofs.Texts.{all-append}
-use Rattle.scan.specs.Follow.{Not, Starts, anything, closing, skip}
+use Rattle.scan.specs.Follow.{Not, Starts, anything, skip}
 use Rattle.scan.specs.Texts.{Scanned}
 use Rattle.scan.proofs.Fronts.{false-true, Leads, leads-all, leads-seq, leads-less, leads-sharp, skip-blanks, skip-none, gap-blank}
 use Rattle.walk.specs.Stands.{Stands, Past, others, tagOf, Ends, FindsMaybe, entering}
-use Rattle.walk.specs.Header.{FindsParty, FindsIdentificationMaybe, identifiedBy, titled, inventing, applying, earlier, FindsHeading, FindsParties, tagEnd, FindsAttributes, line, FindsHeader}
+use Rattle.walk.specs.Header.{FindsParty, FindsIdentificationMaybe, identifiedBy, titled, inventing, applying, earlier, FindsHeading, FindsParties, tagEnd, FindsAttributes, line, Behind, FindsHeader}
 use Rattle.walk.specs.declared.FoundMaybe.{FoundMaybe}
 use Rattle.walk.specs.declared.FoundIdentification.{FoundIdentification}
 use Rattle.walk.specs.declared.FoundAttributes.{FoundAttributes}
 use Rattle.walk.specs.declared.FoundParties.{FoundParties}
 use Rattle.walk.proofs.Places.{part, join, wider, from}
 use Rattle.walk.proofs.Leaves.{starts-at, no-blank}
-use Rattle.walk.proofs.Items.{Sharp, inside, upto-ends, tag-starts, leaf-leads}
+use Rattle.walk.proofs.Items.{Sharp, Inside, inside, upto-ends, tag-starts, leaf-leads}
 use Rattle.walk.proofs.Sequences.{some-each}
 use Rattle.walk.proofs.Entries.{spoken-leads, party-leads, identification-leads}
 
@@ -241,10 +241,48 @@ module _ (l : Listing ℕ) where
   root-leads : Leads (tagOf Root) (root l)
   root-leads = leads-seq (tagOf Root) (tag Root · attributes l) (holding Root Children) (leads-seq (tagOf Root) (tag Root) (attributes l) (leads-all (tagOf Root)))
 
--- a listing stands from the first byte to the last
-standing : (l : Listing ℕ) (s : List ℕ) → LaidOut l s → Stands (document l) s 0 (length s)
-standing l s d =
-    record { word = s; laid = d .is; size = omega arith; here = sym (ap (λ (u : List ℕ). s ++ u) (drop-length s) ∙ append-nil s) }
+-- a listing stands from the first byte to the last, and its root behind the two lines
+root-at : (l : Listing ℕ) {s : List ℕ} {a b : ℕ} → LaidOut l s → Ends line (Not isBlank) s 0 a → Ends line (Not isBlank) s a b
+    → (m : ℕ) × Stands (root l) s b m × Stands blanks s m (length s)
+root-at l {s} laid p q =
+    let d : Stands (document l) s 0 (length s) =
+    record { word = s; laid = laid .is; size = omega arith; here = sym (ap (λ (u : List ℕ). s ++ u) (drop-length s) ∙ append-nil s) } in
+    let k4 = part (First · blanks · doctype · blanks · root l) blanks d in
+    let k3 = part (First · blanks · doctype · blanks) (root l) (k4 .1) in
+    let k2 = part (First · blanks · doctype) blanks (k3 .1) in
+    let k1 = part (First · blanks) doctype (k2 .1) in
+    let ea = p .is (k1 .0) (lined First first-lined (k1 .1)) (no-blank (bytes "<") refl doctype-leads (k1 .2)) in
+    let eb = q .is (k3 .0) (from ea (lined doctype doctype-lined (join (k1 .2) (k2 .2)))) (no-blank (tagOf Root) refl (root-leads l) (k3 .2)) in
+    (k4 .0, from eb (k3 .2), k4 .2)
+
+-- the children in two: what stands before the titles, and what stands behind
+record Split (l : Listing ℕ) (s : List ℕ) (at : ℕ) : Type 0 where
+  end : ℕ
+  before : Stands (parties l) s at end
+  follows : Starts titled (drop end s)
+  behind : Behind s l end
+
+split-children : (l : Listing ℕ) {s : List ℕ} {at e : ℕ} → Inside Root (Children l) s at e → Split l s at
+split-children l o =
+    let title = child (spoken (bytes "InventionTitle")) in
+    let k3 = part (parties l · T l · Q l) (S l) (o .children) in
+    let k2 = part (parties l · T l) (Q l) (k3 .1) in
+    let k1 = part (parties l) (T l) (k2 .1) in
+    record {
+      end = k1 .0;
+      before = k1 .1;
+      follows = starts-at (bytes "<InventionTitle") (some-leads (bytes "<InventionTitle") title (spoken-leads (bytes "InventionTitle")) (l .titles)) (k1 .2);
+      behind =
+          record {
+            stop = k2 .0;
+            titles = wider (some-each title (l .titles)) (k1 .2);
+            next = k3 .0;
+            total = k2 .2;
+            end = o .end;
+            sequences = wider (some-each (child sequence) (l .sequences)) (k3 .2);
+            closes = o .closes;
+          };
+    }
 
 pub header-found : {s : List ℕ} {a b c e : ℕ} {x : FoundAttributes} {y : FoundParties} → Ends line (Not isBlank) s 0 a → Ends line (Not isBlank) s a b
     → Ends (tag Root) anything s b c → FindsAttributes s c x → Ends entering (Not isBlank) s (x .next) e → FindsParties s e y
@@ -261,22 +299,12 @@ pub header-found : {s : List ℕ} {a b c e : ℕ} {x : FoundAttributes} {y : Fou
       titles = y .next;
     })
 header-found {s} p q t fa i fp l laid =
-    let k4 = part (First · blanks · doctype · blanks · root l) blanks (standing l s laid) in
-    let k3 = part (First · blanks · doctype · blanks) (root l) (k4 .1) in
-    let k2 = part (First · blanks · doctype) blanks (k3 .1) in
-    let k1 = part (First · blanks) doctype (k2 .1) in
-    let ea = p .is (k1 .0) (lined First first-lined (k1 .1)) (no-blank (bytes "<") refl doctype-leads (k1 .2)) in
-    let eb = q .is (k3 .0) (from ea (lined doctype doctype-lined (join (k1 .2) (k2 .2)))) (no-blank (tagOf Root) refl (root-leads l) (k3 .2)) in
-    let r2 = part (tag Root · attributes l) (holding Root (Children l)) (k3 .2) in
-    let r1 = part (tag Root) (attributes l) (r2 .1) in
-    let ec = t .is (r1 .0) (from eb (r1 .1)) tt in
-    let f = fa l (r2 .0) (from ec (r1 .2)) (holding-starts Root (Children l) (r2 .2)) in
-    let o = inside Root (Children l) (children-sharp l) i (from (f .next) (r2 .2)) (k4 .2) in
-    let c3 = part (parties l · T l · Q l) (S l) (o .children) in
-    let c2 = part (parties l · T l) (Q l) (c3 .1) in
-    let c1 = part (parties l) (T l) (c2 .1) in
-    let g = fp l (c1 .0) (c1 .1)
-    (starts-at (bytes "<InventionTitle") (some-leads (bytes "<InventionTitle") (child (spoken (bytes "InventionTitle"))) (spoken-leads (bytes "InventionTitle")) (l .titles)) (c1 .2)) in
+    let d = root-at l laid p q in
+    let k2 = part (tag Root · attributes l) (holding Root (Children l)) (d .1) in
+    let k1 = part (tag Root) (attributes l) (k2 .1) in
+    let f = fa l (k2 .0) (from (t .is (k1 .0) (k1 .1) tt) (k1 .2)) (holding-starts Root (Children l) (k2 .2)) in
+    let o = split-children l (inside Root (Children l) (children-sharp l) i (from (f .next) (k2 .2)) (d .2)) in
+    let g = fp l (o .end) (o .before) (o .follows) in
     record {
       version = f .version;
       produced = f .produced;
@@ -286,14 +314,5 @@ header-found {s} p q t fa i fp l laid =
       first-filed = g .first-filed;
       applicant = g .applicant;
       inventor = g .inventor;
-      behind =
-          record {
-            stop = c2 .0;
-            titles = from (g .next) (wider (some-each (child (spoken (bytes "InventionTitle"))) (l .titles)) (c1 .2));
-            next = c3 .0;
-            total = c2 .2;
-            end = o .end;
-            sequences = wider (some-each (child sequence) (l .sequences)) (c3 .2);
-            closes = o .closes;
-          };
+      behind = subst (Behind s l) (sym (g .next)) (o .behind);
     }

@@ -1,19 +1,18 @@
 -- Features passed over, feature tables and sequences, found by their parts.
-use Prim.Native.Nat.{ℕ, _+_}
-use native.Mathlib.Omega.{arith}
-use mathlib.Core.Path.{_≡_, refl, sym, ap, _∙_, subst}
+use Prim.Native.Nat.{ℕ}
+use mathlib.Core.Path.{_≡_, refl, sym, _∙_, subst}
 use mathlib.Core.Bool.{Bool, true, false}
 use mathlib.Core.List.{List, [], _∷_, _++_}
 use mathlib.Core.Option.{Option, none, some}
 use lib.ListN.{length, drop}
-use Rattle.paper.specs.Bytes.{bytes, isBlank, isPrinted, all}
-use Rattle.paper.specs.Form.{Form, these, one, lit, _·_, maybe, each, each⁺}
-use Rattle.paper.specs.Tree.{Text, Qualifier, Feature, Table, Sequence, qualifiersOf}
-use Rattle.paper.specs.Layout.{blanks, gap, text, tag, close, attribute, leaf, child, child?, holding, holding?, qualifier, quals, feature, table, otherIds, inner, sequence}
-use Rattle.scan.specs.Follow.{Not, Starts, Before, Named, anything, closing, sharp}
+use Rattle.paper.specs.Bytes.{bytes, isBlank, isPrinted}
+use Rattle.paper.specs.Form.{Form, these, lit, _·_, each, each⁺}
+use Rattle.paper.specs.Tree.{Text, Feature, Table, Sequence, qualifiersOf}
+use Rattle.paper.specs.Layout.{blanks, gap, text, tag, attribute, leaf, child, child?, holding, holding?, qualifier, quals, feature, table, otherIds, inner, sequence}
+use Rattle.scan.specs.Follow.{Not, Starts, Named, anything, closing}
 use Rattle.scan.specs.Texts.{Scanned}
-use Rattle.scan.proofs.Fronts.{Leads, leads-all, leads-seq, leads-less, leads-by, leads-sharp, whole, maybe-starts, each-starts, first-starts, starts-sharp, named-sharp, gap-blank}
-use Rattle.walk.specs.Stands.{Stands, Past, There, tagOf, isThere, others, Ends, Over, Finds, FindsMaybe, FindsQualifier, FindsFeature, entering, leaving, shutting, OpensSo, featureTail, FindsAttribute, FindsIds, FindsTable, FindsSequence, residuesNext, tableNext}
+use Rattle.scan.proofs.Fronts.{Leads, leads-all, leads-seq, leads-less, leads-by, leads-sharp, whole, maybe-starts, each-starts, starts-sharp, named-sharp, gap-blank}
+use Rattle.walk.specs.Stands.{Stands, Past, There, others, Ends, Over, Finds, FindsMaybe, FindsQualifier, FindsFeature, entering, leaving, shutting, OpensSo, featureTail, FindsAttribute, FindsIds, FindsTable, FindsSequence, residuesNext, tableNext}
 use Rattle.walk.specs.declared.Found.{Found}
 use Rattle.walk.specs.declared.FoundMaybe.{FoundMaybe}
 use Rattle.walk.specs.declared.FoundQualifier.{FoundQualifier}
@@ -21,7 +20,7 @@ use Rattle.walk.specs.declared.FoundFeature.{FoundFeature}
 use Rattle.walk.specs.declared.FoundIds.{FoundIds}
 use Rattle.walk.specs.declared.FoundTable.{FoundTable}
 use Rattle.walk.specs.declared.Opened.{Opened}
-use Rattle.walk.proofs.Places.{part, join, wider, before, from, past-these, split, scan-end, run-ends}
+use Rattle.walk.proofs.Places.{part, join, wider, before, from, past-these, split, scan-end}
 use Rattle.walk.proofs.Leaves.{starts-at, no-blank, text-found, free-quote}
 use Rattle.walk.proofs.Items.{Sharp, inside, held, within, missing-none, there-some, tag-starts, tag-leads, leaf-leads}
 
