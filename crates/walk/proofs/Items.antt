@@ -3,39 +3,45 @@ use Prim.Native.Nat.{ℕ, _+_}
 use native.Mathlib.Omega.{arith}
 use mathlib.Core.Path.{_≡_, refl, sym, ap, _∙_, subst}
 use mathlib.Core.Bool.{Bool, true, false}
-use mathlib.Core.Logic.{_⊎_, inl, inr}
+use mathlib.Core.Logic.{inl, inr}
 use mathlib.Core.List.{List, [], _∷_, _++_, append-assoc}
 use mathlib.Core.Option.{Option, none, some}
-use lib.ListN.{length, drop, getD, length-append}
+use lib.ListN.{length, drop, getD}
 use Rattle.paper.specs.Bytes.{bytes, isBlank}
-use Rattle.paper.specs.Form.{Form, these, lit, _·_, _∪_, given, maybe, each}
+use Rattle.paper.specs.Form.{Form, lit, run, _·_, _∪_, given, maybe, each}
 use Rattle.paper.specs.Tree.{Text, Qualifier, listed}
 use Rattle.paper.specs.Layout.{blanks, tag, close, leaf, child, child?, holding, holding?, qualifier, quals}
-use Rattle.scan.specs.Follow.{Not, Starts, first, later, Before, anything, closing, sharp}
+use Rattle.scan.specs.Follow.{Not, Starts, first, later, Before, anything, closing, clashes, sharp}
 use Rattle.scan.specs.Texts.{Scanned}
-use Rattle.scan.proofs.Fronts.{Leads, leads-all, leads-seq, leads-less, leads-by, leads-starts, leads-sharp, whole, maybe-starts, each-starts, starts-sharp, starts-apart, starts-wider}
+use Rattle.scan.proofs.Fronts.{Leads, LeadsBy, leads-all, leads-seq, leads-less, leads-by, leads-sharp, whole, maybe-starts, each-starts, starts-sharp, starts-apart, starts-wider}
 use Rattle.scan.proofs.Tags.{close-leads, leaf-element}
-use Rattle.walk.specs.Stands.{Stands, Past, There, tagOf, isThere, Ends, Finds, FindsMaybe, entering, leaving, shutting, OpensSo, missing, empty, holds, FindsQualifier, FindsFeature, featureTail}
+use Rattle.walk.specs.Stands.{Stands, Past, There, tagOf, isThere, Ends, Finds, FindsMaybe, entering, leaving, shutting, OpensSo, missing, empty, holds, FindsQualifier, FindsFeature}
 use Rattle.walk.specs.declared.Found.{Found}
 use Rattle.walk.specs.declared.FoundMaybe.{FoundMaybe}
 use Rattle.walk.specs.declared.Maybe.the-variants.{Absent, Present}
 use Rattle.walk.specs.declared.Opened.{Opened}
 use Rattle.walk.proofs.Places.{part, join, wider, before, from, nothing-stands, past-these, run-ends}
-use Rattle.walk.proofs.Leaves.{no-blank, first-byte}
+use Rattle.walk.proofs.Leaves.{starts-at, no-blank, first-byte}
 
 -- ---- tags
 
-pub enter-ends : {s : List ℕ} {at h b r : ℕ} → Scanned isBlank s at (length s) h → Past s h 1 b → Scanned isBlank s b (length s) r
-    → Ends entering (Not isBlank) s at r
-enter-ends c p k =
+-- a run, a `>` that is not in it, and blanks
+pub upto-ends : (f : ℕ → Bool) {s : List ℕ} {at h b r : ℕ} → sharp f (bytes ">" ∷ []) ≡ true → Scanned f s at (length s) h → Past s h 1 b
+    → Scanned isBlank s b (length s) r → Ends (run f · lit ">" · blanks) (Not isBlank) s at r
+upto-ends f {s} g c p k =
     record {
       is =
           λ e d fol.
-          let u = part (blanks · lit ">") blanks d in
-          let v = part blanks (lit ">") (u .1) in
-          let eh = run-ends isBlank c .is (v .0) (v .1) (no-blank (bytes ">") refl (leads-all (bytes ">")) (v .2)) in
+          let u = part (run f · lit ">") blanks d in
+          let v = part (run f) (lit ">") (u .1) in
+          let n = before (Not f) (v .2) (leads-sharp f (bytes ">") (lit ">") g (leads-all (bytes ">")) (v .0) (v .2 .word) (drop (u .0) s) (v .2 .laid)) in
+          let eh = run-ends f c .is (v .0) (v .1) n in
           run-ends isBlank k .is e (from (past-these (bytes ">") refl p (from eh (v .2))) (u .2)) fol;
     }
+
+pub enter-ends : {s : List ℕ} {at h b r : ℕ} → Scanned isBlank s at (length s) h → Past s h 1 b → Scanned isBlank s b (length s) r
+    → Ends entering (Not isBlank) s at r
+enter-ends c p k = upto-ends isBlank refl c p k
 
 pub leave-ends : {name s : List ℕ} {at a r : ℕ} → Ends (close name) anything s at a → Scanned isBlank s a (length s) r → Ends (leaving name) (Not isBlank) s at r
 leave-ends {name} p c =
@@ -61,16 +67,37 @@ tag-there name F {s} {at} {e} l d =
     let k = l at (d .word) (d .laid) in
     (k .0 ++ drop e s, d .here ∙ ap (λ (c : List ℕ). c ++ drop e s) (k .1) ∙ append-assoc (tagOf name) (k .0) (drop e s))
 
+-- F starts with the word k, seen by the view v. R is what is to be shown of an item that may be missing.
+module _ {A : Type 0} (v : List ℕ → List ℕ) (k : List ℕ) (F : A → Form) (lead : LeadsBy v k F) {s : List ℕ} {at : ℕ} where
+  pub absent-by : (R : Option A → ℕ → Type 0) → ((y : List ℕ) → v (drop at s) ≡ k ++ y → ⊥) → R none at
+      → (o : Option A) (e : ℕ) → Stands (maybe F o) s at e → R o e
+  absent-by R t n none e d = subst (R none) (nothing-stands d) n
+  absent-by R t n (some a) e d = let y = lead a at (d .word) (drop e s) (d .laid) in absurd (t (y .0) (ap v (d .here) ∙ y .1))
+
+  pub present-by : (R : Option A → ℕ → Type 0) (l : List (List ℕ)) → clashes k l ≡ true → (y : List ℕ) × (v (drop at s) ≡ k ++ y)
+      → ((a : A) (e : ℕ) → Stands (F a) s at e → Starts l (v (drop e s)) → R (some a) e)
+      → (o : Option A) (e : ℕ) → Stands (maybe F o) s at e → Starts l (v (drop e s)) → R o e
+  present-by R l c t h none e d fol =
+      absurd (starts-apart k l (v (drop e s)) (t .0) c (ap (λ (i : ℕ). v (drop i s)) (sym (nothing-stands d)) ∙ t .1) fol)
+  present-by R l c t h (some a) e d fol = h a e d fol
+
+  -- what it and the words after it start with
+  pub starts-by : (l : List (List ℕ)) (o : Option A) {e : ℕ} → Stands (maybe F o) s at e → Starts l (v (drop e s)) → Starts (k ∷ l) (v (drop at s))
+  starts-by l o {e} d fol = before (λ (z : List ℕ). Starts (k ∷ l) (v z)) d (maybe-starts v k F lead l o at (d .word) (drop e s) (d .laid) fol)
+
 -- where the tag is not there no such item stands, and where it is one does
 module _ {A : Type 0} (name : List ℕ) (F : A → Form) (leads : (a : A) → Leads (tagOf name) (F a)) {s : List ℕ} {at e : ℕ} where
   pub missing-none : There (tagOf name) s at false → (o : Option A) → Stands (maybe F o) s at e → (o ≡ none) × (at ≡ e)
-  missing-none t none d = (refl, nothing-stands d)
-  missing-none t (some a) d = let k = tag-there name (F a) (leads a) d in absurd (t (k .0) (k .1))
+  missing-none t o d = absent-by whole (tagOf name) F (leads-by (tagOf name) F leads) (λ (i : Option A) (j : ℕ). (i ≡ none) × (at ≡ j)) t (refl, refl) o e d
 
   pub there-some : (l : List (List ℕ)) → Before name l → Starts l (drop e s) → There (tagOf name) s at true → (o : Option A) → Stands (maybe F o) s at e
       → (a : A) × (o ≡ some a) × Stands (F a) s at e
-  there-some l b fol t none d = absurd (starts-apart (tagOf name) l (drop e s) (t .0) (b .clash) (ap (λ (i : ℕ). drop i s) (sym (nothing-stands d)) ∙ t .1) fol)
-  there-some l b fol t (some a) d = (a, refl, d)
+  there-some l b fol t o d =
+      present-by whole (tagOf name) F (leads-by (tagOf name) F leads) (λ (i : Option A) (j : ℕ). (a : A) × (i ≡ some a) × Stands (F a) s at j)
+      l (b .clash) t (λ a j g n. (a, refl, g)) o e d fol
+
+  pub tag-starts : (l : List (List ℕ)) (o : Option A) → Stands (maybe F o) s at e → Starts l (drop e s) → Starts (tagOf name ∷ l) (drop at s)
+  tag-starts l o d fol = starts-by whole (tagOf name) F (leads-by (tagOf name) F leads) l o d fol
 
 pub leaf-leads : (name : List ℕ) (x : Text ℕ) → Leads (tagOf name) (child (leaf name) x)
 leaf-leads name x = leads-seq (tagOf name) (leaf name x) blanks (leaf-element name .leads x)
@@ -98,7 +125,7 @@ pub record Inside (name : List ℕ) (C : Form) (s : List ℕ) (r e : ℕ) : Type
   pub leaves : Stands (leaving name) s end e
 
 closes-at : (name : List ℕ) {s : List ℕ} {at e : ℕ} → Stands (close name) s at e → Starts closing (drop at s)
-closes-at name {s} {at} {e} d = before (Starts closing) d (leads-starts (bytes "</") (close name) (close-leads name) at (d .word) (drop e s) (d .laid))
+closes-at name d = starts-at (bytes "</") (close-leads name) d
 
 -- no blank stands before the children
 abbrev pub Sharp : Form → Type 0
@@ -250,10 +277,7 @@ qualifier-found {s} p i name value l q e d fol =
     let o = held (bytes "INSDQualifier") (N · W) (λ at w z c e. leaf-sharp (bytes "INSDQualifier_name") (q .name) W at w z c) p i d in
     let k = part N W (o .children) in
     let st : Starts (bytes "<INSDQualifier_value" ∷ closing) (drop (k .0) s) =
-    before (Starts (bytes "<INSDQualifier_value" ∷ closing)) (k .2)
-    (maybe-starts whole (bytes "<INSDQualifier_value") (child (leaf (bytes "INSDQualifier_value")))
-    (leads-by (bytes "<INSDQualifier_value") (child (leaf (bytes "INSDQualifier_value"))) (leaf-leads (bytes "INSDQualifier_value")))
-    closing (q .value) (k .0) (k .2 .word) (drop (o .end) s) (k .2 .laid) (o .closes)) in
+    tag-starts (bytes "INSDQualifier_value") (child (leaf (bytes "INSDQualifier_value"))) (leaf-leads (bytes "INSDQualifier_value")) closing (q .value) (k .2) (o .closes) in
     let fn = name (q .name) (k .0) (k .1) (starts-sharp isBlank (bytes "<INSDQualifier_value" ∷ closing) refl (drop (k .0) s) st) in
     let fv = value closing (record { clash = refl; sharps = refl }) (q .value) (o .end) (from (fn .next) (k .2)) (o .closes) in
     record { name = fn .part; value = fv .part; next = l .is e (from (fv .next) (o .leaves)) fol }
@@ -287,9 +311,7 @@ feature-found {s} {y = y} {r = r} p i key location o f e d fol =
     let k = part (K · L) Q (u .children) in
     let j = part K L (k .1) in
     let st : Starts (bytes "<INSDFeature_quals" ∷ closing) (drop (k .0) s) =
-    before (Starts (bytes "<INSDFeature_quals" ∷ closing)) (k .2)
-    (maybe-starts whole (bytes "<INSDFeature_quals") (child quals) (leads-by (bytes "<INSDFeature_quals") (child quals) quals-leads)
-    closing (f .quals) (k .0) (k .2 .word) (drop (u .end) s) (k .2 .laid) (u .closes)) in
+    tag-starts (bytes "INSDFeature_quals") (child quals) quals-leads closing (f .quals) (k .2) (u .closes) in
     let fk = key (f .key) (j .0) (j .1) (no-blank (bytes "<INSDFeature_location") refl (leaf-leads (bytes "INSDFeature_location") (f .location)) (j .2)) in
     let fl = location (f .location) (k .0) (from (fk .next) (j .2)) (starts-sharp isBlank (bytes "<INSDFeature_quals" ∷ closing) refl (drop (k .0) s) st) in
     let c = within (bytes "INSDFeature_quals") (λ (l : List (Qualifier ℕ)). l ≡ []) (each (child qualifier)) quals-sharp

@@ -1,7 +1,7 @@
 -- A tag, a text and a leaf found again, each from what is promised of its parts.
 use Prim.Native.Nat.{ℕ, suc, _+_}
 use native.Mathlib.Omega.{arith}
-use mathlib.Core.Path.{_≡_, refl, sym, ap, _∙_, subst}
+use mathlib.Core.Path.{_≡_, refl, sym, ap, _∙_}
 use mathlib.Core.Bool.{Bool, true, false, not}
 use mathlib.Core.Logic.{inl, inr}
 use mathlib.Core.List.{List, [], _∷_, _++_}
@@ -13,16 +13,20 @@ use Rattle.paper.specs.Tree.{Text}
 use Rattle.paper.specs.Layout.{blanks, text, tag, close, content, leaf, child}
 use Rattle.paper.proofs.Texts.{spell-cases, raw-all}
 use Rattle.scan.specs.Reads.{Passes}
-use Rattle.scan.specs.Follow.{Not, anything, sharp}
+use Rattle.scan.specs.Follow.{Not, Starts, anything, sharp}
 use Rattle.scan.specs.Texts.{allowedIn, Scanned}
 use Rattle.scan.specs.declared.Step.the-variants.{Ok, Fail}
-use Rattle.scan.proofs.Fronts.{Leads, leads-all, leads-sharp}
+use Rattle.scan.proofs.Fronts.{Leads, leads-all, leads-starts, leads-sharp}
 use Rattle.scan.proofs.Tags.{Body, Long, body-sharp, close-leads, long-leads}
 use Rattle.walk.specs.Stands.{Stands, Past, There, others, Ends, Finds, IsPart, IsFound}
 use Rattle.walk.specs.declared.Found.{Found}
 use Rattle.walk.proofs.Places.{part, before, from, past-these, pasts, scan-end, run-ends}
 
 -- ---- what a text starts with
+
+-- a word that each text of F starts with
+pub starts-at : (k : List ℕ) {F : Form} {s : List ℕ} {at e : ℕ} → Leads k F → Stands F s at e → Starts (k ∷ []) (drop at s)
+starts-at k {F} {s} {at} {e} l d = before (Starts (k ∷ [])) d (leads-starts k F l at (d .word) (drop e s) (d .laid))
 
 -- what starts with such a word starts with no blank
 pub no-blank : (k : List ℕ) {F : Form} {s : List ℕ} {at e : ℕ} → sharp isBlank (k ∷ []) ≡ true → Leads k F → Stands F s at e → Not isBlank (drop at s)

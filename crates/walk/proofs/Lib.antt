@@ -3,3 +3,5 @@ pub mod Leaves
 pub mod Items
 pub mod Loops
 pub mod Sequences
+pub mod Entries
+pub mod Root

@@ -1,19 +1,18 @@
 -- Features passed over, feature tables and sequences, found by their parts.
-use Prim.Native.Nat.{ℕ, _+_}
-use native.Mathlib.Omega.{arith}
-use mathlib.Core.Path.{_≡_, refl, sym, ap, _∙_, subst}
+use Prim.Native.Nat.{ℕ}
+use mathlib.Core.Path.{_≡_, refl, sym, _∙_, subst}
 use mathlib.Core.Bool.{Bool, true, false}
 use mathlib.Core.List.{List, [], _∷_, _++_}
 use mathlib.Core.Option.{Option, none, some}
 use lib.ListN.{length, drop}
-use Rattle.paper.specs.Bytes.{bytes, isBlank, isPrinted, all}
-use Rattle.paper.specs.Form.{Form, these, one, lit, _·_, maybe, each, each⁺}
-use Rattle.paper.specs.Tree.{Text, Qualifier, Feature, Table, Sequence, qualifiersOf}
-use Rattle.paper.specs.Layout.{blanks, gap, text, tag, close, attribute, leaf, child, child?, holding, holding?, qualifier, quals, feature, table, otherIds, inner, sequence}
-use Rattle.scan.specs.Follow.{Not, Starts, Before, Named, anything, closing, sharp}
+use Rattle.paper.specs.Bytes.{bytes, isBlank, isPrinted}
+use Rattle.paper.specs.Form.{Form, these, lit, _·_, each, each⁺}
+use Rattle.paper.specs.Tree.{Text, Feature, Table, Sequence, qualifiersOf}
+use Rattle.paper.specs.Layout.{blanks, gap, text, tag, attribute, leaf, child, child?, holding, holding?, qualifier, quals, feature, table, otherIds, inner, sequence}
+use Rattle.scan.specs.Follow.{Not, Starts, Named, anything, closing}
 use Rattle.scan.specs.Texts.{Scanned}
-use Rattle.scan.proofs.Fronts.{Leads, leads-all, leads-seq, leads-less, leads-by, leads-starts, leads-sharp, whole, maybe-starts, each-starts, first-starts, starts-sharp, named-sharp, gap-blank}
-use Rattle.walk.specs.Stands.{Stands, Past, There, tagOf, isThere, others, Ends, Over, Finds, FindsMaybe, FindsQualifier, FindsFeature, entering, leaving, shutting, OpensSo, featureTail, FindsAttribute, FindsIds, FindsTable, FindsSequence, residuesNext, tableNext}
+use Rattle.scan.proofs.Fronts.{Leads, leads-all, leads-seq, leads-less, leads-by, leads-sharp, whole, maybe-starts, each-starts, starts-sharp, named-sharp, gap-blank}
+use Rattle.walk.specs.Stands.{Stands, Past, There, others, Ends, Over, Finds, FindsMaybe, FindsQualifier, FindsFeature, entering, leaving, shutting, OpensSo, featureTail, FindsAttribute, FindsIds, FindsTable, FindsSequence, residuesNext, tableNext}
 use Rattle.walk.specs.declared.Found.{Found}
 use Rattle.walk.specs.declared.FoundMaybe.{FoundMaybe}
 use Rattle.walk.specs.declared.FoundQualifier.{FoundQualifier}
@@ -21,9 +20,9 @@ use Rattle.walk.specs.declared.FoundFeature.{FoundFeature}
 use Rattle.walk.specs.declared.FoundIds.{FoundIds}
 use Rattle.walk.specs.declared.FoundTable.{FoundTable}
 use Rattle.walk.specs.declared.Opened.{Opened}
-use Rattle.walk.proofs.Places.{part, join, wider, before, from, past-these, split, scan-end, run-ends}
-use Rattle.walk.proofs.Leaves.{no-blank, text-found, free-quote}
-use Rattle.walk.proofs.Items.{Sharp, inside, held, within, missing-none, there-some, tag-leads, leaf-leads}
+use Rattle.walk.proofs.Places.{part, join, wider, before, from, past-these, split, scan-end}
+use Rattle.walk.proofs.Leaves.{starts-at, no-blank, text-found, free-quote}
+use Rattle.walk.proofs.Items.{Sharp, inside, held, within, missing-none, there-some, tag-starts, tag-leads, leaf-leads}
 
 -- ---- an attribute
 
@@ -85,7 +84,7 @@ ids-found {s} o f t g e d fol =
 
 -- ---- a feature table
 
-some-each : {A : Type 0} (F : A → Form) (l : List A) (at : ℕ) (w : List ℕ) → each⁺ F l at w → each F l at w
+pub some-each : {A : Type 0} (F : A → Form) (l : List A) (at : ℕ) (w : List ℕ) → each⁺ F l at w → each F l at w
 some-each F [] at w d = absurd d
 some-each F (a ∷ l) at w d = d
 
@@ -189,17 +188,11 @@ sequence-found {s} {xn = xn} p pn i p' i' fd fm fb fi ft fr l l' q e st fol =
     let k3 = part (D q · M q · B q) (I q) (k4 .1) in
     let k2 = part (D q · M q) (B q) (k3 .1) in
     let k1 = part (D q) (M q) (k2 .1) in
-    let rs : Starts residuesNext (drop (k5 .0) s) =
-    before (Starts residuesNext) (k5 .2)
-    (leads-starts (bytes "<INSDSeq_sequence") (R q) (leaf-leads (bytes "INSDSeq_sequence") (q .residues)) (k5 .0) (k5 .2 .word) (drop (y .end) s) (k5 .2 .laid)) in
+    let rs : Starts residuesNext (drop (k5 .0) s) = starts-at (bytes "<INSDSeq_sequence") (leaf-leads (bytes "INSDSeq_sequence") (q .residues)) (k5 .2) in
     let ts : Starts tableNext (drop (k4 .0) s) =
-    before (Starts tableNext) (k4 .2)
-    (maybe-starts whole (bytes "<INSDSeq_feature-table") (child table) (leads-by (bytes "<INSDSeq_feature-table") (child table) table-leads)
-    residuesNext (q .table) (k4 .0) (k4 .2 .word) (drop (k5 .0) s) (k4 .2 .laid) rs) in
+    tag-starts (bytes "INSDSeq_feature-table") (child table) table-leads residuesNext (q .table) (k4 .2) rs in
     let is : Starts (bytes "<INSDSeq_other-seqids" ∷ tableNext) (drop (k3 .0) s) =
-    before (Starts (bytes "<INSDSeq_other-seqids" ∷ tableNext)) (k3 .2)
-    (maybe-starts whole (bytes "<INSDSeq_other-seqids") (child otherIds) (leads-by (bytes "<INSDSeq_other-seqids") (child otherIds) ids-leads)
-    tableNext (q .otherIds) (k3 .0) (k3 .2 .word) (drop (k4 .0) s) (k3 .2 .laid) ts) in
+    tag-starts (bytes "INSDSeq_other-seqids") (child otherIds) ids-leads tableNext (q .otherIds) (k3 .2) ts in
     let rd = fd (q .declared) (k1 .0) (k1 .1) (no-blank (bytes "<INSDSeq_moltype") refl (leaf-leads (bytes "INSDSeq_moltype") (q .moltype)) (k1 .2)) in
     let rm = fm (q .moltype) (k2 .0) (from (rd .next) (k1 .2)) (no-blank (bytes "<INSDSeq_division") refl (leaf-leads (bytes "INSDSeq_division") (q .division)) (k2 .2)) in
     let rb = fb (q .division) (k3 .0) (from (rm .next) (k2 .2)) (starts-sharp isBlank (bytes "<INSDSeq_other-seqids" ∷ tableNext) refl (drop (k3 .0) s) is) in

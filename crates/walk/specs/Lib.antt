@@ -1,1 +1,2 @@
 pub mod Stands
+pub mod Header
