@@ -1,0 +1,4 @@
+pub mod Keys
+pub mod Roles
+pub mod Tallies
+pub mod Tables

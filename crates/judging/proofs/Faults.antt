@@ -54,7 +54,7 @@ module _ {A : Type 0} (B : ℕ → A → Faults) where
   nth-front (y ∷ l) k zero x h = h
   nth-front (y ∷ l) k (suc i) x h = nth-front l k i x h
 
-  nth-split : (l : List A) (y : A) (i : ℕ) (x : A) → Nth (l ++ (y ∷ [])) i x → Nth l i x ⊎ ((i ≡ length l) × (x ≡ y))
+  pub nth-split : (l : List A) (y : A) (i : ℕ) (x : A) → Nth (l ++ (y ∷ [])) i x → Nth l i x ⊎ ((i ≡ length l) × (x ≡ y))
   nth-split [] y zero x h = inr (refl, h)
   nth-split [] y (suc i) x h = absurd h
   nth-split (z ∷ l) y zero x h = inl h
