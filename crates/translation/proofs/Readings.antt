@@ -4,7 +4,7 @@ use native.Mathlib.Nat.{suc-mul, mul-le-mul-right}
 use native.Mathlib.Omega.{arith}
 use mathlib.Core.Path.{_≡_, refl, sym, ap, _∙_, subst}
 use mathlib.Core.Bool.{Bool, true, false}
-use mathlib.Core.List.{List, [], _∷_, _++_, append-assoc, map, reverse}
+use mathlib.Core.List.{List, [], _∷_, _++_, map, reverse}
 use lib.ListN.{length, take, drop, getD}
 use lib.Seq.{slice, slice-empty, take-suc, drop-drop, drop-nil}
 use Rattle.paper.specs.Locations.{Location}
@@ -103,13 +103,18 @@ module _ {s loc : List ℕ} {L : ℕ} where
 
 -- ---- the next residue, and the next codon
 
--- y has the walk of x, and of its current span all but the residues d at its front
-pub record Passes (s : List ℕ) (x : Reading) (d : List ℕ) (y : Reading) : Type 0 where
+-- in the same walk the same spans are left behind the current one
+left-on : {s loc : List ℕ} {L : ℕ} {x y : Reading} {text : List ℕ} (h : TextLeft s loc L x text) → y .walk ≡ x .walk
+    → TextLeft s loc L y (current s y ++ codingText s (h .others))
+left-on {s} {loc} {L} h e = record { others = h .others; left = subst (λ (w : Walk). Left loc L w (h .others)) (sym e) (h .left); is = refl }
+
+-- y has the walk of x, and of its current span all but the residue a at its front
+pub record Passes (s : List ℕ) (x : Reading) (a : ℕ) (y : Reading) : Type 0 where
   pub order : y .low ≤ y .high
   pub inside : y .high ≤ length s
   pub walk : y .walk ≡ x .walk
   pub less : y .high - y .low < x .high - x .low
-  pub is : current s x ≡ d ++ current s y
+  pub is : current s x ≡ a ∷ current s y
 
 module _ (s : List ℕ) (x : Reading) (inside : x .high ≤ length s) where
   module _ (t : x .turned ≡ false) where
@@ -117,7 +122,7 @@ module _ (s : List ℕ) (x : Reading) (inside : x .high ≤ length s) where
     on-ahead = ap (λ (b : Bool). strand b (slice (x .low) (x .high) s)) t
 
     pub pass-ahead : x .low < x .high
-        → Passes s x (getD s (x .low) 0 ∷ []) (record { walk = x .walk; low = x .low + 1; high = x .high; turned = false })
+        → Passes s x (getD s (x .low) 0) (record { walk = x .walk; low = x .low + 1; high = x .high; turned = false })
     pass-ahead h =
         record { order = omega arith; inside = inside; walk = refl; less = omega arith; is = on-ahead ∙ first-ahead s (x .low) (x .high) h inside }
 
@@ -126,7 +131,7 @@ module _ (s : List ℕ) (x : Reading) (inside : x .high ≤ length s) where
     on-behind = ap (λ (b : Bool). strand b (slice (x .low) (x .high) s)) t
 
     pub pass-behind : x .low < x .high
-        → Passes s x (complementOf (getD s (x .high - 1) 0) ∷ []) (record { walk = x .walk; low = x .low; high = x .high - 1; turned = true })
+        → Passes s x (complementOf (getD s (x .high - 1) 0)) (record { walk = x .walk; low = x .low; high = x .high - 1; turned = true })
     pass-behind h =
         record { order = omega arith; inside = omega arith; walk = refl; less = omega arith; is = on-behind ∙ first-behind s (x .low) (x .high) h inside }
 
@@ -153,21 +158,21 @@ module _ (x : Reading) (k : ℕ) (h : x .low + 3 * k ≤ x .high) where
 
 -- ---- the letters of the current span
 
+span-fits : (s : List ℕ) (low high : ℕ) (turned : Bool) (k : ℕ) → low + 3 * k ≤ high → high ≤ length s → 3 * k ≤ length (strand turned (slice low high s))
+span-fits s low high turned k h i = omega (arith, strand-length s turned low high i)
+
 pub span-within : (s : List ℕ) (low high : ℕ) (turned : Bool) (k : ℕ) → low + 3 * k ≤ high → high ≤ length s → k ≤ length (spanLetters s low high turned)
 unfolding spanLetters
-span-within s low high turned k h i = letters-within (strand turned (slice low high s)) k (omega (arith, strand-length s turned low high i))
+span-within s low high turned k h i = letters-within (strand turned (slice low high s)) k (span-fits s low high turned k h i)
 
 module _ (s : List ℕ) (low high k : ℕ) (h : low + 3 * k + 3 ≤ high) (i : high ≤ length s) where
-  fits : (turned : Bool) → 3 * k ≤ length (strand turned (slice low high s))
-  fits turned = omega (arith, strand-length s turned low high i)
-
   pub letter-ahead : {turned : Bool} → turned ≡ false
       → codonLetter (getD s (low + 3 * k) 0) (getD s (low + 3 * k + 1) 0) (getD s (low + 3 * k + 2) 0) ≡ getD (spanLetters s low high turned) k 0
   unfolding spanLetters
   letter-ahead t =
       rw t
       (sym
-      (letters-at (slice low high s) k (fits false)
+      (letters-at (slice low high s) k (span-fits s low high false k (omega arith) i)
       (sym (drop-ahead s low high (3 * k)) ∙ three-ahead s (low + 3 * k) high (omega arith) i)))
 
   pub letter-behind : {turned : Bool} → turned ≡ true
@@ -177,14 +182,11 @@ module _ (s : List ℕ) (low high k : ℕ) (h : low + 3 * k + 3 ≤ high) (i : h
   letter-behind t =
       rw t
       (sym
-      (letters-at (reverse (map complementOf (slice low high s))) k (fits true)
+      (letters-at (reverse (map complementOf (slice low high s))) k (span-fits s low high true k (omega arith) i)
       (sym (drop-behind s low high (3 * k) (omega arith) i) ∙ three-behind s low (high - 3 * k) (omega arith) (omega arith))))
 
 -- k codons of it passed
 module _ (s : List ℕ) {x y : Reading} {k : ℕ} (r : Ready (length s) x) (o : Onward x k y) where
-  run-fits : 3 * k ≤ length (current s x)
-  run-fits = omega (arith, strand-length s (x .turned) (x .low) (x .high) (r .inside), o .size)
-
   pub run-falls : (m : ℕ) → residuesLeft (length s) m y + 3 * k ≤ residuesLeft (length s) m x
   unfolding residuesLeft
   run-falls m = rw (o .walk) (omega (arith, o .size))
@@ -197,34 +199,27 @@ module _ (s : List ℕ) {x y : Reading} {k : ℕ} (r : Ready (length s) x) (o : 
         gives = λ text h.
             let c = codingText s (h .others) in
             let w = current s x in
+            let n = span-fits s (x .low) (x .high) (x .turned) k (omega (arith, o .size, o .order)) (r .inside) in
             record {
               others = current s y ++ c;
               is = ap letters (h .is)
-                  ∙ letters-split w k run-fits c
+                  ∙ letters-split w k n c
                   ∙ ap (λ (l : List ℕ). take k (letters w) ++ letters (l ++ c)) (sym (o .is s (r .inside)));
-              left = record { others = h .others; left = subst (λ (v : Walk). Left loc L v (h .others)) (sym (o .walk)) (h .left); is = refl };
+              left = left-on h (o .walk);
             };
       }
 
 module _ {s loc : List ℕ} {L : ℕ} where
-  passed : {x y : Reading} (d : List ℕ) → Passes s x d y → (text : List ℕ) → TextLeft s loc L x text
-      → (o : List ℕ) × (text ≡ d ++ o) × TextLeft s loc L y o
-  passed {x} {y} d p text h =
-      let c = codingText s (h .others) in (
-        current s y ++ c,
-        h .is ∙ ap (λ (l : List ℕ). l ++ c) (p .is) ∙ append-assoc d (current s y) c,
-        record { others = h .others; left = subst (λ (w : Walk). Left loc L w (h .others)) (sym (p .walk)) (h .left); is = refl },
-      )
-
-  pub base-is : {x y z : Reading} {a b : ℕ} → Fills s loc L x y → Passes s y (a ∷ []) z → b < 16 → setBases b ≡ basesOf a → BaseIs s loc L x b z
+  pub base-is : {x y z : Reading} {a b : ℕ} → Fills s loc L x y → Passes s y a z → b < 16 → setBases b ≡ basesOf a → BaseIs s loc L x b z
   base-is {x} {y} {z} {a} f p h e =
       record {
         small = h;
         ready = record { order = p .order; inside = p .inside };
         falls = omega (arith, less-residues (length s) (length loc) y z (p .walk) (p .less), f .falls);
         gives = λ text t.
-            let q = passed (a ∷ []) p text (f .keeps text t) in
-            record { first = a; others = q .0; is = q .1; set = e; left = q .2 };
+            let u = f .keeps text t in
+            let c = codingText s (u .others) in
+            record { first = a; others = current s z ++ c; is = u .is ∙ ap (λ (l : List ℕ). l ++ c) (p .is); set = e; left = left-on u (p .walk) };
       }
 
   -- ---- residue by residue

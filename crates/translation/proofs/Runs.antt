@@ -8,7 +8,7 @@ use mathlib.Core.Bool.{Bool, true, false}
 use mathlib.Core.List.{List}
 use lib.Bits.{bitAnd, and-le-l, and-le-r}
 use lib.ListN.{length, getD, set}
-use lib.Seq.{paste, paste-zero, paste-suc}
+use lib.Seq.{paste-zero, paste-suc}
 use lib.Dec.{ltb}
 use borrow.Author.Tests.{ltb-true, ltb-false}
 use borrow.Author.Count.{below-more}

@@ -35,11 +35,11 @@ fn same(
     let whole = least((high - low) / 3, value.len() - from);
     let mut k: usize = 0;
     while k < whole {
-        let c = letter_at(r, low, high, turned, k, sets, turns, table);
-        if c == b'*' {
+        let a = letter_at(r, low, high, turned, k, sets, turns, table);
+        if a == b'*' {
             return k;
         }
-        if value[from + k] != c {
+        if value[from + k] != a {
             return k;
         }
         k += 1;
