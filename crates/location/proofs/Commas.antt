@@ -19,7 +19,7 @@ use Rattle.paper.specs.Locations.{Piece, point, before, after, range, site, num
 use Rattle.paper.proofs.Decimal.{digit-bounds}
 use Rattle.location.specs.Readings.{LastStart}
 use Rattle.location.specs.Walking.{Written}
-use Rattle.location.proofs.Stand.{raw-append}
+use Rattle.paper.proofs.Texts.{raw-append}
 
 abbrev noComma : ℕ → Bool
 noComma b = not (eqb b (code ","))

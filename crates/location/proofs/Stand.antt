@@ -8,12 +8,8 @@ use mathlib.Core.List.{List, [], _∷_, _++_, append-assoc, cons≢nil}
 use lib.ListN.{length, getD, drop, drop-of-length-le, length-append, length-drop}
 use lib.Seq.{drop-cons, drop-drop, drop-append-seam}
 use Rattle.paper.specs.Bytes.{spell, raw}
-use Rattle.paper.proofs.Texts.{unspell, unspell-spell, spell-some}
+use Rattle.paper.proofs.Texts.{unspell, unspell-spell, spell-some, raw-append}
 use Rattle.location.specs.Places.{Stands, Has}
-
-pub raw-append : (u z : List ℕ) → raw (u ++ z) ≡ raw u ++ raw z
-raw-append [] z = refl
-raw-append (b ∷ u) z = ap (λ (l : List ℕ). spell b ++ l) (raw-append u z) ∙ sym (append-assoc (spell b) (raw u) (raw z))
 
 -- a text whose bytes start with those of u starts with u
 raw-strip : (u w y : List ℕ) → raw w ≡ raw u ++ y → (z : List ℕ) × (w ≡ u ++ z) × (raw z ≡ y)

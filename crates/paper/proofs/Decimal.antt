@@ -99,7 +99,7 @@ number-decimal {n} {w = b ∷ z} x =
 pub number-once : {n m : ℕ} {w : List ℕ} → Number n w → Number m w → n ≡ m
 number-once x y = x .counts ∙ sym (y .counts)
 
-value-grows : (n : ℕ) (z : List ℕ) → n ≤ valueFrom n z
+pub value-grows : (n : ℕ) (z : List ℕ) → n ≤ valueFrom n z
 value-grows n [] = omega arith
 value-grows n (b ∷ z) = let h = value-grows (push n b) z in omega arith
 

@@ -2,7 +2,7 @@
 use Prim.Native.Nat.{ℕ, suc}
 use mathlib.Core.Path.{_≡_, refl, sym, ap, _∙_, subst}
 use mathlib.Core.Bool.{Bool, true, false, cond}
-use mathlib.Core.List.{List, [], _∷_, _++_, cons≢nil}
+use mathlib.Core.List.{List, [], _∷_, _++_, append-assoc, cons≢nil}
 use lib.ListN.{getD, drop}
 use lib.Dec.{eqb}
 use borrow.Author.Tests.{eqb-true}
@@ -67,6 +67,10 @@ raw-once (b ∷ v) (c ∷ w) e =
     let h : b ≡ c = ap (λ (x : ℕ × List ℕ). x .0) q in
     let t : v ≡ w = raw-once v w (ap (λ (x : ℕ × List ℕ). x .1) q) in
     λ i. h i ∷ t i
+
+pub raw-append : (u z : List ℕ) → raw (u ++ z) ≡ raw u ++ raw z
+raw-append [] z = refl
+raw-append (b ∷ u) z = ap (λ (l : List ℕ). spell b ++ l) (raw-append u z) ∙ sym (append-assoc (spell b) (raw u) (raw z))
 
 -- a text has at most one reading
 pub text-once : (allowed : ℕ → Bool) {at : ℕ} {w : List ℕ} (t u : Text ℕ) → text allowed t at w → text allowed u at w → t ≡ u

@@ -1,0 +1,64 @@
+-- What is promised of a raw part: it holds of whichever text as read the part is written from.
+use Prim.Native.Nat.{ℕ, _≤_, _<_}
+use mathlib.Core.Path.{_≡_}
+use mathlib.Core.Bool.{Bool, true, false}
+use mathlib.Core.List.{List}
+use lib.ListN.{length, getD}
+use lib.Dec.{eqb}
+use Rattle.paper.specs.Bytes.{bytes, raw}
+use Rattle.paper.specs.Lists.{Count}
+use Rattle.paper.specs.Rules.{dna, rna, aa, kindName, isSymbol}
+use Rattle.paper.specs.Rules as Rules
+use Rattle.value.specs.declared.Kind.{Kind}
+use Rattle.value.specs.declared.Kind.the-variants as kind
+
+-- r says whether A holds
+abbrev pub Tells : Bool → Type 0 → Type 0
+Tells true A = A
+Tells false A = ¬ A
+
+-- r says whether the text has the property
+pub record OfRead (w : List ℕ) (A : List ℕ → Type 0) (r : Bool) : Type 0 where
+  pub says : (v : List ℕ) → w ≡ raw v → Tells r (A v)
+
+-- ---- kinds
+
+-- a text names this kind
+abbrev pub Names : List ℕ → Rules.Kind → Type 0
+Names v k = v ≡ bytes (kindName k)
+
+abbrev pub KindIs : List ℕ → Kind → Type 0
+KindIs v kind.Dna = Names v dna
+KindIs v kind.Rna = Names v rna
+KindIs v kind.Aa = Names v aa
+KindIs v kind.Other = (k : Rules.Kind) → ¬ Names v k
+
+pub record Moltypes (w : List ℕ) (r : Kind) : Type 0 where
+  pub says : (v : List ℕ) → w ≡ raw v → KindIs v r
+
+-- ---- residues
+
+pub record Characters (w : List ℕ) (r : ℕ) : Type 0 where
+  pub says : (v : List ℕ) → w ≡ raw v → r ≡ length v
+
+-- the class of a kind's symbols
+abbrev pub symbolClass : Rules.Kind → ℕ
+symbolClass dna = 1
+symbolClass rna = 1
+symbolClass aa = 2
+
+-- at each byte the class whose symbol it is
+pub record SymbolTable (t : List ℕ) : Type 0 where
+  pub at-byte : (k : Rules.Kind) (b : ℕ) → b < 256 → eqb (getD t b 0) (symbolClass k) ≡ isSymbol k b
+
+-- every byte before r is a symbol of the kind, and the one at r, if there is one, isn't
+pub record FirstForeign (k : Rules.Kind) (w : List ℕ) (r : ℕ) : Type 0 where
+  pub inside : r ≤ length w
+  pub before : (i : ℕ) → i < r → isSymbol k (getD w i 0) ≡ true
+  pub there : r < length w → isSymbol k (getD w r 0) ≡ false
+
+pub record Symbols (w : List ℕ) (class r : ℕ) : Type 0 where
+  pub says : (k : Rules.Kind) → class ≡ symbolClass k → FirstForeign k w r
+
+pub record Defined (w : List ℕ) (undefined r : ℕ) : Type 0 where
+  pub says : Count (λ (b : ℕ). ¬ (b ≡ undefined)) w r

@@ -1,0 +1,315 @@
+// The values of texts: numbers, dates, codes, words and residues. Each test takes the raw part of the listing, and its promise speaks of
+// whichever text as read that part is written from. It relies on the paper alone, and knows no element of the listing.
+ghost use mathlib.Core.Path.{_≡_};
+ghost use Rattle.paper.specs.Values.{Number, Date, Two, isUpper, isLower, isLeap, daysIn};
+ghost use Rattle.paper.specs.Rules.{Whole};
+ghost use Rattle.value.specs.Reading.{Tells, OfRead, Moltypes, Characters, SymbolTable, Symbols, Defined};
+ghost use Rattle.value.specs.Parts.{between, twoDigits, Day};
+
+// What a moltype names.
+pub enum Kind {
+    Dna,
+    Rna,
+    Aa,
+    Other,
+}
+
+// The class of each byte, sixteen to a line: 1 for the symbols of DNA and RNA, 2 for those of AA, 0 for neither.
+const SYMBOLS: [u8; 256] = *b"\
+    \0\0\0\0\0\0\0\0\0\0\0\0\0\0\0\0\
+    \0\0\0\0\0\0\0\0\0\0\0\0\0\0\0\0\
+    \0\0\0\0\0\0\0\0\0\0\0\0\0\0\0\0\
+    \0\0\0\0\0\0\0\0\0\0\0\0\0\0\0\0\
+    \0\x02\x02\x02\x02\x02\x02\x02\x02\x02\x02\x02\x02\x02\x02\x02\
+    \x02\x02\x02\x02\x02\x02\x02\x02\x02\x02\x02\0\0\0\0\0\
+    \0\x01\x01\x01\x01\0\0\x01\x01\0\0\x01\0\x01\x01\0\
+    \0\0\x01\x01\x01\0\x01\x01\0\x01\0\0\0\0\0\0\
+    \0\0\0\0\0\0\0\0\0\0\0\0\0\0\0\0\
+    \0\0\0\0\0\0\0\0\0\0\0\0\0\0\0\0\
+    \0\0\0\0\0\0\0\0\0\0\0\0\0\0\0\0\
+    \0\0\0\0\0\0\0\0\0\0\0\0\0\0\0\0\
+    \0\0\0\0\0\0\0\0\0\0\0\0\0\0\0\0\
+    \0\0\0\0\0\0\0\0\0\0\0\0\0\0\0\0\
+    \0\0\0\0\0\0\0\0\0\0\0\0\0\0\0\0\
+    \0\0\0\0\0\0\0\0\0\0\0\0\0\0\0\0";
+
+// The table, with its rule: a caller takes it once and lends it on.
+pub fn symbol_table() -> [u8; 256]
+    ensures { λ r. ⌜ SymbolTable r ⌝ }
+{
+    SYMBOLS
+}
+
+// Whether two parts are the same bytes.
+pub fn same(w: &[u8], x: &[u8]) -> bool
+    ensures { λ r. ⌜ Tells r (now (w .entry) ≡ now (x .entry)) ⌝ }
+{
+    if w.len() != x.len() {
+        return false;
+    }
+    let mut i: usize = 0;
+    while i < w.len() {
+        if w[i] != x[i] {
+            return false;
+        }
+        i += 1;
+    }
+    true
+}
+
+// Whether these bytes are the number n. No value that is kept is above n, so none wraps.
+fn is_decimal(w: &[u8], n: usize) -> bool
+    ensures { λ r. ⌜ Tells r (Number n (now (w .entry))) ⌝ }
+{
+    if w.len() == 0 {
+        return false;
+    }
+    if w[0] == b'0' {
+        return false;
+    }
+    let mut v: usize = 0;
+    let mut i: usize = 0;
+    while i < w.len() {
+        let b = w[i];
+        if b < b'0' {
+            return false;
+        }
+        if b'9' < b {
+            return false;
+        }
+        if n / 10 < v {
+            return false;
+        }
+        let d = (b - b'0') as usize;
+        if n - v * 10 < d {
+            return false;
+        }
+        v = v * 10 + d;
+        i += 1;
+    }
+    v == n
+}
+
+// Whether it is the number n: "decimal digits, first not `0`, any length".
+pub fn is_number(w: &[u8], n: usize) -> bool
+    ensures { λ r. ⌜ OfRead (now (w .entry)) (Number n) r ⌝ }
+{
+    is_decimal(w, n)
+}
+
+fn within(b: u8, low: u8, high: u8) -> bool
+    ensures { λ r. ⌜ r ≡ between low high b ⌝ }
+{
+    if b < low {
+        return false;
+    }
+    b <= high
+}
+
+// The value of two digits; 100, which is no month, no day and no half of a year, where they are none.
+fn two_digits(a: u8, b: u8) -> usize
+    ensures { λ r. ⌜ r ≡ twoDigits a b ⌝ }
+{
+    if !within(a, b'0', b'9') {
+        return 100;
+    }
+    if !within(b, b'0', b'9') {
+        return 100;
+    }
+    (a - b'0') as usize * 10 + (b - b'0') as usize
+}
+
+fn is_leap(year: usize) -> bool
+    ensures { λ r. ⌜ r ≡ isLeap year ⌝ }
+{
+    if year % 4 != 0 {
+        return false;
+    }
+    if year % 100 != 0 {
+        return true;
+    }
+    year % 400 == 0
+}
+
+fn days_in(year: usize, month: usize) -> usize
+    ensures { λ r. ⌜ r ≡ daysIn year month ⌝ }
+{
+    if month == 2 {
+        if is_leap(year) {
+            return 29;
+        }
+        return 28;
+    }
+    if month == 4 {
+        return 30;
+    }
+    if month == 6 {
+        return 30;
+    }
+    if month == 9 {
+        return 30;
+    }
+    if month == 11 {
+        return 30;
+    }
+    31
+}
+
+// Whether there is such a day.
+fn is_day(year: usize, month: usize, day: usize) -> bool
+    ensures { λ r. ⌜ Tells r (Day year month day) ⌝ }
+{
+    if year < 1 {
+        return false;
+    }
+    if month < 1 {
+        return false;
+    }
+    if 12 < month {
+        return false;
+    }
+    if day < 1 {
+        return false;
+    }
+    day <= days_in(year, month)
+}
+
+// Whether it is "a real Gregorian CCYY-MM-DD, years 0001 to 9999".
+pub fn is_date(w: &[u8]) -> bool
+    ensures { λ r. ⌜ OfRead (now (w .entry)) Date r ⌝ }
+{
+    if w.len() != 10 {
+        return false;
+    }
+    if w[4] != b'-' {
+        return false;
+    }
+    if w[7] != b'-' {
+        return false;
+    }
+    let century = two_digits(w[0], w[1]);
+    if 99 < century {
+        return false;
+    }
+    let rest = two_digits(w[2], w[3]);
+    if 99 < rest {
+        return false;
+    }
+    let month = two_digits(w[5], w[6]);
+    let day = two_digits(w[8], w[9]);
+    is_day(century * 100 + rest, month, day)
+}
+
+// Whether it is two bytes from `low` to `high`.
+fn is_two(w: &[u8], low: u8, high: u8) -> bool
+    ensures { λ r. ⌜ Tells r (Two (between low high) (now (w .entry))) ⌝ }
+{
+    if w.len() != 2 {
+        return false;
+    }
+    if !within(w[0], low, high) {
+        return false;
+    }
+    within(w[1], low, high)
+}
+
+// "two letters A to Z"
+pub fn is_office(w: &[u8]) -> bool
+    ensures { λ r. ⌜ OfRead (now (w .entry)) (Two isUpper) r ⌝ }
+{
+    is_two(w, b'A', b'Z')
+}
+
+// "two letters a to z"
+pub fn is_language(w: &[u8]) -> bool
+    ensures { λ r. ⌜ OfRead (now (w .entry)) (Two isLower) r ⌝ }
+{
+    is_two(w, b'a', b'z')
+}
+
+// Whether it is `1..` and n.
+pub fn is_whole(w: &[u8], n: usize) -> bool
+    ensures { λ r. ⌜ OfRead (now (w .entry)) (Whole n) r ⌝ }
+{
+    if n == 0 {
+        return same(w, b"1..0");
+    }
+    let size = w.len();
+    if size < 3 {
+        return false;
+    }
+    if !same(&w[0..3], b"1..") {
+        return false;
+    }
+    is_decimal(&w[3..size], n)
+}
+
+// Which kind a moltype names.
+pub fn kind_of(w: &[u8]) -> Kind
+    ensures { λ r. ⌜ Moltypes (now (w .entry)) r ⌝ }
+{
+    if same(w, b"DNA") {
+        return Kind::Dna;
+    }
+    if same(w, b"RNA") {
+        return Kind::Rna;
+    }
+    if same(w, b"AA") {
+        return Kind::Aa;
+    }
+    Kind::Other
+}
+
+// How many characters it is written from: an entity is one.
+pub fn characters(w: &[u8]) -> usize
+    ensures { λ r. ⌜ Characters (now (w .entry)) r ⌝ }
+{
+    let mut n: usize = 0;
+    let mut inside = false;
+    let mut i: usize = 0;
+    while i < w.len() {
+        let b = w[i];
+        if inside {
+            if b == b';' {
+                inside = false;
+            }
+        } else {
+            n += 1;
+            if b == b'&' {
+                inside = true;
+            }
+        }
+        i += 1;
+    }
+    n
+}
+
+// Where the first byte stands that is not of the class; the length where each one is.
+pub fn symbols(w: &[u8], class: u8, t: &[u8; 256]) -> usize
+    requires { ⌜ SymbolTable (now t) ⌝ }
+    ensures { λ r. ⌜ Symbols (now (w .entry)) class r ⌝ }
+{
+    let mut i: usize = 0;
+    while i < w.len() {
+        if t[w[i] as usize] != class {
+            return i;
+        }
+        i += 1;
+    }
+    i
+}
+
+// How many bytes are other than this one.
+pub fn defined(w: &[u8], undefined: u8) -> usize
+    ensures { λ r. ⌜ Defined (now (w .entry)) undefined r ⌝ }
+{
+    let mut n: usize = 0;
+    let mut i: usize = 0;
+    while i < w.len() {
+        if w[i] != undefined {
+            n += 1;
+        }
+        i += 1;
+    }
+    n
+}
