@@ -1,5 +1,7 @@
 -- Laws that no one function owns.
 pub mod Residues
+pub mod Codons
+pub mod Runs
 pub mod Readings
 pub mod Stops
 pub mod Plain

@@ -1,37 +1,38 @@
--- Letters counted, one after another, and where none stands inside the translation's length.
+-- Letters counted, run after run, and where no stop stands inside the translation's length.
 use Prim.Native.Nat.{ℕ, _+_, _-_, _≤_, _<_}
 use Prim.Native.Char.{code}
 use native.Mathlib.Omega.{arith}
 use mathlib.Core.Path.{_≡_, refl, sym, ap, _∙_, subst}
 use mathlib.Core.Bool.{Bool, true, false, true≢false}
 use mathlib.Core.List.{List, [], _∷_}
-use lib.ListN.{length, drop}
+use lib.ListN.{length, drop, length-append}
 use Rattle.paper.specs.Locations.{spans}
 use Rattle.paper.specs.Translation.{codingText, letters, dropStop, hasStopInside}
 use Rattle.translation.specs.declared.reading.Reading.{Reading}
 use Rattle.translation.specs.declared.writing.Count.{Count}
 use Rattle.translation.specs.declared.writing.Size.{Size}
 use Rattle.translation.specs.declared.writing.Size.the-variants as size
-use Rattle.translation.specs.Reading.{Ready, TextLeft, LetterIs, Begins, Ends}
-use Rattle.translation.specs.Translating.{Tally, Counted, sizeOf, Measured, SizeWithin, Measures}
-use Rattle.translation.proofs.Stops.{keep-letter, clear-letter, stop-last, stop-last-clear, stop-inside}
+use Rattle.translation.specs.Reading.{Ready, spanLetters, TextLeft, Onward, Gives, LetterIs, Begins, Ends}
+use Rattle.translation.specs.Translating.{Clear, Tally, Counted, sizeOf, Measured, SizeWithin, Measures}
+use Rattle.translation.proofs.Readings.{span-within, run-gives}
+use Rattle.translation.proofs.Stops.{Front, front-one, front-take, keep-front, clear-front, stop-last, stop-last-clear, stop-inside}
 
--- ---- one letter more
+-- ---- k letters more
 
-module _ {room : ℕ} (a : Count) where
-  pub counted-in : a .n < room → Counted room a (record { n = a .n + 1; over = a .over })
-  counted-in h = record { within = λ k. omega arith; one = one (a .over) }
+module _ {room : ℕ} (a : Count) (k : ℕ) (w : a .n ≤ room) where
+  pub counted-in : k ≤ room - a .n → Counted room a k (record { n = a .n + k; over = a .over })
+  counted-in h = record { within = omega arith; more = more (a .over) }
     where
-      one : (over : Bool) (m : ℕ) → Tally room m (a .n) over → Tally room (m + 1) (a .n + 1) over
-      one true m t = omega arith
-      one false m t = (omega (arith, t .0), omega (arith, t .0))
+      more : (over : Bool) (m : ℕ) → Tally room m (a .n) over → Tally room (m + k) (a .n + k) over
+      more true m t = omega arith
+      more false m t = (omega (arith, t .0), omega (arith, t .0))
 
-  pub counted-over : room ≤ a .n → Counted room a (record { n = a .n; over = true })
-  counted-over h = record { within = λ k. k; one = one (a .over) }
+  pub counted-over : room - a .n < k → Counted room a k (record { n = a .n; over = true })
+  counted-over h = record { within = w; more = more (a .over) }
     where
-      one : (over : Bool) (m : ℕ) → Tally room m (a .n) over → Tally room (m + 1) (a .n) true
-      one true m t = omega arith
-      one false m t = omega (arith, t .0)
+      more : (over : Bool) (m : ℕ) → Tally room m (a .n) over → Tally room (m + k) (a .n) true
+      more true m t = omega arith
+      more false m t = omega (arith, t .0)
 
 -- ---- the loop
 
@@ -80,6 +81,38 @@ module _ {s loc : List ℕ} {L : ℕ} {from : Reading} {room : ℕ} where
         said l rest m true p q t z = let e = ap length (z .1) in (p ∙ z .0, omega arith)
         said l rest m false p q t z = let e = ap length (z .1) in (p ∙ z .0, omega (arith, t .0), omega (arith, t .0))
 
+    -- letters passed: a run of them, or one
+    measuring-on : {d : List ℕ} {k : ℕ} {y : Reading} {b : Count} → Gives s loc L x d y → Front d k → Counted room a k b
+        → Measuring s loc L from room y b
+    measuring-on {d} {k} {y} {b} g q w =
+        record {
+          ready = g .ready;
+          within = w .within;
+          gives = λ text h.
+              let v = f .gives text h in
+              let u = g .gives (v .rest) (v .left) in
+              let l = letters (u .others) in
+              let e = ap (λ (z : List ℕ). length (dropStop z)) (u .is) ∙ ap length (keep-front q l) ∙ length-append d (dropStop l) in
+              record {
+                m = v .m + k;
+                rest = u .others;
+                left = u .left;
+                tally = w .more (v .m) (v .tally);
+                clear = v .clear ∙ ap hasStopInside (u .is) ∙ clear-front q l;
+                long = omega (arith, v .long, e, q .size);
+              };
+        }
+
+    pub measuring-run : {k : ℕ} {y : Reading} {b : Count} → Onward x k y → Clear (x .low) (x .high) (spanLetters s (x .low) (x .high) (x .turned)) k
+        → Counted room a k b → Measuring s loc L from room y b
+    measuring-run {k} o w =
+        measuring-on (run-gives s (f .ready) o)
+        (front-take (span-within s (x .low) (x .high) (x .turned) k (w .within) (f .ready .inside)) (w .clear))
+
+    pub measuring-one : {c : ℕ} {y : Reading} {b : Count} → LetterIs s loc L x c y → (c ≡ code "*" → ⊥) → Counted room a 1 b
+        → Measuring s loc L from room y b
+    measuring-one g n = measuring-on (g .one) (front-one n)
+
     pub measuring-done : ((text : List ℕ) → TextLeft s loc L x text → letters text ≡ []) → Tells s loc L from room (sizeOf (a .n) (a .over))
     measuring-done g = ended (λ rest h. rw (g rest h) (refl, refl))
 
@@ -89,7 +122,7 @@ module _ {s loc : List ℕ} {L : ℕ} {from : Reading} {room : ℕ} where
         measuring-last q t =
             ended
             (λ rest h.
-            let u = g .gives rest h in
+            let u = g .one .gives rest h in
             let z = subst (Ends s loc L y) t q .says (u .others) (u .left) in
             rw (u .is, z) (stop-last-clear e, stop-last e))
 
@@ -99,29 +132,10 @@ module _ {s loc : List ℕ} {L : ℕ} {from : Reading} {room : ℕ} where
               within = tt;
               says = λ text h.
                   let v = f .gives text h in
-                  let u = g .gives (v .rest) (v .left) in
+                  let u = g .one .gives (v .rest) (v .left) in
                   let z = subst (Ends s loc L y) t q .says (u .others) (u .left) in
                   v .clear ∙ ap hasStopInside (u .is ∙ ap (λ (l : List ℕ). c ∷ l) (z .2)) ∙ stop-inside e (z .0) (z .1);
             }
-
-      pub measuring-next : (c ≡ code "*" → ⊥) → {b : Count} → Counted room a b → Measuring s loc L from room y b
-      measuring-next n {b} k =
-          record {
-            ready = g .ready;
-            within = k .within (f .within);
-            gives = λ text h.
-                let v = f .gives text h in
-                let u = g .gives (v .rest) (v .left) in
-                let e = ap (λ (l : List ℕ). length (dropStop l)) (u .is) ∙ ap length (keep-letter n (letters (u .others))) in
-                record {
-                  m = v .m + 1;
-                  rest = u .others;
-                  left = u .left;
-                  tally = k .one (v .m) (v .tally);
-                  clear = v .clear ∙ ap hasStopInside (u .is) ∙ clear-letter n (letters (u .others));
-                  long = omega (arith, v .long, e);
-                };
-          }
 
 -- ---- the answer
 

@@ -1,31 +1,37 @@
--- Letters laid at the front of lent room, one after another.
+-- Letters laid at the front of lent room, run after run.
 use Prim.Native.Nat.{ℕ, suc, _+_, _-_, _≤_, _<_}
 use native.Mathlib.Numerals.{add-one}
 use native.Mathlib.Omega.{arith}
 use mathlib.Core.Path.{_≡_, refl, sym, ap, _∙_}
-use mathlib.Core.List.{List, [], _∷_, append-assoc}
-use lib.ListN.{length, take, drop, getD, set, length-set}
-use lib.Seq.{take-suc, drop-cons, set-at, length-take-le}
+use mathlib.Core.List.{List, [], _∷_, _++_, append-assoc}
+use lib.ListN.{length, take, drop, getD, set, length-append, length-drop}
+use lib.Seq.{take-add, take-at, drop-at, drop-cons, drop-drop, set-split, length-take-le}
 use Rattle.paper.specs.Locations.{spans}
 use Rattle.paper.specs.Translation.{codingText, letters, dropStop}
 use Rattle.paper.specs.Answers.{front}
 use Rattle.translation.specs.declared.reading.Reading.{Reading}
 use Rattle.translation.specs.declared.writing.Size.{Size}
 use Rattle.translation.specs.declared.writing.Size.the-variants as size
-use Rattle.translation.specs.Reading.{Ready, TextLeft, LetterIs, Begins}
-use Rattle.translation.specs.Translating.{Measured, Measures, Puts, afterOf, Writes}
+use Rattle.translation.specs.Reading.{Ready, spanLetters, TextLeft, Onward, Gives, LetterIs, Begins}
+use Rattle.translation.specs.Translating.{Lays, Measured, Measures, Puts, afterOf, Writes}
+use Rattle.translation.proofs.Readings.{span-within, run-gives}
 use Rattle.translation.proofs.Stops.{translation-front, translation-short}
 use Rattle.translation.proofs.Measuring.{measured-once}
 
--- one letter more at the front
-front-more : (l out : List ℕ) (k : ℕ) → k < length l → k < length out
-    → set (front (take k l) out) k (getD l k 0) ≡ front (take (k + 1) l) out
-front-more l out k h j =
-    let d = take k l in
-    let c = getD l k 0 in
-    let n : length d ≡ k = length-take-le k l (omega arith) in
-    let m : length (take (suc k) l) ≡ suc k = length-take-le (suc k) l (omega arith) in
-    rw (add-one k, n, m, drop-cons out k 0 j, take-suc l k 0 h) (set-at d (getD out k 0) (drop (suc k) out) c k n ∙ sym (append-assoc d (c ∷ []) (drop (suc k) out)))
+-- d behind the first letters at the front
+front-more : (l out d o : List ℕ) (k n : ℕ) → length d ≡ n → k ≤ length l → k + n ≤ length out → drop k l ≡ d ++ o
+    → take k (front (take k l) out) ++ d ++ drop (k + n) (front (take k l) out) ≡ front (take (k + n) l) out
+front-more l out d o k n size h j e =
+    let p = take k l in
+    let a = length-take-le k l h in
+    let rest : drop (k + n) (p ++ drop (length p) out) ≡ drop (k + n) out
+    = sym (drop-drop n k (p ++ drop (length p) out))
+    ∙ ap (drop n) (drop-at p (drop (length p) out) k a)
+    ∙ drop-drop n (length p) out
+    ∙ ap (λ (i : ℕ). drop (i + n) out) a in
+    let more : take (k + n) l ≡ p ++ d = take-add k n l ∙ ap (λ (z : List ℕ). p ++ take n z) e ∙ ap (λ (z : List ℕ). p ++ z) (take-at d o n size) in
+    let long : length (p ++ d) ≡ k + n = length-append p d ∙ omega arith in
+    rw (take-at p (drop (length p) out) k a, rest, more, long)
 
 -- of the letters l, k are written and x leaves the others
 record Laid (s loc : List ℕ) (L : ℕ) (before after : List ℕ) (x : Reading) (k : ℕ) (l : List ℕ) : Type 0 where
@@ -63,6 +69,41 @@ module _ {s loc : List ℕ} {L : ℕ} {from : Reading} {count : ℕ} {before : L
         let e : k ≡ count = omega arith in
         record { says = λ text t n. rw (← e) (f .laid text t n .holds) }
 
+    -- letters laid: a run of them, or one
+    putting-on : {d : List ℕ} {n : ℕ} {y : Reading} {out : List ℕ} → Gives s loc L x d y → length d ≡ n → k + n ≤ count
+        → out ≡ take k after ++ d ++ drop (k + n) after → Putting s loc L from count before out y (k + n)
+    putting-on {d} {n} {y} {out} g size w e =
+        record {
+          ready = g .ready;
+          within = w;
+          room = f .room;
+          size = ap length e
+              ∙ length-append (take k after ++ d) (drop (k + n) after)
+              ∙ omega (arith, length-append (take k after) d, length-take-le k after (omega (arith, f .size, f .room)), length-drop (k + n) after, f .size, f .room);
+          laid = λ text t m.
+              let l = letters text in
+              let u = f .laid text t m in
+              let v = g .gives (u .rest) (u .left) in
+              let z : drop k l ≡ d ++ letters (v .others) = sym (u .others) ∙ v .is in
+              record {
+                rest = v .others;
+                left = v .left;
+                others = sym (sym (drop-drop n k l) ∙ ap (drop n) z ∙ drop-at d (letters (v .others)) n size);
+                holds = e ∙ rw (u .holds) (front-more l before d (letters (v .others)) k n size (omega arith) (omega (arith, f .room)) z);
+              };
+        }
+
+    pub putting-one : {c : ℕ} {y : Reading} → LetterIs s loc L x c y → k < count → Putting s loc L from count before (set after k c) y (k + 1)
+    putting-one {c} g h =
+        putting-on (g .one) refl (omega arith)
+        (set-split after k c (omega (arith, f .size, f .room)) ∙ rw (add-one k) (sym (append-assoc (take k after) (c ∷ []) (drop (suc k) after))))
+
+    pub putting-run : {n : ℕ} {y : Reading} {out : List ℕ} → Onward x n y
+        → Lays (x .low) (x .high) (spanLetters s (x .low) (x .high) (x .turned)) k count n after out → Putting s loc L from count before out y (k + n)
+    putting-run {n} o w =
+        let l = spanLetters s (x .low) (x .high) (x .turned) in
+        putting-on (run-gives s (f .ready) o) (length-take-le n l (span-within s (x .low) (x .high) (x .turned) n (w .within) (f .ready .inside))) (w .inside) (w .is)
+
     module _ (h : k < count) where
       pub putting-done : ((text : List ℕ) → TextLeft s loc L x text → letters text ≡ []) → Puts s loc L from count before after
       putting-done g =
@@ -72,27 +113,6 @@ module _ {s loc : List ℕ} {L : ℕ} {from : Reading} {count : ℕ} {before : L
                 let z : _≡_ {A = List ℕ} [] (getD (letters text) k 0 ∷ drop (k + 1) (letters text))
                 = sym (g (u .rest) (u .left)) ∙ u .others ∙ next-of (letters text) (omega arith) in
                 absurd (omega (arith, ap length z));
-          }
-
-      pub putting-next : {c : ℕ} {y : Reading} → LetterIs s loc L x c y → Putting s loc L from count before (set after k c) y (k + 1)
-      putting-next {c} {y} g =
-          record {
-            ready = g .ready;
-            within = omega arith;
-            room = f .room;
-            size = length-set after k c ∙ f .size;
-            laid = λ text t n.
-                let l = letters text in
-                let u = f .laid text t n in
-                let v = g .gives (u .rest) (u .left) in
-                let z : c ∷ letters (v .others) ≡ getD l k 0 ∷ drop (k + 1) l = sym (v .is) ∙ u .others ∙ next-of l (omega arith) in
-                let e : c ≡ getD l k 0 = cc in
-                record {
-                  rest = v .others;
-                  left = v .left;
-                  others = cc;
-                  holds = rw (u .holds, e) (front-more l before k (omega arith) (omega (arith, f .room)));
-                };
           }
 
 -- ---- the answer

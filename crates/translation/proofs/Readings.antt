@@ -4,9 +4,9 @@ use native.Mathlib.Nat.{suc-mul, mul-le-mul-right}
 use native.Mathlib.Omega.{arith}
 use mathlib.Core.Path.{_≡_, refl, sym, ap, _∙_, subst}
 use mathlib.Core.Bool.{Bool, true, false}
-use mathlib.Core.List.{List, [], _∷_, _++_, append-assoc, map, reverse}
-use lib.ListN.{length, drop, getD}
-use lib.Seq.{slice, slice-empty, drop-drop, drop-nil}
+use mathlib.Core.List.{List, [], _∷_, _++_, map, reverse}
+use lib.ListN.{length, take, drop, getD}
+use lib.Seq.{slice, slice-empty, take-suc, drop-drop, drop-nil}
 use Rattle.paper.specs.Locations.{Location}
 use Rattle.paper.specs.Locations as paper
 use Rattle.paper.specs.Translation.{basesOf, complementOf, codingText, codonLetter, letters}
@@ -18,8 +18,9 @@ use Rattle.location.specs.declared.walking.Next.the-variants as next
 use Rattle.translation.specs.declared.reading.Reading.{Reading}
 use Rattle.translation.specs.declared.reading.Base.{Base}
 use Rattle.translation.specs.declared.reading.Letter.{Letter}
-use Rattle.translation.specs.Reading.{Ready, strand, current, TextLeft, residuesLeft, Opens, Fills, BaseIs, BaseSays, Bases, LetterIs, LetterSays, Letters, Skips, Codes, Begins, Ends}
-use Rattle.translation.proofs.Residues.{strand-none, first-ahead, first-behind, three-ahead, three-behind}
+use Rattle.translation.specs.Reading.{Ready, strand, current, spanLetters, TextLeft, residuesLeft, Opens, Fills, BaseIs, BaseSays, Bases, Onward, Gives, LetterIs, LetterSays, Letters, Skips, Codes, Begins, Ends}
+use Rattle.translation.proofs.Residues.{strand-none, first-ahead, first-behind, three-ahead, three-behind, strand-length, drop-ahead, drop-behind}
+use Rattle.translation.proofs.Codons.{letters-within, letters-split, letters-at}
 
 -- ---- how much may be left
 
@@ -102,13 +103,18 @@ module _ {s loc : List ℕ} {L : ℕ} where
 
 -- ---- the next residue, and the next codon
 
--- y has the walk of x, and of its current span all but the residues d at its front
-pub record Passes (s : List ℕ) (x : Reading) (d : List ℕ) (y : Reading) : Type 0 where
+-- in the same walk the same spans are left behind the current one
+left-on : {s loc : List ℕ} {L : ℕ} {x y : Reading} {text : List ℕ} (h : TextLeft s loc L x text) → y .walk ≡ x .walk
+    → TextLeft s loc L y (current s y ++ codingText s (h .others))
+left-on {s} {loc} {L} h e = record { others = h .others; left = subst (λ (w : Walk). Left loc L w (h .others)) (sym e) (h .left); is = refl }
+
+-- y has the walk of x, and of its current span all but the residue a at its front
+pub record Passes (s : List ℕ) (x : Reading) (a : ℕ) (y : Reading) : Type 0 where
   pub order : y .low ≤ y .high
   pub inside : y .high ≤ length s
   pub walk : y .walk ≡ x .walk
   pub less : y .high - y .low < x .high - x .low
-  pub is : current s x ≡ d ++ current s y
+  pub is : current s x ≡ a ∷ current s y
 
 module _ (s : List ℕ) (x : Reading) (inside : x .high ≤ length s) where
   module _ (t : x .turned ≡ false) where
@@ -116,60 +122,104 @@ module _ (s : List ℕ) (x : Reading) (inside : x .high ≤ length s) where
     on-ahead = ap (λ (b : Bool). strand b (slice (x .low) (x .high) s)) t
 
     pub pass-ahead : x .low < x .high
-        → Passes s x (getD s (x .low) 0 ∷ []) (record { walk = x .walk; low = x .low + 1; high = x .high; turned = false })
+        → Passes s x (getD s (x .low) 0) (record { walk = x .walk; low = x .low + 1; high = x .high; turned = false })
     pass-ahead h =
         record { order = omega arith; inside = inside; walk = refl; less = omega arith; is = on-ahead ∙ first-ahead s (x .low) (x .high) h inside }
-
-    pub codon-ahead : 3 ≤ x .high - x .low
-        → Passes s x (getD s (x .low) 0 ∷ getD s (x .low + 1) 0 ∷ getD s (x .low + 2) 0 ∷ [])
-        (record { walk = x .walk; low = x .low + 3; high = x .high; turned = false })
-    codon-ahead h =
-        record { order = omega arith; inside = inside; walk = refl; less = omega arith; is = on-ahead ∙ three-ahead s (x .low) (x .high) h inside }
 
   module _ (t : x .turned ≡ true) where
     on-behind : current s x ≡ reverse (map complementOf (slice (x .low) (x .high) s))
     on-behind = ap (λ (b : Bool). strand b (slice (x .low) (x .high) s)) t
 
     pub pass-behind : x .low < x .high
-        → Passes s x (complementOf (getD s (x .high - 1) 0) ∷ []) (record { walk = x .walk; low = x .low; high = x .high - 1; turned = true })
+        → Passes s x (complementOf (getD s (x .high - 1) 0)) (record { walk = x .walk; low = x .low; high = x .high - 1; turned = true })
     pass-behind h =
         record { order = omega arith; inside = omega arith; walk = refl; less = omega arith; is = on-behind ∙ first-behind s (x .low) (x .high) h inside }
 
-    pub codon-behind : 3 ≤ x .high - x .low
-        → Passes s x (complementOf (getD s (x .high - 1) 0) ∷ complementOf (getD s (x .high - 2) 0) ∷ complementOf (getD s (x .high - 3) 0) ∷ [])
-        (record { walk = x .walk; low = x .low; high = x .high - 3; turned = true })
-    codon-behind h =
-        record { order = omega arith; inside = omega arith; walk = refl; less = omega arith; is = on-behind ∙ three-behind s (x .low) (x .high) h inside }
+module _ (x : Reading) (k : ℕ) (h : x .low + 3 * k ≤ x .high) where
+  pub onward-ahead : x .turned ≡ false → Onward x k (record { walk = x .walk; low = x .low + 3 * k; high = x .high; turned = false })
+  onward-ahead t =
+      record {
+        walk = refl;
+        order = h;
+        inside = omega arith;
+        size = omega arith;
+        is = λ s i. drop-ahead s (x .low) (x .high) (3 * k) ∙ ap (drop (3 * k)) (sym (on-ahead s x i t));
+      }
+
+  pub onward-behind : x .turned ≡ true → Onward x k (record { walk = x .walk; low = x .low; high = x .high - 3 * k; turned = true })
+  onward-behind t =
+      record {
+        walk = refl;
+        order = omega arith;
+        inside = omega arith;
+        size = omega arith;
+        is = λ s i. drop-behind s (x .low) (x .high) (3 * k) h i ∙ ap (drop (3 * k)) (sym (on-behind s x i t));
+      }
+
+-- ---- the letters of the current span
+
+span-fits : (s : List ℕ) (low high : ℕ) (turned : Bool) (k : ℕ) → low + 3 * k ≤ high → high ≤ length s → 3 * k ≤ length (strand turned (slice low high s))
+span-fits s low high turned k h i = omega (arith, strand-length s turned low high i)
+
+pub span-within : (s : List ℕ) (low high : ℕ) (turned : Bool) (k : ℕ) → low + 3 * k ≤ high → high ≤ length s → k ≤ length (spanLetters s low high turned)
+unfolding spanLetters
+span-within s low high turned k h i = letters-within (strand turned (slice low high s)) k (span-fits s low high turned k h i)
+
+module _ (s : List ℕ) (low high k : ℕ) (h : low + 3 * k + 3 ≤ high) (i : high ≤ length s) where
+  pub letter-ahead : {turned : Bool} → turned ≡ false
+      → codonLetter (getD s (low + 3 * k) 0) (getD s (low + 3 * k + 1) 0) (getD s (low + 3 * k + 2) 0) ≡ getD (spanLetters s low high turned) k 0
+  unfolding spanLetters
+  letter-ahead t =
+      rw t
+      (sym
+      (letters-at (slice low high s) k (span-fits s low high false k (omega arith) i)
+      (sym (drop-ahead s low high (3 * k)) ∙ three-ahead s (low + 3 * k) high (omega arith) i)))
+
+  pub letter-behind : {turned : Bool} → turned ≡ true
+      → codonLetter (complementOf (getD s (high - 3 * k - 1) 0)) (complementOf (getD s (high - 3 * k - 2) 0)) (complementOf (getD s (high - 3 * k - 3) 0))
+      ≡ getD (spanLetters s low high turned) k 0
+  unfolding spanLetters
+  letter-behind t =
+      rw t
+      (sym
+      (letters-at (reverse (map complementOf (slice low high s))) k (span-fits s low high true k (omega arith) i)
+      (sym (drop-behind s low high (3 * k) (omega arith) i) ∙ three-behind s low (high - 3 * k) (omega arith) (omega arith))))
+
+-- k codons of it passed
+module _ (s : List ℕ) {x y : Reading} {k : ℕ} (r : Ready (length s) x) (o : Onward x k y) where
+  pub run-falls : (m : ℕ) → residuesLeft (length s) m y + 3 * k ≤ residuesLeft (length s) m x
+  unfolding residuesLeft
+  run-falls m = rw (o .walk) (omega (arith, o .size))
+
+  pub run-gives : {loc : List ℕ} {L : ℕ} → Gives s loc L x (take k (spanLetters s (x .low) (x .high) (x .turned))) y
+  unfolding spanLetters
+  run-gives {loc} {L} =
+      record {
+        ready = record { order = o .order; inside = omega (arith, o .inside, r .inside) };
+        gives = λ text h.
+            let c = codingText s (h .others) in
+            let w = current s x in
+            let n = span-fits s (x .low) (x .high) (x .turned) k (omega (arith, o .size, o .order)) (r .inside) in
+            record {
+              others = current s y ++ c;
+              is = ap letters (h .is)
+                  ∙ letters-split w k n c
+                  ∙ ap (λ (l : List ℕ). take k (letters w) ++ letters (l ++ c)) (sym (o .is s (r .inside)));
+              left = left-on h (o .walk);
+            };
+      }
 
 module _ {s loc : List ℕ} {L : ℕ} where
-  passed : {x y : Reading} (d : List ℕ) → Passes s x d y → (text : List ℕ) → TextLeft s loc L x text
-      → (o : List ℕ) × (text ≡ d ++ o) × TextLeft s loc L y o
-  passed {x} {y} d p text h =
-      let c = codingText s (h .others) in (
-        current s y ++ c,
-        h .is ∙ ap (λ (l : List ℕ). l ++ c) (p .is) ∙ append-assoc d (current s y) c,
-        record { others = h .others; left = subst (λ (w : Walk). Left loc L w (h .others)) (sym (p .walk)) (h .left); is = refl },
-      )
-
-  pub base-is : {x y z : Reading} {a b : ℕ} → Fills s loc L x y → Passes s y (a ∷ []) z → b < 16 → setBases b ≡ basesOf a → BaseIs s loc L x b z
+  pub base-is : {x y z : Reading} {a b : ℕ} → Fills s loc L x y → Passes s y a z → b < 16 → setBases b ≡ basesOf a → BaseIs s loc L x b z
   base-is {x} {y} {z} {a} f p h e =
       record {
         small = h;
         ready = record { order = p .order; inside = p .inside };
         falls = omega (arith, less-residues (length s) (length loc) y z (p .walk) (p .less), f .falls);
         gives = λ text t.
-            let q = passed (a ∷ []) p text (f .keeps text t) in
-            record { first = a; others = q .0; is = q .1; set = e; left = q .2 };
-      }
-
-  pub letter-is : {x y : Reading} {a b c r : ℕ} → Passes s x (a ∷ b ∷ c ∷ []) y → r ≡ codonLetter a b c → LetterIs s loc L x r y
-  letter-is {x} {y} {a} {b} {c} p e =
-      record {
-        ready = record { order = p .order; inside = p .inside };
-        falls = less-residues (length s) (length loc) x y (p .walk) (p .less);
-        gives = λ text t.
-            let q = passed (a ∷ b ∷ c ∷ []) p text t in
-            record { others = q .0; is = ap letters (q .1) ∙ ap (λ (n : ℕ). n ∷ letters (q .0)) (sym e); left = q .2 };
+            let u = f .keeps text t in
+            let c = codingText s (u .others) in
+            record { first = a; others = current s z ++ c; is = u .is ∙ ap (λ (l : List ℕ). l ++ c) (p .is); set = e; left = left-on u (p .walk) };
       }
 
   -- ---- residue by residue
@@ -211,19 +261,31 @@ module _ {s loc : List ℕ} {L : ℕ} where
       pub three-bases : {x3 : Reading} {c r : ℕ} → BaseIs s loc L x2 c x3 → r ≡ setsLetter a b c → LetterIs s loc L x r x3
       three-bases {x3} {c} g3 e =
           record {
-            ready = g3 .ready;
             falls = omega (arith, g1 .falls, g2 .falls, g3 .falls);
-            gives = λ text t.
-                let u = g1 .gives text t in
-                let v = g2 .gives (u .others) (u .left) in
-                let w = g3 .gives (v .others) (v .left) in
-                record {
-                  others = w .others;
-                  is = ap letters (u .is ∙ ap (λ (l : List ℕ). u .first ∷ l) (v .is ∙ ap (λ (l : List ℕ). v .first ∷ l) (w .is)))
-                      ∙ ap (λ (n : ℕ). n ∷ letters (w .others)) (rw (← u .set, ← v .set, ← w .set) (sym e));
-                  left = w .left;
-                };
+            one = record {
+              ready = g3 .ready;
+              gives = λ text t.
+                  let u = g1 .gives text t in
+                  let v = g2 .gives (u .others) (u .left) in
+                  let w = g3 .gives (v .others) (v .left) in
+                  record {
+                    others = w .others;
+                    is = ap letters (u .is ∙ ap (λ (l : List ℕ). u .first ∷ l) (v .is ∙ ap (λ (l : List ℕ). v .first ∷ l) (w .is)))
+                        ∙ ap (λ (n : ℕ). n ∷ letters (w .others)) (rw (← u .set, ← v .set, ← w .set) (sym e));
+                    left = w .left;
+                  };
+            };
           }
+
+-- one codon of the current span
+pub next-letter : {s loc : List ℕ} {L : ℕ} {x y : Reading} {c : ℕ} → Ready (length s) x → Onward x 1 y
+    → c ≡ getD (spanLetters s (x .low) (x .high) (x .turned)) 0 0 → LetterIs s loc L x c y
+next-letter {s} {loc} {L} {x} {y} {c} r o e =
+    let l = spanLetters s (x .low) (x .high) (x .turned) in
+    record {
+      one = subst (λ (d : List ℕ). Gives s loc L x d y) (take-suc l 0 0 (span-within s (x .low) (x .high) (x .turned) 1 (omega (arith, o .size)) (r .inside)) ∙ ap (λ (a : ℕ). a ∷ []) (sym e)) (run-gives s r o);
+      falls = omega (arith, run-falls s r o (length loc));
+    }
 
 -- ---- a call's answer, once it is known which it is
 
@@ -261,4 +323,4 @@ module _ {s loc : List ℕ} {L : ℕ} {x : Reading} where
   no-letter g = record { says = g }
 
   pub some-letter : {c : ℕ} {y : Reading} → LetterIs s loc L x c y → Ends s loc L x false
-  some-letter {c} g = record { says = λ text h. let u = g .gives text h in (c, letters (u .others), u .is) }
+  some-letter {c} g = record { says = λ text h. let u = g .one .gives text h in (c, letters (u .others), u .is) }

@@ -5,9 +5,9 @@ use native.Mathlib.Omega.{arith}
 use mathlib.Core.Path.{_≡_, refl, sym, ap, _∙_}
 use mathlib.Core.Bool.{Bool, true, false}
 use mathlib.Core.List.{List, [], _∷_, _++_, map, reverse, reverse-append, map-append}
-use lib.ListN.{length, take, drop, getD}
+use lib.ListN.{length, take, drop, getD, length-reverse, length-map, length-drop}
 use lib.Dec.{eqb}
-use lib.Seq.{slice, slice-cons, take-add, take-suc, drop-at, drop-append-le, length-take-le}
+use lib.Seq.{slice, slice-cons, take-add, take-suc, drop-at, drop-drop, drop-append-le, length-take-le, length-slice}
 use Rattle.paper.specs.Translation.{complementOf, stretch}
 use Rattle.location.specs.declared.walking.Span.{Span}
 use Rattle.location.specs.declared.walking.Walk.{Walk}
@@ -68,6 +68,36 @@ module _ (s : List ℕ) where
         let b = rw two at (first-behind low (high - 1) (omega arith) (omega arith)) in
         let c = rw three at (first-behind low (high - 2) (omega arith) (omega arith)) in
         a ∙ ap (λ (l : List ℕ). complementOf (getD s (high - 1) 0) ∷ l) (b ∙ ap (λ (l : List ℕ). complementOf (getD s (high - 2) 0) ∷ l) c)
+
+-- ---- what is left behind some residues
+
+module _ (s : List ℕ) where
+  pub strand-length : (turned : Bool) (low high : ℕ) → high ≤ length s → length (strand turned (slice low high s)) ≡ high - low
+  strand-length true low high h =
+      length-reverse (map complementOf (slice low high s)) ∙ length-map (slice low high s) complementOf ∙ length-slice low high s h
+  strand-length false low high h = length-slice low high s h
+
+  pub drop-ahead : (low high j : ℕ) → slice (low + j) high s ≡ drop j (slice low high s)
+  drop-ahead low high j = sym (drop-drop j low (take high s))
+
+  pub drop-behind : (low high j : ℕ) → low + j ≤ high → high ≤ length s
+      → reverse (map complementOf (slice low (high - j) s)) ≡ drop j (reverse (map complementOf (slice low high s)))
+  drop-behind low high j h k =
+      let at = high - j in
+      let front = slice low at s in
+      let back = take j (drop at s) in
+      let e : high ≡ at + j = omega arith in
+      let n : length (take at s) ≡ at = length-take-le at s (omega arith) in
+      let m : length back ≡ j = length-take-le j (drop at s) (omega (arith, length-drop at s)) in
+      let split : slice low high s ≡ front ++ back
+      = ap (λ (i : ℕ). slice low i s) e ∙ ap (drop low) (take-add at j s) ∙ drop-append-le low (take at s) back (omega arith) in
+      let turn : reverse (map complementOf (slice low high s)) ≡ reverse (map complementOf back) ++ reverse (map complementOf front)
+      = ap (λ (l : List ℕ). reverse (map complementOf l)) split
+      ∙ ap reverse (map-append complementOf front back)
+      ∙ reverse-append (map complementOf front) (map complementOf back) in
+      sym
+      (ap (drop j) turn
+      ∙ drop-at (reverse (map complementOf back)) (reverse (map complementOf front)) j (length-reverse (map complementOf back) ∙ length-map back complementOf ∙ m))
 
 -- ---- the whole of a span
 

@@ -1,21 +1,22 @@
--- A value compared with the letters, one after another.
+-- A value compared with the letters, run after run.
 use Prim.Native.Nat.{ℕ, _+_, _-_, _≤_, _<_}
 use Prim.Native.Char.{code}
 use native.Mathlib.Numerals.{add-one}
 use native.Mathlib.Omega.{arith}
 use mathlib.Core.Path.{_≡_, refl, sym, ap, _∙_}
 use mathlib.Core.Bool.{Bool, true, false, true≢false}
-use mathlib.Core.List.{List, [], _∷_, cons≢nil}
-use lib.ListN.{length, drop, getD, drop-of-length-le}
-use lib.Seq.{drop-cons}
+use mathlib.Core.List.{List, [], _∷_, _++_, cons≢nil}
+use lib.ListN.{length, take, drop, getD, length-drop, take-append-drop, drop-of-length-le}
+use lib.Seq.{drop-cons, drop-drop, ext-getD, getD-take, getD-drop, length-take-le}
 use lib.Dec.{eqb}
 use borrow.Author.Tests.{eqb-true, eqb-false}
 use Rattle.paper.specs.Locations.{spans}
 use Rattle.paper.specs.Translation.{codingText, letters}
 use Rattle.translation.specs.declared.reading.Reading.{Reading}
-use Rattle.translation.specs.Reading.{Ready, TextLeft, LetterIs, Begins, Ends}
-use Rattle.translation.specs.Translating.{RightValue, RightIf, Compares}
-use Rattle.translation.proofs.Stops.{right-forth, right-back, right-head, right-more, stop-last, stop-last-clear, stop-inside, right-stop}
+use Rattle.translation.specs.Reading.{Ready, spanLetters, TextLeft, Onward, Gives, LetterIs, Begins, Ends}
+use Rattle.translation.specs.Translating.{Same, RightValue, RightIf, Compares}
+use Rattle.translation.proofs.Readings.{span-within, run-gives}
+use Rattle.translation.proofs.Stops.{Front, front-one, front-take, right-forth, right-back, right-head, right-more, stop-last, stop-last-clear, stop-inside, right-stop}
 use Rattle.translation.proofs.Plain.{as-written, as-read}
 
 -- the letters l are right for the value exactly if those that x leaves are right for the rest of it
@@ -52,6 +53,44 @@ module _ {s loc : List ℕ} {L : ℕ} {from : Reading} {value : List ℕ} where
     no-rest : length value ≤ i → drop i value ≡ []
     no-rest h = drop-of-length-le value h
 
+    -- letters that are the next of the value: a run of them, or one
+    comparing-on : {d : List ℕ} {k : ℕ} {y : Reading} → Gives s loc L x d y → Front d k → i + k ≤ length value
+        → drop i value ≡ d ++ drop (i + k) value → Comparing s loc L from value y (i + k)
+    comparing-on g q w p =
+        record {
+          ready = g .ready;
+          within = w;
+          gives = λ text h.
+              let m = f .gives text h in
+              let u = g .gives (m .rest) (m .left) in
+              record {
+                rest = u .others;
+                left = u .left;
+                forth = λ z. right-forth q (rw (u .is, p) at (m .forth z));
+                back = λ z. m .back (rw (u .is, p) (right-back q z));
+              };
+        }
+
+    pub comparing-one : {c : ℕ} {y : Reading} → LetterIs s loc L x c y → (c ≡ code "*" → ⊥) → i < length value → getD value i 0 ≡ c
+        → Comparing s loc L from value y (i + 1)
+    comparing-one g n k e =
+        comparing-on (g .one) (front-one n) (omega arith) (rest-of k ∙ ap (λ (b : ℕ). b ∷ drop (i + 1) value) e)
+
+    pub comparing-run : {k : ℕ} {y : Reading} → Onward x k y → Same (x .low) (x .high) (spanLetters s (x .low) (x .high) (x .turned)) value i k
+        → Comparing s loc L from value y (i + k)
+    comparing-run {k} o w =
+        let l = spanLetters s (x .low) (x .high) (x .turned) in
+        let n : k ≤ length l = span-within s (x .low) (x .high) (x .turned) k (w .front .within) (f .ready .inside) in
+        let rest = drop i value in
+        let m : k ≤ length rest = omega (arith, length-drop i value, w .inside) in
+        let e : take k rest ≡ take k l
+        = ext-getD 0 (take k rest) (take k l) (length-take-le k rest m ∙ sym (length-take-le k l n))
+        (λ j b.
+        let h : j < k = omega (arith, length-take-le k rest m) in
+        getD-take k rest j 0 h ∙ getD-drop i value j 0 ∙ w .same j h ∙ sym (getD-take k l j 0 h)) in
+        comparing-on (run-gives s (f .ready) o) (front-take n (w .front .clear)) (w .inside)
+        (sym (take-append-drop k rest) ∙ rw (e, drop-drop k i value))
+
     pub comparing-done : ((text : List ℕ) → TextLeft s loc L x text → letters text ≡ []) → Tells s loc L from value (eqb i (length value))
     comparing-done g = go (eqb i (length value)) refl
       where
@@ -68,46 +107,29 @@ module _ {s loc : List ℕ} {L : ℕ} {from : Reading} {value : List ℕ} where
         pub comparing-stop : i < length value → Tells s loc L from value false
         comparing-stop k =
             tells false
-            (λ rest h z. let u = g .gives rest h in cons≢nil (sym (rest-of k) ∙ right-stop e (letters (u .others)) (rw (u .is) at z)))
+            (λ rest h z. let u = g .one .gives rest h in cons≢nil (sym (rest-of k) ∙ right-stop e (letters (u .others)) (rw (u .is) at z)))
 
         pub comparing-last : length value ≤ i → (r : Bool) → Ends s loc L y r → Tells s loc L from value r
         comparing-last k true q =
             tells true
             (λ rest h.
-            let u = g .gives rest h in
+            let u = g .one .gives rest h in
             let z = q .says (u .others) (u .left) in
             rw (u .is, z, no-rest k) (record { clear = stop-last-clear e; same = sym (stop-last e) }))
         comparing-last k false q =
             tells false
             (λ rest h z.
-            let u = g .gives rest h in
+            let u = g .one .gives rest h in
             let m = q .says (u .others) (u .left) in
             true≢false (sym (stop-inside e (m .0) (m .1)) ∙ (rw (u .is, m .2) at (z .clear))))
 
       module _ (n : c ≡ code "*" → ⊥) where
         pub comparing-short : length value ≤ i → Tells s loc L from value false
-        comparing-short k = tells false (λ rest h z. let u = g .gives rest h in right-more n (rw (u .is, no-rest k) at z))
+        comparing-short k = tells false (λ rest h z. let u = g .one .gives rest h in right-more n (rw (u .is, no-rest k) at z))
 
         module _ (k : i < length value) where
           pub comparing-differs : (getD value i 0 ≡ c → ⊥) → Tells s loc L from value false
-          comparing-differs d = tells false (λ rest h z. let u = g .gives rest h in d (right-head n (rw (u .is, rest-of k) at z)))
-
-          pub comparing-next : getD value i 0 ≡ c → Comparing s loc L from value y (i + 1)
-          comparing-next d =
-              let p : drop i value ≡ c ∷ drop (i + 1) value = rest-of k ∙ ap (λ (b : ℕ). b ∷ drop (i + 1) value) d in
-              record {
-                ready = g .ready;
-                within = omega arith;
-                gives = λ text h.
-                    let m = f .gives text h in
-                    let u = g .gives (m .rest) (m .left) in
-                    record {
-                      rest = u .others;
-                      left = u .left;
-                      forth = λ z. right-forth n (rw (u .is, p) at (m .forth z));
-                      back = λ z. m .back (rw (u .is, p) (right-back n z));
-                    };
-              }
+          comparing-differs d = tells false (λ rest h z. let u = g .one .gives rest h in d (right-head n (rw (u .is, rest-of k) at z)))
 
 -- ---- the answer
 

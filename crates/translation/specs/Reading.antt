@@ -32,6 +32,10 @@ strand turned l = cond turned (reverse (map complementOf l)) l
 abbrev pub current : List ℕ → Reading → List ℕ
 current s x = strand (x .turned) (slice (x .low) (x .high) s)
 
+-- the letters of the codons that stand whole between two places
+unfoldable pub spanLetters : List ℕ → ℕ → ℕ → Bool → List ℕ
+spanLetters s low high turned = letters (strand turned (slice low high s))
+
 -- this text is left: "concatenate the spans' residues"
 pub record TextLeft (s loc : List ℕ) (L : ℕ) (x : Reading) (text : List ℕ) : Type 0 where
   pub others : List paper.Span
@@ -77,16 +81,28 @@ BaseSays s loc L x (base.Is b y) = BaseIs s loc L x b y
 pub record Bases (s loc : List ℕ) (L : ℕ) (x : Reading) (r : Base) : Type 0 where
   pub says : BaseSays s loc L x r
 
--- c is the letter of the first whole codon of the text, and y leaves the residues behind it
-pub record FirstLetter (s loc : List ℕ) (L : ℕ) (c : ℕ) (y : Reading) (text : List ℕ) : Type 0 where
+-- y has passed k whole codons of the current span of x
+pub record Onward (x : Reading) (k : ℕ) (y : Reading) : Type 0 where
+  pub walk : y .walk ≡ x .walk
+  pub order : y .low ≤ y .high
+  pub inside : y .high ≤ x .high
+  pub size : y .high - y .low + 3 * k ≡ x .high - x .low
+  pub is : (s : List ℕ) → x .high ≤ length s → current s y ≡ drop (3 * k) (current s x)
+
+-- d are the letters of the first whole codons of the text, and y leaves the residues behind them
+pub record FirstLetters (s loc : List ℕ) (L : ℕ) (d : List ℕ) (y : Reading) (text : List ℕ) : Type 0 where
   pub others : List ℕ
-  pub is : letters text ≡ c ∷ letters others
+  pub is : letters text ≡ d ++ letters others
   pub left : TextLeft s loc L y others
 
-pub record LetterIs (s loc : List ℕ) (L : ℕ) (x : Reading) (c : ℕ) (y : Reading) : Type 0 where
+pub record Gives (s loc : List ℕ) (L : ℕ) (x : Reading) (d : List ℕ) (y : Reading) : Type 0 where
   pub ready : Ready (length s) y
+  pub gives : (text : List ℕ) → TextLeft s loc L x text → FirstLetters s loc L d y text
+
+-- c is the next letter
+pub record LetterIs (s loc : List ℕ) (L : ℕ) (x : Reading) (c : ℕ) (y : Reading) : Type 0 where
+  pub one : Gives s loc L x (c ∷ []) y
   pub falls : residuesLeft (length s) (length loc) y < residuesLeft (length s) (length loc) x
-  pub gives : (text : List ℕ) → TextLeft s loc L x text → FirstLetter s loc L c y text
 
 abbrev pub LetterSays : List ℕ → List ℕ → ℕ → Reading → Letter → Type 0
 LetterSays s loc L x letter.Done = (text : List ℕ) → TextLeft s loc L x text → letters text ≡ []

@@ -1,9 +1,11 @@
 -- What is promised of a translation that is compared, measured and written.
-use Prim.Native.Nat.{ℕ, _+_, _≤_, _<_}
+use Prim.Native.Nat.{ℕ, _+_, _*_, _≤_, _<_}
+use Prim.Native.Char.{code}
 use mathlib.Core.Path.{_≡_}
 use mathlib.Core.Bool.{Bool, true, false}
 use mathlib.Core.List.{List}
-use lib.ListN.{length, take}
+use lib.ListN.{length, take, getD}
+use lib.Seq.{paste}
 use Rattle.paper.specs.Bytes.{raw}
 use Rattle.paper.specs.Locations.{Location, spans}
 use Rattle.paper.specs.Translation.{codingText, letters, codonsFrom, dropStop, hasStopInside}
@@ -17,6 +19,29 @@ use Rattle.translation.specs.declared.writing.Size.the-variants as size
 -- the letters of every whole codon, a last stop too
 abbrev pub lettersOf : List ℕ → ℕ → Location → List ℕ
 lettersOf s start t = codonsFrom start (codingText s (spans t))
+
+-- ---- the codons that stand whole in a span between two places, with the letters l
+
+-- none of those from a to before b is a stop
+pub record NoStops (l : List ℕ) (a b : ℕ) : Type 0 where
+  pub none : (k : ℕ) → k < b → a ≤ k → getD l k 0 ≡ code "*" → ⊥
+
+-- the first n are no stop
+pub record Clear (low high : ℕ) (l : List ℕ) (n : ℕ) : Type 0 where
+  pub within : low + 3 * n ≤ high
+  pub clear : NoStops l 0 n
+
+-- the first n are no stop, and the value has them from a place on
+pub record Same (low high : ℕ) (l value : List ℕ) (from n : ℕ) : Type 0 where
+  pub front : Clear low high l n
+  pub inside : from + n ≤ length value
+  pub same : (k : ℕ) → k < n → getD value (from + k) 0 ≡ getD l k 0
+
+-- the first n are laid from a place on, before another
+pub record Lays (low high : ℕ) (l : List ℕ) (from count n : ℕ) (out after : List ℕ) : Type 0 where
+  pub within : low + 3 * n ≤ high
+  pub inside : from + n ≤ count
+  pub is : after ≡ paste out from l n
 
 -- ---- rule 28
 
@@ -40,9 +65,10 @@ abbrev pub Tally : (room m n : ℕ) (over : Bool) → Type 0
 Tally room m n true = room < m
 Tally room m n false = (n ≡ m) × (m ≤ room)
 
-pub record Counted (room : ℕ) (a b : Count) : Type 0 where
-  pub within : a .n ≤ room → b .n ≤ room
-  pub one : (m : ℕ) → Tally room m (a .n) (a .over) → Tally room (m + 1) (b .n) (b .over)
+-- k letters more
+pub record Counted (room : ℕ) (a : Count) (k : ℕ) (b : Count) : Type 0 where
+  pub within : b .n ≤ room
+  pub more : (m : ℕ) → Tally room m (a .n) (a .over) → Tally room (m + k) (b .n) (b .over)
 
 abbrev pub sizeOf : ℕ → Bool → Size
 sizeOf n true = size.Short

@@ -2,9 +2,50 @@
 use crate::reading::Letter;
 use crate::reading::begin;
 use crate::reading::ends;
+use crate::reading::least;
+use crate::reading::letter_at;
 use crate::reading::next;
+use crate::reading::onward;
+ghost use Prim.Native.Nat.{_≤_};
+ghost use lib.ListN.{length};
 ghost use Rattle.codon.specs.Tables.{SetTable, TurnTable, LetterTable};
-ghost use Rattle.translation.specs.Translating.{Compares};
+ghost use Rattle.translation.specs.Reading.{spanLetters};
+ghost use Rattle.translation.specs.Translating.{Same, Compares};
+
+// How many codons at the front of a span give the letters of the value from `from` on, and no stop.
+fn same(
+    r: &[u8],
+    low: usize,
+    high: usize,
+    turned: bool,
+    value: &[u8],
+    from: usize,
+    sets: &[u8; 256],
+    turns: &[u8; 256],
+    table: &[u8; 4096],
+) -> usize
+    requires { ⌜ low ≤ high ⌝ }
+    requires { ⌜ high ≤ length (now r) ⌝ }
+    requires { ⌜ from ≤ length (now value) ⌝ }
+    requires { ⌜ SetTable (now sets) ⌝ }
+    requires { ⌜ TurnTable (now turns) ⌝ }
+    requires { ⌜ LetterTable (now table) ⌝ }
+    ensures { λ n. ⌜ Same low high (spanLetters (now (r .entry)) low high turned) (now (value .entry)) from n ⌝ }
+{
+    let whole = least((high - low) / 3, value.len() - from);
+    let mut k: usize = 0;
+    while k < whole {
+        let a = letter_at(r, low, high, turned, k, sets, turns, table);
+        if a == b'*' {
+            return k;
+        }
+        if value[from + k] != a {
+            return k;
+        }
+        k += 1;
+    }
+    k
+}
 
 // The value is the raw part of the listing. No codon is read past the first difference, nor more than one past the value's length, but for
 // the look whether a stop is the last: so a check stays linear, however often a location's members repeat.
@@ -29,25 +70,30 @@ pub fn is_right(
     let mut x = begin(r, loc, top, frame, sets, turns);
     let mut i: usize = 0;
     loop {
-        match next(r, loc, x, top, sets, turns, table) {
+        let low = x.low;
+        let high = x.high;
+        let turned = x.turned;
+        let k = same(r, low, high, turned, value, i, sets, turns, table);
+        let j = i + k;
+        match next(r, loc, onward(x, k), top, sets, turns, table) {
             Letter::Done => {
-                return i == value.len();
+                return j == value.len();
             }
             Letter::Is(c, y) => {
                 if c == b'*' {
-                    if i < value.len() {
+                    if j < value.len() {
                         return false;
                     }
                     return ends(r, loc, y, top, sets, turns, table);
                 }
-                if value.len() <= i {
+                if value.len() <= j {
                     return false;
                 }
-                if value[i] != c {
+                if value[j] != c {
                     return false;
                 }
                 x = y;
-                i += 1;
+                i = j + 1;
             }
         }
     }

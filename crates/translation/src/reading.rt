@@ -7,10 +7,11 @@ use location::walking::Span;
 use location::walking::Walk;
 use location::walking::start;
 use location::walking::step;
-ghost use Prim.Native.Nat.{_≤_, _<_};
-ghost use lib.ListN.{length};
+ghost use mathlib.Core.Path.{_≡_};
+ghost use Prim.Native.Nat.{_+_, _*_, _≤_, _<_};
+ghost use lib.ListN.{length, getD};
 ghost use Rattle.codon.specs.Tables.{SetTable, TurnTable, LetterTable};
-ghost use Rattle.translation.specs.Reading.{Ready, Opens, Fills, Bases, Skips, Letters, Begins, Ends};
+ghost use Rattle.translation.specs.Reading.{Ready, spanLetters, Opens, Fills, Bases, Onward, Skips, Letters, Begins, Ends};
 
 // What is left to read: of the current span the residues from low to before high, on the complemented strand from the back; and then the
 // spans that are left of the walk.
@@ -161,7 +162,58 @@ fn slowly(
     }
 }
 
-// The letter of the next whole codon. Most codons stand in one span.
+// The letter of the codon k of the residues from low to before high on a strand. Which strand it is stays the same in a loop over k, so the
+// compiler takes the test out of the loop.
+pub fn letter_at(
+    r: &[u8],
+    low: usize,
+    high: usize,
+    turned: bool,
+    k: usize,
+    sets: &[u8; 256],
+    turns: &[u8; 256],
+    table: &[u8; 4096],
+) -> u8
+    requires { ⌜ low + 3 * k + 3 ≤ high ⌝ }
+    requires { ⌜ high ≤ length (now r) ⌝ }
+    requires { ⌜ SetTable (now sets) ⌝ }
+    requires { ⌜ TurnTable (now turns) ⌝ }
+    requires { ⌜ LetterTable (now table) ⌝ }
+    ensures { λ y. ⌜ y ≡ getD (spanLetters (now (r .entry)) low high turned) k 0 ⌝ }
+{
+    if turned {
+        let end = high - 3 * k;
+        return codon(r[end - 1], r[end - 2], r[end - 3], turns, table);
+    }
+    let at = low + 3 * k;
+    codon(r[at], r[at + 1], r[at + 2], sets, table)
+}
+
+// k whole codons of the current span further.
+pub fn onward(x: Reading, k: usize) -> Reading
+    requires { ⌜ x .low + 3 * k ≤ x .high ⌝ }
+    ensures { λ y. ⌜ Onward x k y ⌝ }
+{
+    let walk = x.walk;
+    let low = x.low;
+    let high = x.high;
+    if x.turned {
+        return Reading {
+            walk,
+            low,
+            high: high - 3 * k,
+            turned: true,
+        };
+    }
+    Reading {
+        walk,
+        low: low + 3 * k,
+        high,
+        turned: false,
+    }
+}
+
+// The letter of the next whole codon.
 pub fn next(
     r: &[u8],
     loc: &[u8],
@@ -178,39 +230,14 @@ pub fn next(
     requires { ⌜ LetterTable (now table) ⌝ }
     ensures { λ y. ⌜ Letters (now (r .entry)) (now (loc .entry)) top x y ⌝ }
 {
-    let walk = x.walk;
     let low = x.low;
     let high = x.high;
+    let turned = x.turned;
     if high - low < 3 {
         return slowly(r, loc, x, top, sets, turns, table);
     }
-    if x.turned {
-        let at = high - 3;
-        let a = r[high - 1];
-        let b = r[high - 2];
-        let c = r[at];
-        return Letter::Is(
-            codon(a, b, c, turns, table),
-            Reading {
-                walk,
-                low,
-                high: at,
-                turned: true,
-            },
-        );
-    }
-    let a = r[low];
-    let b = r[low + 1];
-    let c = r[low + 2];
-    Letter::Is(
-        codon(a, b, c, sets, table),
-        Reading {
-            walk,
-            low: low + 3,
-            high,
-            turned: false,
-        },
-    )
+    let c = letter_at(r, low, high, turned, 0, sets, turns, table);
+    Letter::Is(c, onward(x, 1))
 }
 
 // `count` residues further.
@@ -270,6 +297,16 @@ pub fn begin(
         return x;
     }
     skip(r, loc, x, top, frame - 1, sets, turns)
+}
+
+// The lesser of two numbers.
+pub fn least(a: usize, b: usize) -> usize
+    ensures { λ y. ⌜ (y ≤ a) × (y ≤ b) ⌝ }
+{
+    if a < b {
+        return a;
+    }
+    b
 }
 
 // Whether no whole codon is left.

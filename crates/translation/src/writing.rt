@@ -3,13 +3,16 @@ use crate::reading::Letter;
 use crate::reading::Reading;
 use crate::reading::begin;
 use crate::reading::ends;
+use crate::reading::least;
+use crate::reading::letter_at;
 use crate::reading::next;
+use crate::reading::onward;
 ghost use mathlib.Core.Path.{_≡_};
-ghost use Prim.Native.Nat.{_≤_};
+ghost use Prim.Native.Nat.{_+_, _*_, _≤_};
 ghost use lib.ListN.{length};
 ghost use Rattle.codon.specs.Tables.{SetTable, TurnTable, LetterTable};
-ghost use Rattle.translation.specs.Reading.{Ready};
-ghost use Rattle.translation.specs.Translating.{Counted, sizeOf, Measures, Puts, Writes};
+ghost use Rattle.translation.specs.Reading.{Ready, spanLetters};
+ghost use Rattle.translation.specs.Translating.{Counted, sizeOf, NoStops, Clear, Lays, Measures, Puts, Writes};
 
 pub enum Size {
     // The translation's length.
@@ -26,16 +29,18 @@ pub struct Count {
     pub over: bool,
 }
 
-fn counted(a: Count, room: usize) -> Count
-    ensures { λ y. ⌜ Counted room a y ⌝ }
+// k letters more, or too many.
+fn counted(a: Count, k: usize, room: usize) -> Count
+    requires { ⌜ a .n ≤ room ⌝ }
+    ensures { λ y. ⌜ Counted room a k y ⌝ }
 {
-    if a.n < room {
-        return Count {
-            n: a.n + 1,
-            over: a.over,
-        };
+    if room - a.n < k {
+        return Count { n: a.n, over: true };
     }
-    Count { n: a.n, over: true }
+    Count {
+        n: a.n + k,
+        over: a.over,
+    }
 }
 
 fn sized(a: Count) -> Size
@@ -45,6 +50,91 @@ fn sized(a: Count) -> Size
         return Size::Short;
     }
     Size::Is(a.n)
+}
+
+// The bits that all letters of 256 codons of a span share, from the codon `from` on. A stop is below 64, so what is 64 or more has met none;
+// one test for so many codons, and no exit from the loop.
+fn shared_bits(
+    r: &[u8],
+    low: usize,
+    high: usize,
+    turned: bool,
+    from: usize,
+    sets: &[u8; 256],
+    turns: &[u8; 256],
+    table: &[u8; 4096],
+) -> u8
+    requires { ⌜ low + 3 * (from + 256) ≤ high ⌝ }
+    requires { ⌜ high ≤ length (now r) ⌝ }
+    requires { ⌜ SetTable (now sets) ⌝ }
+    requires { ⌜ TurnTable (now turns) ⌝ }
+    requires { ⌜ LetterTable (now table) ⌝ }
+    ensures { λ y. ⌜ (64 ≤ y → NoStops (spanLetters (now (r .entry)) low high turned) from (from + 256)) ⌝ }
+{
+    let end = from + 256;
+    let mut bits: u8 = 255;
+    let mut k = from;
+    while k < end {
+        bits = bits & letter_at(r, low, high, turned, k, sets, turns, table);
+        k += 1;
+    }
+    bits
+}
+
+// How many codons at the front of a span stand in blocks without a stop.
+fn clear_blocks(
+    r: &[u8],
+    low: usize,
+    high: usize,
+    turned: bool,
+    sets: &[u8; 256],
+    turns: &[u8; 256],
+    table: &[u8; 4096],
+) -> usize
+    requires { ⌜ low ≤ high ⌝ }
+    requires { ⌜ high ≤ length (now r) ⌝ }
+    requires { ⌜ SetTable (now sets) ⌝ }
+    requires { ⌜ TurnTable (now turns) ⌝ }
+    requires { ⌜ LetterTable (now table) ⌝ }
+    ensures { λ n. ⌜ Clear low high (spanLetters (now (r .entry)) low high turned) n ⌝ }
+{
+    let whole = (high - low) / 3;
+    let mut k: usize = 0;
+    while 256 <= whole - k {
+        if shared_bits(r, low, high, turned, k, sets, turns, table) < 64 {
+            return k;
+        }
+        k += 256;
+    }
+    k
+}
+
+// How many codons at the front of a span are no stop: whole blocks, and then one by one.
+fn clear(
+    r: &[u8],
+    low: usize,
+    high: usize,
+    turned: bool,
+    sets: &[u8; 256],
+    turns: &[u8; 256],
+    table: &[u8; 4096],
+) -> usize
+    requires { ⌜ low ≤ high ⌝ }
+    requires { ⌜ high ≤ length (now r) ⌝ }
+    requires { ⌜ SetTable (now sets) ⌝ }
+    requires { ⌜ TurnTable (now turns) ⌝ }
+    requires { ⌜ LetterTable (now table) ⌝ }
+    ensures { λ n. ⌜ Clear low high (spanLetters (now (r .entry)) low high turned) n ⌝ }
+{
+    let whole = (high - low) / 3;
+    let mut k = clear_blocks(r, low, high, turned, sets, turns, table);
+    while k < whole {
+        if letter_at(r, low, high, turned, k, sets, turns, table) == b'*' {
+            return k;
+        }
+        k += 1;
+    }
+    k
 }
 
 // The translation's length, for room of so many bytes.
@@ -69,22 +159,58 @@ pub fn measure(
     let mut x = begin(r, loc, top, frame, sets, turns);
     let mut count = Count { n: 0, over: false };
     loop {
-        match next(r, loc, x, top, sets, turns, table) {
+        let low = x.low;
+        let high = x.high;
+        let turned = x.turned;
+        let k = clear(r, low, high, turned, sets, turns, table);
+        let passed = counted(count, k, room);
+        match next(r, loc, onward(x, k), top, sets, turns, table) {
             Letter::Done => {
-                return sized(count);
+                return sized(passed);
             }
             Letter::Is(c, y) => {
                 if c == b'*' {
                     if ends(r, loc, y, top, sets, turns, table) {
-                        return sized(count);
+                        return sized(passed);
                     }
                     return Size::Stop;
                 }
-                count = counted(count, room);
+                count = counted(passed, 1, room);
                 x = y;
             }
         }
     }
+}
+
+// The letters of codons at the front of a span, laid into out from `from` to before `count`: how many.
+fn lay(
+    r: &[u8],
+    low: usize,
+    high: usize,
+    turned: bool,
+    from: usize,
+    count: usize,
+    sets: &[u8; 256],
+    turns: &[u8; 256],
+    table: &[u8; 4096],
+    out: &mut [u8],
+) -> usize
+    requires { ⌜ low ≤ high ⌝ }
+    requires { ⌜ high ≤ length (now r) ⌝ }
+    requires { ⌜ from ≤ count ⌝ }
+    requires { ⌜ count ≤ length (now out) ⌝ }
+    requires { ⌜ SetTable (now sets) ⌝ }
+    requires { ⌜ TurnTable (now turns) ⌝ }
+    requires { ⌜ LetterTable (now table) ⌝ }
+    ensures { λ n. ⌜ Lays low high (spanLetters (now (r .entry)) low high turned) from count n (now (out .entry)) (now (out .exit)) ⌝ }
+{
+    let whole = least((high - low) / 3, count - from);
+    let mut k: usize = 0;
+    while k < whole {
+        out[from + k] = letter_at(r, low, high, turned, k, sets, turns, table);
+        k += 1;
+    }
+    k
 }
 
 // The next `count` letters at the front of out.
@@ -109,15 +235,24 @@ fn put(
 {
     let mut x = from;
     let mut k: usize = 0;
-    while k < count {
-        match next(r, loc, x, top, sets, turns, table) {
+    loop {
+        let low = x.low;
+        let high = x.high;
+        let turned = x.turned;
+        let n = lay(r, low, high, turned, k, count, sets, turns, table, out);
+        let j = k + n;
+        let passed = onward(x, n);
+        if count <= j {
+            return;
+        }
+        match next(r, loc, passed, top, sets, turns, table) {
             Letter::Done => {
                 return;
             }
             Letter::Is(c, y) => {
-                out[k] = c;
+                out[j] = c;
                 x = y;
-                k += 1;
+                k = j + 1;
             }
         }
     }
