@@ -20,7 +20,7 @@ use Rattle.judging.specs.Sets.{Faults, Firsts, Bad, Some, InSource, InFeature, 
 use Rattle.judging.specs.Sets as part
 use Rattle.judging.proofs.Faults.{firsts-or, firsts-as, firsts-one}
 use Rattle.judging.proofs.Moltypes.{kind-once}
-use Rattle.features.specs.Featured.{IsSource, Capped, Tallied, Sourced, Finishes}
+use Rattle.features.specs.Featured.{IsSource, Capped, Tallied, WithSource, Finishes}
 use Rattle.features.specs.declared.Tally.{Tally}
 
 count-as : {A : Type 0} (C D : A → Type 0) → ((a : A) → C a → D a) → ((a : A) → D a → C a) → {l : List A} {n : ℕ} → Count C l n → Count D l n
@@ -77,7 +77,7 @@ module _ (q : Sequence ℕ) (a : Tally) (t : Tallied q (featuresOf q) a) where
               };
         }
 
-    pub with-source : {place : ℕ} (r : Fault) → place ≡ tablePlace (q .table) (q .residues) → Sourced a place r → Firsts (InTable q) r
+    pub with-source : {place : ℕ} (r : Fault) → place ≡ tablePlace (q .table) (q .residues) → WithSource a place r → Firsts (InTable q) r
     with-source {place} r pl s = by (decLe (a .sources) 1) (decLe 1 (a .sources))
       where
         to-one : (n p : ℕ) → _or_ (Some (λ (i : ℕ) (f : Feature ℕ). InFeature q f) (featuresOf q)) InOnly n p → InTable q n p

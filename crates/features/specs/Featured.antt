@@ -133,25 +133,26 @@ pub record Tallied (q : Sequence ℕ) (l : List (Feature ℕ)) (r : Tally) : Typ
 
 -- ---- the table
 
-pub record Sourced (a : Tally) (place : ℕ) (r : Fault) : Type 0 where
+pub record WithSource (a : Tally) (place : ℕ) (r : Fault) : Type 0 where
   pub one : a .sources ≡ 1 → Earlier (a .fault) (a .source) r
   pub other : ¬ (a .sources ≡ 1) → Earlier (a .fault) (At 21 place) r
 
 abbrev pub Finishes : Tally → code.Kind → ℕ → Fault → Type 0
-Finishes a kind.Dna place r = Sourced a place r
-Finishes a kind.Rna place r = Sourced a place r
-Finishes a kind.Aa place r = Sourced a place r
+Finishes a kind.Dna place r = WithSource a place r
+Finishes a kind.Rna place r = WithSource a place r
+Finishes a kind.Aa place r = WithSource a place r
 Finishes a kind.Other place r = r ≡ a .fault
-
--- what is known of all the features of q
-pub record JudgesFeatures (s : List ℕ) (first : ℕ) (known : Known) (r : Tally) : Type 0 where
-  pub says : (q : Sequence ℕ) → Knows s q known → (l : List (Feature ℕ)) (e : ℕ) → Stands (each (child feature) l) s first e → Starts closing (drop e s) → Tallied q l r
 
 -- no count is above this, whatever the bytes are
 pub record Below (a : Tally) (n : ℕ) : Type 0 where
   pub features : a .features ≤ n
   pub judged : a .judged ≤ n
   pub unjudged : a .unjudged ≤ n
+
+-- what is known of all the features of q; no count is above the length, whatever the bytes are
+pub record JudgesFeatures (s : List ℕ) (first : ℕ) (known : Known) (r : Tally) : Type 0 where
+  pub says : (q : Sequence ℕ) → Knows s q known → (l : List (Feature ℕ)) (e : ℕ) → Stands (each (child feature) l) s first e → Starts closing (drop e s) → Tallied q l r
+  pub below : Below r (length s)
 
 pub record IsTabled (q : Sequence ℕ) (r : Tabled) : Type 0 where
   pub fault : Firsts (InTable q) (r .fault)
@@ -167,3 +168,6 @@ pub record Tables (a : Tally) (c : code.Kind) (place : ℕ) (r : Tabled) : Type 
 
 pub record JudgesTable (s : List ℕ) (t : FoundTable) (known : Known) (r : Tabled) : Type 0 where
   pub says : (q : Sequence ℕ) → Knows s q known → TableIs s (q .table) t → IsTabled q r
+  pub features-below : r .features ≤ length s
+  pub judged-below : r .judged ≤ length s
+  pub unjudged-below : r .unjudged ≤ length s

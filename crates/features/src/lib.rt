@@ -1,11 +1,16 @@
 // The features of a sequence: rules 21 to 28, and the counts of features and coding regions.
 // Relies on the walk along the table, the judged location, and the crates for a source and a coding region.
+use coding::Region;
+use judging::Known;
 use location::judging::Verdict;
 use paper::Fault;
+use source::Sourced;
 use value::Kind;
+use walk::FoundFeature;
+use walk::FoundTable;
 ghost use mathlib.Core.Path.{_≡_};
 ghost use Rattle.codon.specs.Tables.{SetTable, TurnTable, LetterTable};
-ghost use Rattle.features.specs.Featured.{placeFault, NamesSource, NamesCoding, roleOf, nothingYet, upTo, Adds, Finishes, Sourced, Tables};
+ghost use Rattle.features.specs.Featured.{placeFault, NamesSource, NamesCoding, roleOf, nothingYet, upTo, Adds, Finishes, WithSource, Tables, JudgesFeature, JudgesFeatures, JudgesTable};
 
 // What a feature is, for a count.
 pub enum Role {
@@ -190,7 +195,7 @@ fn finish(a: Tally, kind: Kind, place: usize) -> Fault
 }
 
 fn with_source(a: Tally, place: usize) -> Fault
-    ensures { λ r. ⌜ Sourced a place r ⌝ }
+    ensures { λ r. ⌜ WithSource a place r ⌝ }
 {
     let fault = a.fault;
     let source = a.source;
@@ -217,4 +222,124 @@ fn sum_up(a: Tally, kind: Kind, place: usize) -> Tabled
         judged: a.judged,
         unjudged: a.unjudged,
     }
+}
+
+// A feature, judged.
+fn judge_feature(
+    s: &[u8],
+    at: usize,
+    known: Known,
+    sets: &[u8; 256],
+    turns: &[u8; 256],
+    table: &[u8; 4096],
+) -> Featured
+    requires { ⌜ SetTable (now sets) ⌝ }
+    requires { ⌜ TurnTable (now turns) ⌝ }
+    requires { ⌜ LetterTable (now table) ⌝ }
+    ensures { λ r. ⌜ JudgesFeature (now (s .entry)) at known r ⌝ }
+{
+    let FoundFeature {
+        key,
+        location,
+        quals,
+        long,
+    } = walk::feature(s, at);
+    let kind = known.kind;
+    let part = judging::bytes_of(s, location.from, location.to);
+    let verdict = location::judging::judge_location(part, known.top);
+    let place = judge_place(verdict, kind, location.from);
+    let name = judging::bytes_of(s, key.from, key.to);
+    if is_source(name, kind) {
+        let Sourced { fault, next } = source::judge_source(s, key.from, location, quals, known);
+        return Featured {
+            fault: place,
+            source: fault,
+            role: Role::Source,
+            next: walk::feature_end(s, next, long),
+        };
+    }
+    if is_coding(name, kind) {
+        let Region {
+            fault,
+            unjudged,
+            next,
+        } = coding::judge_coding(
+            s,
+            key.from,
+            location,
+            quals,
+            known,
+            verdict,
+            sets,
+            turns,
+            table,
+        );
+        return Featured {
+            fault: judging::earlier(place, fault),
+            source: Fault::Clean,
+            role: role_of(unjudged),
+            next: walk::feature_end(s, next, long),
+        };
+    }
+    let a = walk::qualifiers_over(s, quals);
+    Featured {
+        fault: place,
+        source: Fault::Clean,
+        role: Role::Plain,
+        next: walk::feature_end(s, a, long),
+    }
+}
+
+// The features that stand here.
+fn judge_features(
+    s: &[u8],
+    first: usize,
+    known: Known,
+    sets: &[u8; 256],
+    turns: &[u8; 256],
+    table: &[u8; 4096],
+) -> Tally
+    requires { ⌜ SetTable (now sets) ⌝ }
+    requires { ⌜ TurnTable (now turns) ⌝ }
+    requires { ⌜ LetterTable (now table) ⌝ }
+    ensures { λ r. ⌜ JudgesFeatures (now (s .entry)) first known r ⌝ }
+{
+    let mut at = first;
+    let mut tally = no_features();
+    loop {
+        if walk::feature_here(s, at) {
+            let x = judge_feature(s, at, known, sets, turns, table);
+            let next = x.next;
+            if next <= at {
+                return tally;
+            }
+            tally = add(tally, x, s.len());
+            at = next;
+        } else {
+            return tally;
+        }
+    }
+}
+
+// Rules 21 to 28.
+pub fn judge_table(
+    s: &[u8],
+    found: FoundTable,
+    known: Known,
+    sets: &[u8; 256],
+    turns: &[u8; 256],
+    table: &[u8; 4096],
+) -> Tabled
+    requires { ⌜ SetTable (now sets) ⌝ }
+    requires { ⌜ TurnTable (now turns) ⌝ }
+    requires { ⌜ LetterTable (now table) ⌝ }
+    ensures { λ r. ⌜ JudgesTable (now (s .entry)) found known r ⌝ }
+{
+    let kind = known.kind;
+    if found.present {
+        let a = judge_features(s, found.first, known, sets, turns, table);
+        return sum_up(a, kind, found.place);
+    }
+    let residues = known.residues;
+    sum_up(no_features(), kind, residues.from)
 }

@@ -1,0 +1,2 @@
+pub mod Ones
+pub mod Totals
