@@ -59,8 +59,8 @@ module _ {s : List ℕ} {first at : ℕ} {frame : Frame} {e h : Bool} (here : Th
   gather-next {x = x} {n = n} {a = a} {b = b} t f v g k =
       one-more (NotedOf frame e) (NotedOf a b) t here w f
       (λ l q i m z.
-        let y : Shown s n (x .value) q = record { name = part-shows i v; valued = m } in
-        record { framed = g .says q y l (z .framed); left = k .says q y l (z .left) })
+      let y : Shown s n (x .value) q = record { name = part-shows i v; valued = m } in
+      record { framed = g .says q y l (z .framed); left = k .says q y l (z .left) })
 
   pub gather-stuck : {x : FoundQualifier} (r : Noted) → h ≡ true → FindsQualifier s at x → x .next ≤ at → Notes s first r
   gather-stuck r t f n = record { says = λ l j d fol. absurd (stuck (NotedOf frame e) t here w f n l j d fol) }
@@ -130,9 +130,9 @@ module _ {s : List ℕ} {location : Part} {first : ℕ} {known : Known} {verdict
               λ key q f stop a c t.
               none-judged c
               (λ z j.
-                let k = subst (Placed (L q) (f .location .read)) e (a .judged) in
-                let o = locates-once (k .0) (j .codons .location) (k .1) (j .codons .located) in
-                true≢false (sym w ∙ k .2 .wrong ∙ ap (breaks25 (L q)) o ∙ j .codons .inside));
+              let k = subst (Placed (L q) (f .location .read)) e (a .judged) in
+              let o = locates-once (k .0) (j .codons .location) (k .1) (j .codons .located) in
+              true≢false (sym w ∙ k .2 .wrong ∙ ap (breaks25 (L q)) o ∙ j .codons .inside));
         }
 
     pub region-judged : {r loc : List ℕ} {y : Fault} → u ≡ false → known .clean ≡ true → x .wrong ≡ false

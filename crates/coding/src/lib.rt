@@ -291,7 +291,19 @@ fn translations(
             let Checked {
                 fault: here,
                 right: known,
-            } = check(s, r, loc, top, start, name, value, right, sets, turns, table);
+            } = check(
+                s,
+                r,
+                loc,
+                top,
+                start,
+                name,
+                value,
+                right,
+                sets,
+                turns,
+                table,
+            );
             fault = earlier(fault, here);
             right = known;
             at = next;
@@ -367,7 +379,18 @@ pub fn judge_coding(
     let unjudged = is_unjudged(excepted, verdict);
     match frame {
         Frame::Unstated => {
-            let fault = region_fault(s, location, first, known, verdict, 1, unjudged, sets, turns, table);
+            let fault = region_fault(
+                s,
+                location,
+                first,
+                known,
+                verdict,
+                1,
+                unjudged,
+                sets,
+                turns,
+                table,
+            );
             return Region {
                 fault,
                 unjudged,
@@ -375,7 +398,18 @@ pub fn judge_coding(
             };
         }
         Frame::Stated(n) => {
-            let fault = region_fault(s, location, first, known, verdict, n, unjudged, sets, turns, table);
+            let fault = region_fault(
+                s,
+                location,
+                first,
+                known,
+                verdict,
+                n,
+                unjudged,
+                sets,
+                turns,
+                table,
+            );
             return Region {
                 fault,
                 unjudged,

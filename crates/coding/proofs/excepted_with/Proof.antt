@@ -1,51 +1,39 @@
+-- `coding::excepted_with` meets its contract.
+use borrow.Author.Tests.{not-true, not-false}
+use Rattle.coding.proofs.Exceptions.{excepts-before, excepts-name, excepts-code, excepts-other, excepts-first}
 use borrow.Author.Needs.{needs}
 use Rattle.coding.proofs.excepted_with.Statement.{statement}
 use Rattle.coding.proofs.excepted_with.Tie as tie
-use Rattle.coding.proofs.excepted_with.Reads as reads
-use Rattle.coding.proofs.excepted_with.Lts as lts
-use Rattle.coding.proofs.is_excepted.Reads as is-excepted-reads
-use Rattle.coding.proofs.value_is.Reads as value-is-reads
-use Rattle.value.proofs.same.Reads as same-reads
 
--- src/lib.rt:107:9
 returns : tie.Need-returns
-returns c = search needs
+returns c = excepts-before (c .if1 .taken)
 
--- src/lib.rt:109:8
 is-excepted-requires : tie.Need-is-excepted-requires
 is-excepted-requires c κs = search needs
 
--- src/lib.rt:110:9
 returns-2 : tie.Need-returns-2
-returns-2 c = search needs
+returns-2 c = excepts-name (c .if2 .taken) (c .before .is-excepted .ensures)
 
--- src/lib.rt:112:17
 slice-aggregate-same : tie.Need-slice-aggregate-same
 slice-aggregate-same c = search needs
 
--- src/lib.rt:112:9
 same-requires : tie.Need-same-requires
 same-requires c κs = search needs
 
--- src/lib.rt:113:9
 returns-3 : tie.Need-returns-3
-returns-3 c = search needs
+returns-3 c = excepts-other (c .before .before .before .before .before .if1 .left) (c .before .before .before .if2 .left) (c .before .before .before .before .is-excepted .ensures) (not-true (c .before .same .result) (c .if3 .taken)) (c .before .same .ensures)
 
--- src/lib.rt:115:27
 slice-aggregate-value-is : tie.Need-slice-aggregate-value-is
 slice-aggregate-value-is c = search needs
 
--- src/lib.rt:115:8
 value-is-requires : tie.Need-value-is-requires
 value-is-requires c κs = search needs
 
--- src/lib.rt:116:9
 returns-4 : tie.Need-returns-4
-returns-4 c = search needs
+returns-4 c = excepts-first (c .before .before .before .before .before .before .before .before .if1 .left) (c .before .before .before .before .before .before .if2 .left) (c .before .before .before .before .before .before .before .is-excepted .ensures) (c .if4 .taken) (c .before .value-is .ensures)
 
--- src/lib.rt:103:1
 returns-5 : tie.Need-returns-5
-returns-5 c = search needs
+returns-5 c = excepts-code (not-false (c .before .before .before .before .same .result) (c .before .before .before .if3 .left)) (c .before .before .before .before .same .ensures) (c .if4 .left) (c .before .value-is .ensures)
 
 pub excepted-with-spec : {M : Type 1} → statement M
 excepted-with-spec =

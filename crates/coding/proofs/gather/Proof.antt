@@ -1,59 +1,53 @@
+-- `coding::gather` meets its contract. The loop's invariant: what the qualifiers passed say. The measure is what is left of the text.
+use Prim.Native.Nat.{_-_}
+use native.Mathlib.Omega.{arith}
+use denote.Ref.{now}
+use lib.ListN.{length}
+use Rattle.paper.specs.Bytes.{bytes}
+use Rattle.walk.proofs.Loops.{there-inside}
+use Rattle.coding.specs.Qualifiers.{NotedOf}
+use Rattle.coding.proofs.Loops.{SeenSo}
+use Rattle.coding.proofs.Regions.{gather-none, gather-next, gather-stuck, gather-done}
 use borrow.Author.Needs.{needs}
 use Rattle.coding.proofs.gather.Statement.{statement}
 use Rattle.coding.proofs.gather.Tie as tie
-use Rattle.coding.proofs.gather.Reads as reads
-use Rattle.coding.proofs.gather.Lts as lts
-use Rattle.coding.proofs.excepted_with.Reads as excepted-with-reads
-use Rattle.coding.proofs.frame_with.Reads as frame-with-reads
-use Rattle.judging.proofs.bytes_of.Reads as bytes-of-reads
-use Rattle.walk.proofs.qualifier.Reads as qualifier-reads
-use Rattle.walk.proofs.qualifier_here.Reads as qualifier-here-reads
 
 abbrev Inv-loop : tie.InvT-loop
-Inv-loop s first at₀ frame₀ excepted₀ at frame excepted = ?
+Inv-loop s first at₀ frame₀ excepted₀ at frame excepted = SeenSo s first at (NotedOf frame excepted)
 
 abbrev μ-loop : tie.MeasureT-loop
-μ-loop s first at₀ frame₀ excepted₀ at frame excepted = ?
+μ-loop s first at₀ frame₀ excepted₀ at frame excepted = length s - at
 
--- src/lib.rt:133:5
 loop-holds : tie.Need-loop-holds Inv-loop μ-loop
-loop-holds c = search needs
+loop-holds c = gather-none _
 
--- src/lib.rt:134:12
 qualifier-here-requires : tie.Need-qualifier-here-requires Inv-loop μ-loop
 qualifier-here-requires c κs = search needs
 
--- src/lib.rt:135:56
 qualifier-requires : tie.Need-qualifier-requires Inv-loop μ-loop
 qualifier-requires c κs = search needs
 
--- src/lib.rt:137:17
 returns : tie.Need-returns Inv-loop μ-loop
-returns c = search needs
+returns c = gather-stuck (c .before .before .before .before .qualifier-here .ensures) (c .before .before .before .before .before .loop .inv) _ (c .before .before .before .if1 .taken) (c .before .before .qualifier .ensures) (c .if2 .taken)
 
--- src/lib.rt:143:17
 bytes-of-requires : tie.Need-bytes-of-requires Inv-loop μ-loop
 bytes-of-requires c κs = search needs
 
--- src/lib.rt:144:13
 frame-with-requires : tie.Need-frame-with-requires Inv-loop μ-loop
 frame-with-requires c κs = search needs
 
--- src/lib.rt:145:13
 excepted-with-requires : tie.Need-excepted-with-requires Inv-loop μ-loop
 excepted-with-requires c κs = search needs
 
--- src/lib.rt:133:5
 loop-less : tie.Need-loop-less Inv-loop μ-loop
-loop-less c = search needs
+loop-less c = omega (arith, there-inside 60 (bytes "INSDQualifier") (now (c .before .before .before .before .before .before .before .before .before .before .args .s)) (c .before .before .before .before .before .before .before .before .loop .at) (c .before .before .before .before .before .before .if1 .taken) (c .before .before .before .before .before .before .before .qualifier-here .ensures))
 
--- src/lib.rt:133:5
 loop-again : tie.Need-loop-again Inv-loop μ-loop
-loop-again c = search needs
+loop-again c =
+    gather-next (c .before .before .before .before .before .before .before .qualifier-here .ensures) (c .before .before .before .before .before .before .before .before .loop .inv) (c .before .before .before .before .before .before .if1 .taken) (c .before .before .before .before .before .qualifier .ensures) (c .before .before .bytes-of .ensures) (c .before .frame-with .ensures) (c .excepted-with .ensures)
 
--- src/lib.rt:148:13
 returns-2 : tie.Need-returns-2 Inv-loop μ-loop
-returns-2 c = search needs
+returns-2 c = gather-done (c .before .qualifier-here .ensures) (c .before .before .loop .inv) (c .if1 .left)
 
 pub gather-spec : {M : Type 1} → statement M
 gather-spec =

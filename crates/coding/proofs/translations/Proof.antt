@@ -1,54 +1,47 @@
+-- `coding::translations` meets its contract. The loop's invariant: the first fault of the qualifiers passed. The measure is what is left of the text.
+use Prim.Native.Nat.{_-_}
+use native.Mathlib.Omega.{arith}
+use denote.Ref.{now}
+use lib.ListN.{length}
+use Rattle.paper.specs.Bytes.{bytes}
+use Rattle.walk.proofs.Loops.{there-inside}
+use Rattle.coding.proofs.Rights.{Checking, checking-none, checking-next, checking-stuck, checking-done}
 use borrow.Author.Needs.{needs}
 use Rattle.coding.proofs.translations.Statement.{statement}
 use Rattle.coding.proofs.translations.Tie as tie
-use Rattle.coding.proofs.translations.Reads as reads
-use Rattle.coding.proofs.translations.Lts as lts
-use Rattle.coding.proofs.check.Reads as check-reads
-use Rattle.judging.proofs.earlier.Reads as earlier-reads
-use Rattle.walk.proofs.qualifier.Reads as qualifier-reads
-use Rattle.walk.proofs.qualifier_here.Reads as qualifier-here-reads
 
 abbrev Inv-loop : tie.InvT-loop
-Inv-loop s r loc top start first sets turns table at₀ fault₀ right₀ at fault right = ?
+Inv-loop s r loc top start first sets turns table at₀ fault₀ right₀ at fault right = Checking s r loc top start first at fault right
 
 abbrev μ-loop : tie.MeasureT-loop
-μ-loop s r loc top start first sets turns table at₀ fault₀ right₀ at fault right = ?
+μ-loop s r loc top start first sets turns table at₀ fault₀ right₀ at fault right = length s - at
 
--- src/lib.rt:285:5
 loop-holds : tie.Need-loop-holds Inv-loop μ-loop
-loop-holds c = search needs
+loop-holds c = checking-none
 
--- src/lib.rt:286:12
 qualifier-here-requires : tie.Need-qualifier-here-requires Inv-loop μ-loop
 qualifier-here-requires c κs = search needs
 
--- src/lib.rt:287:56
 qualifier-requires : tie.Need-qualifier-requires Inv-loop μ-loop
 qualifier-requires c κs = search needs
 
--- src/lib.rt:289:17
 returns : tie.Need-returns Inv-loop μ-loop
-returns c = search needs
+returns c = checking-stuck (c .before .before .before .before .qualifier-here .ensures) (c .before .before .before .before .before .loop .inv) (c .before .before .before .if1 .taken) (c .before .before .qualifier .ensures) (c .if2 .taken)
 
--- src/lib.rt:294:17
 check-requires : tie.Need-check-requires Inv-loop μ-loop
-check-requires c κs = search needs
+check-requires c κs = c .before .before .before .before .before .before .before .before .before .pre
 
--- src/lib.rt:295:13
 earlier-requires : tie.Need-earlier-requires Inv-loop μ-loop
 earlier-requires c κs = search needs
 
--- src/lib.rt:285:5
 loop-less : tie.Need-loop-less Inv-loop μ-loop
-loop-less c = search needs
+loop-less c = omega (arith, there-inside 60 (bytes "INSDQualifier") (now (c .before .before .before .before .before .before .before .before .before .before .before .args .s)) (c .before .before .before .before .before .before .before .loop .at) (c .before .before .before .before .before .if1 .taken) (c .before .before .before .before .before .before .qualifier-here .ensures))
 
--- src/lib.rt:285:5
 loop-again : tie.Need-loop-again Inv-loop μ-loop
-loop-again c = search needs
+loop-again c = checking-next (c .before .before .before .before .before .before .qualifier-here .ensures) (c .before .before .before .before .before .before .before .loop .inv) (c .before .before .before .before .before .if1 .taken) (c .before .before .before .before .qualifier .ensures) (c .before .check .ensures) (c .earlier .ensures)
 
--- src/lib.rt:299:13
 returns-2 : tie.Need-returns-2 Inv-loop μ-loop
-returns-2 c = search needs
+returns-2 c = checking-done (c .before .qualifier-here .ensures) (c .before .before .loop .inv) (c .if1 .left)
 
 pub translations-spec : {M : Type 1} → statement M
 translations-spec =
