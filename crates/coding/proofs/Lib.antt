@@ -1,0 +1,7 @@
+pub mod Lists
+pub mod Loops
+pub mod Values
+pub mod Frames
+pub mod Exceptions
+pub mod Rights
+pub mod Regions

@@ -1,12 +1,13 @@
 -- What is promised of the judgement of a coding region.
 use Prim.Native.Nat.{ℕ}
 use mathlib.Core.Path.{_≡_}
+use mathlib.Core.Bool.{Bool}
 use mathlib.Core.List.{List}
 use lib.ListN.{drop}
 use Rattle.paper.specs.Form.{each}
 use Rattle.paper.specs.Layout.{child, qualifier}
 use Rattle.paper.specs.Tree.{Sequence, Feature, qualifiersOf}
-use Rattle.paper.specs.Rules.{L, Coding, Unjudged}
+use Rattle.paper.specs.Rules.{L, Coding, CodonStart, Unjudged}
 use Rattle.scan.specs.Follow.{Starts, closing}
 use Rattle.walk.specs.Stands.{Stands, IsPart}
 use Rattle.walk.specs.declared.Part.{Part}
@@ -16,6 +17,7 @@ use Rattle.location.specs.declared.judging.Verdict.{Verdict}
 use Rattle.judging.specs.Sets.{Firsts, InCoding}
 use Rattle.judging.specs.Known.{Knows}
 use Rattle.judging.specs.declared.Known.{Known}
+use Rattle.paper.specs.declared.Fault.{Fault}
 use Rattle.coding.specs.declared.Region.{Region}
 
 -- the feature f of the sequence q is the coding region that is judged, and its qualifiers stand from `first` to `stop`
@@ -35,3 +37,8 @@ pub record IsRegion (q : Sequence ℕ) (f : Feature ℕ) (stop : ℕ) (r : Regio
 
 pub record JudgesCoding (s : List ℕ) (key : ℕ) (location : Part) (first : ℕ) (known : Known) (verdict : Verdict) (r : Region) : Type 0 where
   pub says : (q : Sequence ℕ) (f : Feature ℕ) (stop : ℕ) → Asked s key location first known verdict q f stop → IsRegion q f stop r
+
+-- where rule 27 holds and translation starts with residue `start`
+pub record JudgesRegion (s : List ℕ) (location : Part) (first : ℕ) (known : Known) (verdict : Verdict) (start : ℕ) (unjudged : Bool) (r : Fault) : Type 0 where
+  pub says : (key : ℕ) (q : Sequence ℕ) (f : Feature ℕ) (stop : ℕ) → Asked s key location first known verdict q f stop
+      → CodonStart f start → Tells unjudged (Unjudged f) → Firsts (InCoding q f) r

@@ -1,2 +1,4 @@
 -- What the crate's promises cite.
+pub mod Qualifiers
+pub mod Translations
 pub mod Coding

@@ -1,17 +1,357 @@
 // One coding region of DNA or RNA: rules 27 and 28, and whether it is judged.
 // Relies on the walk along its qualifiers, the values, the judged location and the translation.
 use judging::Known;
+use judging::bytes_of;
+use judging::earlier;
 use location::judging::Verdict;
 use paper::Fault;
+use translation::comparing::is_right;
+use value::same;
+use walk::FoundQualifier;
+use walk::Maybe;
 use walk::Part;
 ghost use Rattle.codon.specs.Tables.{SetTable, TurnTable, LetterTable};
-ghost use Rattle.coding.specs.Coding.{JudgesCoding};
+ghost use Rattle.value.specs.Reading.{OfRead};
+ghost use Rattle.coding.specs.Qualifiers.{ValueIs, States, Frames, Excepted, Excepts, Notes, LeavesOut};
+ghost use Rattle.coding.specs.Translations.{SaysRight, Checks, Rights};
+ghost use Rattle.coding.specs.Coding.{JudgesCoding, JudgesRegion};
 
 // The first fault of the region, whether it is unjudged, and where its qualifiers end.
 pub struct Region {
     pub fault: Fault,
     pub unjudged: bool,
     pub next: usize,
+}
+
+// ---- what the qualifiers say
+
+// Whether a value is there and is x, which is written as it reads.
+fn value_is(s: &[u8], value: Maybe, x: &[u8]) -> bool
+    ensures { λ r. ⌜ ValueIs (now (s .entry)) value (now (x .entry)) r ⌝ }
+{
+    match value {
+        Maybe::Absent => {
+            return false;
+        }
+        Maybe::Present(p) => {
+            let w = bytes_of(s, p.from, p.to);
+            return same(w, x);
+        }
+    }
+}
+
+// Where translation starts: no codon_start was seen, or one, of the value 1, 2 or 3; else rule 27 is broken.
+enum Frame {
+    Unstated,
+    Stated(usize),
+    Wrong,
+}
+
+// What one codon_start of this value states.
+fn stated(s: &[u8], value: Maybe) -> Frame
+    ensures { λ r. ⌜ States (now (s .entry)) value r ⌝ }
+{
+    if value_is(s, value, b"1") {
+        return Frame::Stated(1);
+    }
+    if value_is(s, value, b"2") {
+        return Frame::Stated(2);
+    }
+    if value_is(s, value, b"3") {
+        return Frame::Stated(3);
+    }
+    Frame::Wrong
+}
+
+// The frame, after one qualifier more, whose name is w.
+fn frame_with(s: &[u8], frame: Frame, w: &[u8], value: Maybe) -> Frame
+    ensures { λ r. ⌜ Frames (now (s .entry)) frame (now (w .entry)) value r ⌝ }
+{
+    if !same(w, b"codon_start") {
+        return frame;
+    }
+    match frame {
+        Frame::Unstated => {
+            return stated(s, value);
+        }
+        Frame::Stated(_) => {
+            return Frame::Wrong;
+        }
+        Frame::Wrong => {
+            return Frame::Wrong;
+        }
+    }
+}
+
+// Whether a qualifier of this name leaves its region unjudged, whatever its value.
+fn is_excepted(w: &[u8]) -> bool
+    ensures { λ r. ⌜ OfRead (now (w .entry)) Excepted r ⌝ }
+{
+    if same(w, b"transl_except") {
+        return true;
+    }
+    if same(w, b"exception") {
+        return true;
+    }
+    if same(w, b"pseudo") {
+        return true;
+    }
+    same(w, b"pseudogene")
+}
+
+// Whether some qualifier leaves the region unjudged, after one more.
+fn excepted_with(s: &[u8], excepted: bool, w: &[u8], value: Maybe) -> bool
+    ensures { λ r. ⌜ Excepts (now (s .entry)) excepted (now (w .entry)) value r ⌝ }
+{
+    if excepted {
+        return true;
+    }
+    if is_excepted(w) {
+        return true;
+    }
+    if !same(w, b"transl_table") {
+        return false;
+    }
+    if value_is(s, value, b"1") {
+        return false;
+    }
+    true
+}
+
+struct Noted {
+    frame: Frame,
+    excepted: bool,
+    next: usize,
+}
+
+fn gather(s: &[u8], first: usize) -> Noted
+    ensures { λ r. ⌜ Notes (now (s .entry)) first r ⌝ }
+{
+    let mut at = first;
+    let mut frame = Frame::Unstated;
+    let mut excepted = false;
+    loop {
+        if walk::qualifier_here(s, at) {
+            let FoundQualifier { name, value, next } = walk::qualifier(s, at);
+            if next <= at {
+                return Noted {
+                    frame,
+                    excepted,
+                    next: at,
+                };
+            }
+            let w = bytes_of(s, name.from, name.to);
+            frame = frame_with(s, frame, w, value);
+            excepted = excepted_with(s, excepted, w, value);
+            at = next;
+        } else {
+            return Noted {
+                frame,
+                excepted,
+                next: at,
+            };
+        }
+    }
+}
+
+// Whether the region is unjudged, for its qualifiers or for its location.
+fn is_unjudged(excepted: bool, verdict: Verdict) -> bool
+    ensures { λ r. ⌜ LeavesOut excepted verdict r ⌝ }
+{
+    if excepted {
+        return true;
+    }
+    match verdict {
+        Verdict::Bad => {
+            return false;
+        }
+        Verdict::Is(f) => {
+            return f.unjudged;
+        }
+    }
+}
+
+// ---- its translations: `r` are the residues, `loc` is the raw part of the location, `start` the codon_start
+
+// Whether the value is right. Where one that is right was seen, that is the same bytes, and no codon is read.
+fn value_right(
+    s: &[u8],
+    r: &[u8],
+    loc: &[u8],
+    top: u32,
+    start: usize,
+    value: Part,
+    right: Maybe,
+    sets: &[u8; 256],
+    turns: &[u8; 256],
+    table: &[u8; 4096],
+) -> bool
+    requires { ⌜ SetTable (now sets) ⌝ }
+    requires { ⌜ TurnTable (now turns) ⌝ }
+    requires { ⌜ LetterTable (now table) ⌝ }
+    ensures { λ y. ⌜ SaysRight (now (s .entry)) (now (r .entry)) (now (loc .entry)) top start value right y ⌝ }
+{
+    let v = bytes_of(s, value.from, value.to);
+    match right {
+        Maybe::Absent => {
+            return is_right(r, loc, top, start, v, sets, turns, table);
+        }
+        Maybe::Present(k) => {
+            let u = bytes_of(s, k.from, k.to);
+            return same(v, u);
+        }
+    }
+}
+
+// The fault of one qualifier, and a value that is known to be right.
+struct Checked {
+    fault: Fault,
+    right: Maybe,
+}
+
+fn check(
+    s: &[u8],
+    r: &[u8],
+    loc: &[u8],
+    top: u32,
+    start: usize,
+    name: Part,
+    value: Maybe,
+    right: Maybe,
+    sets: &[u8; 256],
+    turns: &[u8; 256],
+    table: &[u8; 4096],
+) -> Checked
+    requires { ⌜ SetTable (now sets) ⌝ }
+    requires { ⌜ TurnTable (now turns) ⌝ }
+    requires { ⌜ LetterTable (now table) ⌝ }
+    ensures { λ y. ⌜ Checks (now (s .entry)) (now (r .entry)) (now (loc .entry)) top start name value right y ⌝ }
+{
+    let w = bytes_of(s, name.from, name.to);
+    if !same(w, b"translation") {
+        return Checked {
+            fault: Fault::Clean,
+            right,
+        };
+    }
+    match value {
+        Maybe::Absent => {
+            return Checked {
+                fault: Fault::At {
+                    rule: 28,
+                    place: name.from,
+                },
+                right,
+            };
+        }
+        Maybe::Present(p) => {
+            if value_right(s, r, loc, top, start, p, right, sets, turns, table) {
+                return Checked {
+                    fault: Fault::Clean,
+                    right: Maybe::Present(p),
+                };
+            }
+            return Checked {
+                fault: Fault::At {
+                    rule: 28,
+                    place: p.from,
+                },
+                right,
+            };
+        }
+    }
+}
+
+// The first fault of all translations.
+fn translations(
+    s: &[u8],
+    r: &[u8],
+    loc: &[u8],
+    top: u32,
+    start: usize,
+    first: usize,
+    sets: &[u8; 256],
+    turns: &[u8; 256],
+    table: &[u8; 4096],
+) -> Fault
+    requires { ⌜ SetTable (now sets) ⌝ }
+    requires { ⌜ TurnTable (now turns) ⌝ }
+    requires { ⌜ LetterTable (now table) ⌝ }
+    ensures { λ y. ⌜ Rights (now (s .entry)) (now (r .entry)) (now (loc .entry)) top start first y ⌝ }
+{
+    let mut at = first;
+    let mut fault = Fault::Clean;
+    let mut right = Maybe::Absent;
+    loop {
+        if walk::qualifier_here(s, at) {
+            let FoundQualifier { name, value, next } = walk::qualifier(s, at);
+            if next <= at {
+                return fault;
+            }
+            let Checked {
+                fault: here,
+                right: known,
+            } = check(
+                s,
+                r,
+                loc,
+                top,
+                start,
+                name,
+                value,
+                right,
+                sets,
+                turns,
+                table,
+            );
+            fault = earlier(fault, here);
+            right = known;
+            at = next;
+        } else {
+            return fault;
+        }
+    }
+}
+
+// ---- the region
+
+// The fault of a region that keeps rule 27.
+fn region_fault(
+    s: &[u8],
+    location: Part,
+    first: usize,
+    known: Known,
+    verdict: Verdict,
+    start: usize,
+    unjudged: bool,
+    sets: &[u8; 256],
+    turns: &[u8; 256],
+    table: &[u8; 4096],
+) -> Fault
+    requires { ⌜ SetTable (now sets) ⌝ }
+    requires { ⌜ TurnTable (now turns) ⌝ }
+    requires { ⌜ LetterTable (now table) ⌝ }
+    ensures { λ y. ⌜ JudgesRegion (now (s .entry)) location first known verdict start unjudged y ⌝ }
+{
+    if unjudged {
+        return Fault::Clean;
+    }
+    if !known.clean {
+        return Fault::Clean;
+    }
+    match verdict {
+        Verdict::Bad => {
+            return Fault::Clean;
+        }
+        Verdict::Is(f) => {
+            if f.wrong {
+                return Fault::Clean;
+            }
+            let r = bytes_of(s, known.residues.from, known.residues.to);
+            let loc = bytes_of(s, location.from, location.to);
+            return translations(s, r, loc, known.top, start, first, sets, turns, table);
+        }
+    }
 }
 
 // `key` is the place of the feature's key, `first` where its qualifiers stand, `verdict` what was judged of its location.
@@ -31,9 +371,60 @@ pub fn judge_coding(
     requires { ⌜ LetterTable (now table) ⌝ }
     ensures { λ r. ⌜ JudgesCoding (now (s .entry)) key location first known verdict r ⌝ }
 {
-    Region {
-        fault: Fault::Clean,
-        unjudged: false,
-        next: first,
+    let Noted {
+        frame,
+        excepted,
+        next,
+    } = gather(s, first);
+    let unjudged = is_unjudged(excepted, verdict);
+    match frame {
+        Frame::Unstated => {
+            let fault = region_fault(
+                s,
+                location,
+                first,
+                known,
+                verdict,
+                1,
+                unjudged,
+                sets,
+                turns,
+                table,
+            );
+            return Region {
+                fault,
+                unjudged,
+                next,
+            };
+        }
+        Frame::Stated(n) => {
+            let fault = region_fault(
+                s,
+                location,
+                first,
+                known,
+                verdict,
+                n,
+                unjudged,
+                sets,
+                turns,
+                table,
+            );
+            return Region {
+                fault,
+                unjudged,
+                next,
+            };
+        }
+        Frame::Wrong => {
+            return Region {
+                fault: Fault::At {
+                    rule: 27,
+                    place: key,
+                },
+                unjudged,
+                next,
+            };
+        }
     }
 }

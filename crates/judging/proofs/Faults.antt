@@ -41,15 +41,13 @@ firsts-unless false m p {A} t e = subst (Firsts (Bad m p A)) (sym e) (firsts-one
 
 -- ---- over a list
 
-module _ {A : Type 0} (B : ℕ → A → Faults) where
-  pub some-none : Firsts (Some B []) Clean
-  some-none = firsts-none (Some B []) (λ n p x. x .2 .2)
-
-  nth-last : (l : List A) (x : A) → Nth (l ++ (x ∷ [])) (length l) x
+-- an element of a list and one element more
+module _ {A : Type 0} where
+  pub nth-last : (l : List A) (x : A) → Nth (l ++ (x ∷ [])) (length l) x
   nth-last [] x = refl
   nth-last (y ∷ l) x = nth-last l x
 
-  nth-front : (l k : List A) (i : ℕ) (x : A) → Nth l i x → Nth (l ++ k) i x
+  pub nth-front : (l k : List A) (i : ℕ) (x : A) → Nth l i x → Nth (l ++ k) i x
   nth-front [] k i x h = absurd h
   nth-front (y ∷ l) k zero x h = h
   nth-front (y ∷ l) k (suc i) x h = nth-front l k i x h
@@ -63,6 +61,10 @@ module _ {A : Type 0} (B : ℕ → A → Faults) where
       up : Nth l i x ⊎ ((i ≡ length l) × (x ≡ y)) → Nth (z ∷ l) (suc i) x ⊎ ((suc i ≡ suc (length l)) × (x ≡ y))
       up (inl a) = inl a
       up (inr a) = inr (ap suc (a .0), a .1)
+
+module _ {A : Type 0} (B : ℕ → A → Faults) where
+  pub some-none : Firsts (Some B []) Clean
+  some-none = firsts-none (Some B []) (λ n p x. x .2 .2)
 
   -- one element more
   pub some-more : (l : List A) (y : A) {a b r : Fault} → Firsts (Some B l) a → Firsts (B (suc (length l)) y) b → Earlier a b r → Firsts (Some B (l ++ (y ∷ []))) r

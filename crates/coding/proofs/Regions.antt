@@ -1,0 +1,196 @@
+-- The whole region: its qualifiers gathered, and its first fault.
+use Prim.Native.Nat.{ℕ, suc, _≤_}
+use native.Mathlib.Omega.{arith}
+use mathlib.Core.Path.{_≡_, refl, sym, ap, _∙_, subst, subst₂}
+use mathlib.Core.Bool.{Bool, true, false, true≢false}
+use mathlib.Core.Logic.{inr}
+use mathlib.Core.List.{List, [], _∷_, _++_}
+use mathlib.Core.Option.{Option, some}
+use lib.ListN.{length}
+use Rattle.paper.specs.Bytes.{bytes, raw, all}
+use Rattle.paper.specs.Lists.{end}
+use Rattle.paper.specs.Tree.{Qualifier, Feature, Sequence, qualifiersOf}
+use Rattle.paper.specs.Layout.{child, qualifier}
+use Rattle.paper.specs.Locations.{Location, breaks25}
+use Rattle.paper.specs.Translation.{dropStop, hasStopInside}
+use Rattle.paper.specs.Rules.{L, isSymbol, Before, CodonStart, absent, Unjudged, Judged}
+use Rattle.paper.specs.Answers.{Outcome, Translates}
+use Rattle.paper.specs.declared.Fault.{Fault}
+use Rattle.paper.specs.declared.Fault.the-variants.{Clean, At}
+use Rattle.paper.proofs.Locate.{locates-once}
+use Rattle.paper.proofs.Once.{translates-once}
+use Rattle.scan.specs.Follow.{closing}
+use Rattle.value.specs.Reading.{Tells}
+use Rattle.value.proofs.Tests.{tells-true, tells-false}
+use Rattle.value.proofs.Residues.{raw-symbols}
+use Rattle.walk.specs.Stands.{There, FindsQualifier}
+use Rattle.walk.specs.declared.Part.{Part}
+use Rattle.walk.specs.declared.FoundQualifier.{FoundQualifier}
+use Rattle.location.specs.Judging.{Judged as Placed}
+use Rattle.location.specs.declared.judging.Facts.{Facts}
+use Rattle.location.specs.declared.judging.Verdict.{Verdict}
+use Rattle.location.specs.declared.judging.Verdict.the-variants.{Bad, Is}
+use Rattle.translation.specs.Reading.{Codes}
+use Rattle.translation.specs.Translating.{lettersOf}
+use Rattle.judging.specs.Sets.{Firsts, Some, InCoding, rule-27, rule-28}
+use Rattle.judging.specs.Known.{Shows}
+use Rattle.judging.specs.declared.Known.{Known}
+use Rattle.judging.proofs.Bytes.{part-shows}
+use Rattle.judging.proofs.Faults.{firsts-none, firsts-as}
+use Rattle.judging.proofs.Seen.{seen-none}
+use Rattle.coding.specs.Qualifiers.{Shown, Frames, FrameIs, Excepts, NotedOf, Notes, LeavesOut}
+use Rattle.coding.specs.Translations.{Breaks28, Rights}
+use Rattle.coding.specs.Coding.{Asked, JudgesCoding, JudgesRegion}
+use Rattle.coding.specs.declared.Frame.{Frame}
+use Rattle.coding.specs.declared.Frame.the-variants.{Unstated, Stated, Wrong}
+use Rattle.coding.specs.declared.Noted.{Noted}
+use Rattle.coding.proofs.Loops.{SeenSo, one-more, stuck, all-seen}
+use Rattle.coding.proofs.Frames.{start-one, start-wrong}
+
+-- ---- the qualifiers
+
+pub gather-none : {s : List ℕ} (first : ℕ) → SeenSo s first first (NotedOf Unstated false)
+gather-none first =
+    seen-none (child qualifier) closing first (NotedOf Unstated false) (record { framed = end; left = λ x. x .1 .1 })
+
+module _ {s : List ℕ} {first at : ℕ} {frame : Frame} {e h : Bool} (here : There (bytes "<INSDQualifier") s at h) (w : SeenSo s first at (NotedOf frame e)) where
+  pub gather-next : {x : FoundQualifier} {n : List ℕ} {a : Frame} {b : Bool} → h ≡ true → FindsQualifier s at x → Shows s (x .name .from) (x .name .to) n
+      → Frames s frame n (x .value) a → Excepts s e n (x .value) b → SeenSo s first (x .next) (NotedOf a b)
+  gather-next {x = x} {n = n} {a = a} {b = b} t f v g k =
+      one-more (NotedOf frame e) (NotedOf a b) t here w f
+      (λ l q i m z.
+      let y : Shown s n (x .value) q = record { name = part-shows i v; valued = m } in
+      record { framed = g .says q y l (z .framed); left = k .says q y l (z .left) })
+
+  pub gather-stuck : {x : FoundQualifier} (r : Noted) → h ≡ true → FindsQualifier s at x → x .next ≤ at → Notes s first r
+  gather-stuck r t f n = record { says = λ l j d fol. absurd (stuck (NotedOf frame e) t here w f n l j d fol) }
+
+  pub gather-done : h ≡ false → Notes s first (record { frame = frame; excepted = e; next = at })
+  gather-done t = record { says = all-seen (NotedOf frame e) t here w }
+
+-- ---- rule 28 of the region
+
+-- whichever letters are meant, a translation is right of the ones where it is right of the others
+agree : {q : Sequence ℕ} {f : Feature ℕ} {x y : List ℕ} {v : Option (List ℕ)} → Judged q f x → Judged q f y
+    → (v ≡ some (dropStop x)) × (hasStopInside x ≡ false) → (v ≡ some (dropStop y)) × (hasStopInside y ≡ false)
+agree {q} {f} {x} {y} {v} j k h = by (hasStopInside y) refl
+  where
+    by : (b : Bool) → hasStopInside y ≡ b → (v ≡ some (dropStop y)) × (hasStopInside y ≡ false)
+    by true e =
+        let o = translates-once (Translates.stop-inside k e) (Translates.translation j (h .1)) in
+        let z : _≡_ {A = ℕ} 0 1 = cc in
+        absurd (omega arith)
+    by false e =
+        let o = translates-once (Translates.translation k e) (Translates.translation j (h .1)) in
+        let d : dropStop y ≡ dropStop x = cc in
+        (h .0 ∙ ap some (sym d), e)
+
+module _ {q : Sequence ℕ} {f : Feature ℕ} {start : ℕ} (starts : CodonStart f start) where
+  -- nothing is broken where it isn't judged
+  none-judged : ((x : List ℕ) → ¬ Judged q f x) → Firsts (InCoding q f) Clean
+  none-judged h = firsts-none (InCoding q f) not-broken
+    where
+      not-broken : (n p : ℕ) → ¬ InCoding q f n p
+      not-broken n p (rule-27 c k) = k start starts
+      not-broken n p (rule-28 x j y m i k) = h x j
+
+  judged-as : {x : List ℕ} {r : Fault} → Judged q f x → Firsts (Some (Breaks28 x) (qualifiersOf f)) r → Firsts (InCoding q f) r
+  judged-as {x} j = firsts-as (Some (Breaks28 x) (qualifiersOf f)) (InCoding q f) to of
+    where
+      to : (n p : ℕ) → Some (Breaks28 x) (qualifiersOf f) n p → InCoding q f n p
+      to n p b =
+          let y = b .1 in
+          let u = b .3 in
+          subst₂ (InCoding q f) (sym (u .0)) (sym (u .1)) (rule-28 x j y (b .2 .0, b .2 .2) (u .2) (u .3))
+
+      of : (n p : ℕ) → InCoding q f n p → Some (Breaks28 x) (qualifiersOf f) n p
+      of n p (rule-27 c k) = absurd (k start starts)
+      of n p (rule-28 z i y m d k) = (suc (m .0), y, (m .0, refl, m .1), (refl, refl, d, λ h. k (agree j i h)))
+
+module _ {s : List ℕ} {location : Part} {first : ℕ} {known : Known} {verdict : Verdict} {start : ℕ} {u : Bool} where
+  pub region-unjudged : u ≡ true → JudgesRegion s location first known verdict start u Clean
+  region-unjudged e = record { says = λ key q f stop a c t. none-judged c (λ x j. j .judged (tells-true u e t)) }
+
+  pub region-unclean : known .clean ≡ false → JudgesRegion s location first known verdict start u Clean
+  region-unclean e =
+      record {
+        says =
+            λ key q f stop a c t. none-judged c (λ x j. tells-false (known .clean) e (a .knows .clean (j .coding .kind) (j .coding .is)) (j .symbols));
+      }
+
+  pub region-bad : verdict ≡ Bad → JudgesRegion s location first known verdict start u Clean
+  region-bad e =
+      record { says = λ key q f stop a c t. none-judged c (λ x j. subst (Placed (L q) (f .location .read)) e (a .judged) (j .codons .location) (j .codons .located)) }
+
+  module _ {x : Facts} (e : verdict ≡ Is x) where
+    pub region-outside : x .wrong ≡ true → JudgesRegion s location first known verdict start u Clean
+    region-outside w =
+        record {
+          says =
+              λ key q f stop a c t.
+              none-judged c
+              (λ z j.
+              let k = subst (Placed (L q) (f .location .read)) e (a .judged) in
+              let o = locates-once (k .0) (j .codons .location) (k .1) (j .codons .located) in
+              true≢false (sym w ∙ k .2 .wrong ∙ ap (breaks25 (L q)) o ∙ j .codons .inside));
+        }
+
+    pub region-judged : {r loc : List ℕ} {y : Fault} → u ≡ false → known .clean ≡ true → x .wrong ≡ false
+        → Shows s (known .residues .from) (known .residues .to) r → Shows s (location .from) (location .to) loc
+        → Rights s r loc (known .top) start first y → JudgesRegion s location first known verdict start u y
+    region-judged {r} {loc} d g w shr shl rights =
+        record {
+          says =
+              λ key q f stop a c t.
+              let k = subst (Placed (L q) (f .location .read)) e (a .judged) in
+              let sy : all (isSymbol (a .coding .kind)) (q .residues .read) = tells-true (known .clean) g (a .knows .clean (a .coding .kind) (a .coding .is)) in
+              let er : r ≡ q .residues .read = part-shows (a .knows .residues) shr ∙ raw-symbols (a .coding .kind) (q .residues .read) sy in
+              let b : breaks25 (L q) (k .0) ≡ false = sym (k .2 .wrong) ∙ w in
+              judged-as c
+              (record {
+                coding = a .coding;
+                symbols = sy;
+                judged = tells-false u d t;
+                codons =
+                    record { location = k .0; located = k .1; inside = b; start = start; starts = c; are = ap (λ (z : List ℕ). lettersOf z start (k .0)) er };
+              })
+              (rights .says (k .0)
+              (record {
+                sized = ap length er ∙ sym (a .knows .size);
+                read = f .location .read;
+                written = part-shows (a .located) shl;
+                located = k .1;
+                right = ap (λ (n : ℕ). breaks25 n (k .0)) (a .knows .size) ∙ b;
+              })
+              (qualifiersOf f) stop (a .quals) (a .closes));
+        }
+
+-- ---- the region
+
+module _ {s : List ℕ} {key : ℕ} {location : Part} {first : ℕ} {known : Known} {verdict : Verdict} {x : Noted} {u : Bool}
+    (notes : Notes s first x) (leaves : LeavesOut (x .excepted) verdict u) where
+  pub coding-framed : {start : ℕ} {y : Fault} → ((f : Feature ℕ) → FrameIs (qualifiersOf f) (x .frame) → CodonStart f start)
+      → JudgesRegion s location first known verdict start u y → JudgesCoding s key location first known verdict (record { fault = y; unjudged = u; next = x .next })
+  coding-framed g r =
+      record {
+        says =
+            λ q f stop a.
+            let n = notes .says (qualifiersOf f) stop (a .quals) (a .closes) in
+            let t = leaves .says (L q) f (n .0 .left) (a .judged) in
+            record { fault = r .says key q f stop a (g f (n .0 .framed)) t; unjudged = t; next = n .1 };
+      }
+
+  pub coding-wrong : x .frame ≡ Wrong → JudgesCoding s key location first known verdict (record { fault = At 27 key; unjudged = u; next = x .next })
+  coding-wrong e =
+      record {
+        says =
+            λ q f stop a.
+            let n = notes .says (qualifiersOf f) stop (a .quals) (a .closes) in
+            let z = start-wrong f (subst (FrameIs (qualifiersOf f)) e (n .0 .framed)) in
+            record { fault = record { is = record { broken = subst (InCoding q f 27) (sym (a .at)) (rule-27 (a .coding) z); least = least q f a z } }; unjudged = leaves .says (L q) f (n .0 .left) (a .judged); next = n .1 };
+      }
+    where
+      least : (q : Sequence ℕ) (f : Feature ℕ) {stop : ℕ} → Asked s key location first known verdict q f stop → ((n : ℕ) → ¬ CodonStart f n)
+          → (m p : ℕ) → InCoding q f m p → Before 27 key m p
+      least q f a z m p (rule-27 c k) = inr (a .at, omega arith)
+      least q f a z m p (rule-28 y j w i d k) = absurd (z (j .codons .start) (j .codons .starts))
