@@ -58,7 +58,7 @@ capped-more m n c = cases (decLe 2 m)
 -- ---- one feature more
 
 last-in : {A : Type 0} (l : List A) (x y : A) → y ∈ (l ++ (x ∷ [])) → (y ∈ l) ⊎ (y ≡ x)
-last-in l x y h = by (nth-split (λ (i : ℕ) (a : _). λ (n p : ℕ). Unit {0}) l x (h .0) y (h .1))
+last-in l x y h = by (nth-split l x (h .0) y (h .1))
   where
     by : Nth l (h .0) y ⊎ ((h .0 ≡ length l) × (y ≡ x)) → (y ∈ l) ⊎ (y ≡ x)
     by (inl i) = inl (h .0, i)
