@@ -8,7 +8,8 @@ use mathlib.Core.List.{List, [], _∷_, _++_, map, append-assoc, append-nil}
 use lib.ListN.{length, drop, length-append}
 use Rattle.paper.specs.Bytes.{bytes, isBlank}
 use Rattle.paper.specs.Lists.{Count, end, has, lacks, gather}
-use Rattle.paper.specs.Layout.{child, sequence}
+use Rattle.paper.specs.Form.{_·_}
+use Rattle.paper.specs.Layout.{blanks, tag, attribute, holding, child, inner, sequence}
 use Rattle.paper.specs.Tree.{Sequence, Feature, featuresOf}
 use Rattle.paper.specs.Rules.{Skipped}
 use Rattle.paper.specs.Answers.{limit, JudgedCds, UnjudgedCds}
@@ -16,7 +17,7 @@ use Rattle.paper.specs.declared.Fault.{Fault}
 use Rattle.paper.proofs.Lists.{count-map, length-map}
 use Rattle.scan.specs.Follow.{Not, closing}
 use Rattle.walk.specs.Stands.{Stands, There, Over}
-use Rattle.walk.proofs.Items.{tag-leads}
+use Rattle.scan.proofs.Fronts.{Leads, leads-all, leads-seq}
 use Rattle.value.specs.Reading.{Tells}
 use Rattle.judging.specs.Sets.{Faults, Firsts, Some, InSequence}
 use Rattle.judging.proofs.Faults.{some-none, some-more, nth-front, nth-last}
@@ -106,4 +107,61 @@ total-more l q {k = k} {a} {r} {x} ad ek y t bt bf bj bu =
       features-below = omega (arith, et, ef, bf, t .features-below);
       judged-below = omega (arith, et, ej, bj, t .judged-below);
       unjudged-below = omega (arith, et, eu, bu, t .unjudged-below);
+    }
+
+-- ---- the loop
+
+sequence-leads : (q : Sequence ℕ) → Leads (bytes "<SequenceData") (child sequence q)
+sequence-leads q =
+    leads-seq (bytes "<SequenceData") (sequence q) blanks
+    (leads-seq (bytes "<SequenceData") (tag (bytes "SequenceData") · attribute (bytes "sequenceIDNumber") (q .number)) (holding (bytes "SequenceData") (child inner q))
+    (leads-seq (bytes "<SequenceData") (tag (bytes "SequenceData")) (attribute (bytes "sequenceIDNumber") (q .number)) (leads-all (bytes "<SequenceData"))))
+
+-- what has been seen of the sequences is added up
+pub record Adding (s : List ℕ) (first at : ℕ) (a : Total) : Type 0 where
+  pub seen : length s ≤ limit → Seen (child sequence) closing s first at (λ (l : List (Sequence ℕ)). Totalled l a)
+  pub below : length s ≤ limit → a .total ≤ at
+
+pub adding-none : {s : List ℕ} {first : ℕ} {a : Total} → a ≡ nothingYet → Adding s first first a
+adding-none {s} {first} e =
+    rw e (record {
+      seen = λ short. seen-none (child sequence) closing first (λ (l : List (Sequence ℕ)). Totalled l nothingYet) total-none;
+      below = λ short. omega arith;
+    })
+
+judged-over : {s : List ℕ} {at k : ℕ} {x : One} → JudgesSequence s at k x → length s ≤ limit → Over (child sequence) (Not isBlank) s at (x .next)
+judged-over j short = record { is = λ q e d fol. j .says q e short d fol .next }
+
+module _ {s : List ℕ} {first at k : ℕ} {a : Total} {x : One} {t : Bool} (h : t ≡ true) (here : There (bytes "<SequenceData") s at t) (w : Adding s first at a)
+    (j : JudgesSequence s at k x) where
+  pub adding-more : {r : Total} → at < length s → at < x .next → Plus (a .total) 1 k → Adds a x r → Adding s first (x .next) r
+  adding-more {r} inside onward pk ad =
+      record {
+        seen =
+            λ short.
+            let bt = w .below short in
+            let ek = pk .is (omega (arith, bt, inside, short)) in
+            seen-next (bytes "SequenceData") (child sequence) sequence-leads closing (record { clash = refl; sharps = refl })
+            (λ (l : List (Sequence ℕ)). Totalled l a) (λ (l : List (Sequence ℕ)). Totalled l r) h here (w .seen short) (judged-over j short)
+            (λ done q e d fol y. total-more done q ad ek (j .says q e short d fol) y (omega (arith, bt, inside, short)) (omega (arith, j .features-below, short)) (omega (arith, j .judged-below, short))
+            (omega (arith, j .unjudged-below, short)));
+        below = λ short. omega (arith, onward, w .below short, ad .total .is (omega (arith, w .below short, inside, short)));
+      }
+
+  pub adding-stuck : x .next ≤ at → JudgesSequences s first a
+  adding-stuck stuck =
+      record {
+        says =
+            λ short l e d fol.
+            absurd
+            (seen-stuck (bytes "SequenceData") (child sequence) sequence-leads closing (record { clash = refl; sharps = refl }) (λ (l : List (Sequence ℕ)). Totalled l a) h here (w .seen short)
+            (judged-over j short) stuck l e d fol);
+      }
+
+pub adding-done : {s : List ℕ} {first at : ℕ} {a : Total} {t : Bool} → t ≡ false → There (bytes "<SequenceData") s at t → Adding s first at a → JudgesSequences s first a
+adding-done {a = a} h here w =
+    record {
+      says =
+          λ short l e d fol.
+          seen-all (bytes "SequenceData") (child sequence) sequence-leads closing (record { clash = refl; sharps = refl }) (λ (l : List (Sequence ℕ)). Totalled l a) h here (w .seen short) l e d fol .0;
     }
