@@ -95,8 +95,8 @@ module _ (m : ℕ) (A : List ℕ → Type 0) where
       says none h = wrong-none
       says (some t) h = absurd h
 
-  pub maybe-present : {s w : List ℕ} (p : Part) (ok : Bool) {r : Fault} → Shows s (p .from) (p .to) w → OfRead w A ok → r ≡ unlessOf ok m (p .from) → JudgesMaybe m A s (Present p) r
-  maybe-present {s} p ok {r} h o e = record { says = says }
+  pub maybe-present : {s w : List ℕ} {p : Part} (ok : Bool) {r : Fault} → Shows s (p .from) (p .to) w → OfRead w A ok → r ≡ unlessOf ok m (p .from) → JudgesMaybe m A s (Present p) r
+  maybe-present {s} {p = p} ok {r} h o e = record { says = says }
     where
       says : (x : Option (Text ℕ)) → MaybeIs s x (Present p) → Firsts (Wrong m A (present x)) r
       says none i = absurd i
@@ -152,9 +152,9 @@ codes-more [] x = refl
 codes-more (y ∷ l) x = ap (λ (k : List (Text ℕ)). y .languageCode ∷ k) (codes-more l x)
 
 -- one title more
-pub title-more : {s : List ℕ} (l : List (Spoken ℕ)) (x : Spoken ℕ) (p : Part) (a b : Fault) {r : Fault} → Firsts (Wrong 13 (Two isLower) (codes l)) a → IsPart s (x .languageCode) p
+pub title-more : {s : List ℕ} (l : List (Spoken ℕ)) (x : Spoken ℕ) {p : Part} (a b : Fault) {r : Fault} → Firsts (Wrong 13 (Two isLower) (codes l)) a → IsPart s (x .languageCode) p
     → JudgesMaybe 13 (Two isLower) s (Present p) b → Earlier a b r → Firsts (Wrong 13 (Two isLower) (codes (l ++ (x ∷ [])))) r
-title-more l x p a b {r} f i j e =
+title-more l x a b {r} f i j e =
     subst (λ (k : List (Text ℕ)). Firsts (Wrong 13 (Two isLower) k) r) (codes-more l x)
     (wrong-both 13 (Two isLower) (codes l) (x .languageCode ∷ []) f (j .says (some (x .languageCode)) i) e)
 

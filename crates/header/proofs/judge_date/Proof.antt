@@ -1,39 +1,30 @@
+-- `header::judge_date` meets its contract.
+use Rattle.paper.specs.Values.{Date}
+use Rattle.header.proofs.Sums.{maybe-absent, maybe-present}
 use borrow.Author.Needs.{needs}
 use Rattle.header.proofs.judge_date.Statement.{statement}
 use Rattle.header.proofs.judge_date.Tie as tie
-use Rattle.header.proofs.judge_date.Reads as reads
-use Rattle.header.proofs.judge_date.Lts as lts
-use Rattle.judging.proofs.bytes_of.Reads as bytes-of-reads
-use Rattle.judging.proofs.unless.Reads as unless-reads
-use Rattle.value.proofs.is_date.Reads as is-date-reads
 
--- src/lib.rt:15:26
 enum-told : tie.Need-enum-told
 enum-told c = search needs
 
--- src/lib.rt:16:24
 enum-known-m : tie.Need-enum-known-m
 enum-known-m c = search needs
 
--- src/lib.rt:17:37
 bytes-of-requires : tie.Need-bytes-of-requires
 bytes-of-requires c κs = search needs
 
--- src/lib.rt:17:17
 is-date-requires : tie.Need-is-date-requires
 is-date-requires c κs = search needs
 
--- src/lib.rt:18:13
 unless-requires : tie.Need-unless-requires
 unless-requires c κs = search needs
 
--- src/lib.rt:11:1
 returns : tie.Need-returns
-returns c = search needs
+returns c = rw (c .enum-told .given .1) (maybe-absent 11 Date)
 
--- src/lib.rt:11:1
 returns-2 : tie.Need-returns-2
-returns-2 c = search needs
+returns-2 c = rw (c .before .before .before .before .m .given .1) (maybe-present 11 Date (c .before .is-date .result) (c .before .before .bytes-of .ensures) (c .before .is-date .ensures) (c .unless .ensures))
 
 pub judge-date-spec : {M : Type 1} → statement M
 judge-date-spec =
