@@ -176,7 +176,7 @@ languages-judged a b d {r} ja jb jt y z =
           let P = present (languageIn (l .applicant)) in
           let Q = present (languageIn (l .inventor)) in (
             subst (λ (u : List (Text ℕ)). Firsts (Wrong 13 (Two isLower) (u ++ codes (l .titles))) r) (spoken-by (l .applicant) (l .inventor))
-            (wrong-both 13 (Two isLower) (P ++ Q) (codes (l .titles)) (wrong-both 13 (Two isLower) P Q (ja .says (languageIn (l .applicant)) h) (jb .says (languageIn (l .inventor)) k) y) (t .0) z),
+                (wrong-both 13 (Two isLower) (P ++ Q) (codes (l .titles)) (wrong-both 13 (Two isLower) P Q (ja .says (languageIn (l .applicant)) h) (jb .says (languageIn (l .inventor)) k) y) (t .0) z),
             t .1,
           );
     }
