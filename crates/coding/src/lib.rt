@@ -112,12 +112,10 @@ fn excepted_with(s: &[u8], excepted: bool, w: &[u8], value: Maybe) -> bool
     if !same(w, b"transl_table") {
         return false;
     }
-    if value_is(s, value, b"1") {
-        return false;
-    }
-    true
+    !value_is(s, value, b"1")
 }
 
+// What all qualifiers say, and where they end.
 struct Noted {
     frame: Frame,
     excepted: bool,
@@ -252,12 +250,12 @@ fn check(
     }
     match value {
         Maybe::Absent => {
-            let here = Fault::At {
+            let missing = Fault::At {
                 rule: 28,
                 place: name.from,
             };
             return Checked {
-                fault: earlier(fault, here),
+                fault: earlier(fault, missing),
                 right,
             };
         }
@@ -271,12 +269,12 @@ fn check(
                     right: Maybe::Present(p),
                 };
             }
-            let here = Fault::At {
+            let wrong = Fault::At {
                 rule: 28,
                 place: p.from,
             };
             return Checked {
-                fault: earlier(fault, here),
+                fault: earlier(fault, wrong),
                 right,
             };
         }
