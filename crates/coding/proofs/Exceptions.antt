@@ -2,7 +2,7 @@
 use Prim.Native.Nat.{ℕ}
 use Prim.Native.String.{String}
 use mathlib.Core.Path.{_≡_, refl, sym, ap, _∙_, subst}
-use mathlib.Core.Bool.{Bool, true, false, true≢false}
+use mathlib.Core.Bool.{Bool, true, false, true≢false, not}
 use mathlib.Core.Logic.{_⊎_, inl, inr}
 use mathlib.Core.List.{List, [], _∷_, _++_}
 use mathlib.Core.Option.{some}
@@ -49,10 +49,6 @@ module _ {s w : List ℕ} {value : Maybe} {e : Bool} where
   pub excepts-name : {r : Bool} → r ≡ true → OfRead w Excepted r → Excepts s e w value true
   excepts-name {r} h o = excepts-this (λ q z. inl (tells-true r h (o .says (q .name .read) (z .name))))
 
-  pub excepts-code : {t v : Bool} → t ≡ true → Tells t (w ≡ bytes "transl_table") → v ≡ false → ValueIs s value (bytes "1") v → Excepts s e w value true
-  excepts-code {t} {v} h x k y =
-      excepts-this (λ q z. inr (tells-word (bytes "transl_table") refl true (tells-true t h x) .says (q .name .read) (z .name), tells-false v k (y .says refl (q .value) (z .valued))))
-
   -- nor this one
   module _ {r : Bool} (h : e ≡ false) (k : r ≡ false) (o : OfRead w Excepted r) where
     excepts-not : ((q : Qualifier ℕ) → Shown s w value q → ¬ OtherCode q) → Excepts s e w value false
@@ -66,8 +62,11 @@ module _ {s w : List ℕ} {value : Maybe} {e : Bool} where
     pub excepts-other : {t : Bool} → t ≡ false → Tells t (w ≡ bytes "transl_table") → Excepts s e w value false
     excepts-other {t} j x = excepts-not (λ q z y. tells-word (bytes "transl_table") refl false (tells-false t j x) .says (q .name .read) (z .name) (y .0))
 
-    pub excepts-first : {v : Bool} → v ≡ true → ValueIs s value (bytes "1") v → Excepts s e w value false
-    excepts-first {v} j y = excepts-not (λ q z x. x .1 (tells-true v j (y .says refl (q .value) (z .valued))))
+    -- by its value
+    pub excepts-code : {t : Bool} (v : Bool) → t ≡ true → Tells t (w ≡ bytes "transl_table") → ValueIs s value (bytes "1") v → Excepts s e w value (not v)
+    excepts-code true j x y = excepts-not (λ q z d. d .1 (y .says refl (q .value) (z .valued)))
+    excepts-code {t} false j x y =
+        excepts-this (λ q z. inr (tells-word (bytes "transl_table") refl true (tells-true t j x) .says (q .name .read) (z .name), y .says refl (q .value) (z .valued)))
 
 -- ---- the region
 

@@ -3,7 +3,7 @@ use Prim.Native.Nat.{ℕ, suc, _≤_}
 use native.Mathlib.Omega.{arith}
 use mathlib.Core.Path.{_≡_, refl, sym, ap, _∙_, subst}
 use mathlib.Core.Bool.{Bool, true, false}
-use mathlib.Core.Logic.{inr}
+use mathlib.Core.Logic.{inl, inr}
 use mathlib.Core.List.{List, [], _∷_, _++_}
 use mathlib.Core.Option.{Option, none, some, Option·none-ne-some, Option·some-injective}
 use lib.ListN.{length}
@@ -30,9 +30,9 @@ use Rattle.translation.specs.Translating.{lettersOf, RightValue, RightIf, Compa
 use Rattle.judging.specs.Sets.{Firsts, Some}
 use Rattle.judging.specs.Known.{Shows}
 use Rattle.judging.proofs.Bytes.{part-shows}
-use Rattle.judging.proofs.Faults.{firsts-none, some-none, some-more}
+use Rattle.judging.proofs.Faults.{firsts-none, some-none, some-more, some-later}
 use Rattle.judging.proofs.Seen.{seen-none}
-use Rattle.coding.specs.Translations.{Breaks28, RightAt, SaysRight, Checks, Rights}
+use Rattle.coding.specs.Translations.{Breaks28, RightAt, Settled, SaysRight, CheckedOf, Checks, Rights}
 use Rattle.coding.specs.declared.Checked.{Checked}
 use Rattle.coding.proofs.Loops.{SeenSo, one-more, stuck, all-seen}
 
@@ -62,77 +62,98 @@ value-some : (s : List ℕ) (p : Part) (o : Option (Text ℕ)) → MaybeIs s o (
 value-some s p none m = absurd m
 value-some s p (some u) m = (u, refl, m)
 
-broken : (x : List ℕ) (q : Qualifier ℕ) {p : ℕ} → p ≡ valuePlace (q .value) (q .name) → Named "translation" q
-    → ¬ ((valueRead q ≡ some (dropStop x)) × (hasStopInside x ≡ false)) → (k : ℕ) → Firsts (Breaks28 x k q) (At 28 p)
-broken x q e n w k = record { is = record { broken = (refl, e, n, w); least = λ m j b. inr (e ∙ sym (b .1), omega (arith, b .0)) } }
-
 name-is : {s w : List ℕ} {name : Part} {t : Bool} {u : Text ℕ} → Shows s (name .from) (name .to) w → IsPart s u name → t ≡ true → Tells t (w ≡ bytes "translation")
     → u .read ≡ bytes "translation"
 name-is {t = t} {u = u} shown i e tells = tells-word (bytes "translation") refl true (tells-true t e tells) .says (u .read) (part-shows i shown)
 
-module _ {s r loc : List ℕ} {top start : ℕ} {name : Part} {value right : Maybe} {w : List ℕ} {t : Bool}
+-- a fault, and one qualifier more
+module _ {s x : List ℕ} {fault : Fault} {right : Maybe} (l : List (Qualifier ℕ)) (q : Qualifier ℕ) (so : CheckedOf s x fault right l) where
+  -- it breaks nothing
+  checked-clean : {k : Maybe} → ((n p : ℕ) → ¬ Breaks28 x (suc (length l)) q n p) → RightAt s x k → CheckedOf s x fault k (l ++ (q ∷ []))
+  checked-clean h k =
+      record { first = some-more (Breaks28 x) l q (so .first) (firsts-none (Breaks28 x (suc (length l)) q) h) (with-clean fault); known = k }
+    where
+      with-clean : (a : Fault) → Earlier a Clean a
+      with-clean Clean = refl
+      with-clean (At n p) = refl
+
+  -- it breaks rule 28
+  checked-broken : {p : ℕ} {r : Fault} → p ≡ valuePlace (q .value) (q .name) → Named "translation" q
+      → ¬ ((valueRead q ≡ some (dropStop x)) × (hasStopInside x ≡ false)) → Earlier fault (At 28 p) r → CheckedOf s x r right (l ++ (q ∷ []))
+  checked-broken e n w g =
+      record {
+        first = some-more (Breaks28 x) l q (so .first) (record { is = record { broken = (refl, e, n, w); least = λ m j b. inr (e ∙ sym (b .1), omega (arith, b .0)) } }) g;
+        known = so .known;
+      }
+
+  -- whatever it breaks comes later
+  checked-settled : {p : ℕ} → p ≡ valuePlace (q .value) (q .name) → Settled fault p → CheckedOf s x fault right (l ++ (q ∷ []))
+  checked-settled {p} e h = record { first = later fault (so .first) h; known = so .known }
+    where
+      later : (a : Fault) → Firsts (Some (Breaks28 x) l) a → Settled a p → Firsts (Some (Breaks28 x) (l ++ (q ∷ []))) a
+      later Clean f h = absurd h
+      later (At n d) f h = some-later (Breaks28 x) l q f (λ m j b. inl (omega (arith, h, e, b .1)))
+
+module _ {s r loc : List ℕ} {top start : ℕ} {name : Part} {value right : Maybe} {fault : Fault} {w : List ℕ} {t : Bool}
     (shown : Shows s (name .from) (name .to) w) (tells : Tells t (w ≡ bytes "translation")) where
-  pub checks-other : t ≡ false → Checks s r loc top start name value right (record { fault = Clean; right = right })
+  pub checks-other : t ≡ false → Checks s r loc top start name value fault right (record { fault = fault; right = right })
   checks-other e =
       record {
         says =
-            λ z c a q i m. record {
-              fault = λ k. firsts-none (Breaks28 (lettersOf r start z) k q) (λ n p b. tells-word (bytes "translation") refl false (tells-false t e tells) .says (q .name .read) (part-shows i shown) (b .2));
-              right = a;
-            };
+            λ z c l so q i m.
+            checked-clean l q so
+            (λ n p b. tells-word (bytes "translation") refl false (tells-false t e tells) .says (q .name .read) (part-shows i shown) (b .2)) (so .known);
       }
 
-  pub checks-absent : t ≡ true → value ≡ Absent → Checks s r loc top start name value right (record { fault = At 28 (name .from); right = right })
-  checks-absent e v =
+  pub checks-absent : {y : Fault} → t ≡ true → value ≡ Absent → Earlier fault (At 28 (name .from)) y
+      → Checks s r loc top start name value fault right (record { fault = y; right = right })
+  checks-absent e v g =
       record {
         says =
-            λ z c a q i m.
+            λ z c l so q i m.
             let o = value-none s (q .value) (subst (MaybeIs s (q .value)) v m) in
-            record {
-              fault =
-                  broken (lettersOf r start z) q (i .first ∙ sym (ap (λ (y : Option (Text ℕ)). valuePlace y (q .name)) o)) (name-is shown i e tells)
-                  (λ h. Option·none-ne-some (dropStop (lettersOf r start z)) (sym (ap (opt (λ (y : Text ℕ). y .read)) o) ∙ h .0));
-              right = a;
-            };
+            checked-broken l q so (i .first ∙ sym (ap (λ (y : Option (Text ℕ)). valuePlace y (q .name)) o)) (name-is shown i e tells)
+            (λ h. Option·none-ne-some (dropStop (lettersOf r start z)) (sym (ap (opt (λ (y : Text ℕ). y .read)) o) ∙ h .0)) g;
       }
 
-  module _ {p : Part} {y : Bool} (e : t ≡ true) (v : value ≡ Present p) (says : SaysRight s r loc top start p right y) where
-    pub checks-right : y ≡ true → Checks s r loc top start name value right (record { fault = Clean; right = Present p })
-    checks-right h =
+  module _ {p : Part} (e : t ≡ true) (v : value ≡ Present p) where
+    pub checks-settled : {y : Bool} → y ≡ true → Tells y (Settled fault (p .from)) → Checks s r loc top start name value fault right (record { fault = fault; right = right })
+    checks-settled {y} h k =
         record {
           says =
-              λ z c a q i m.
+              λ z c l so q i m.
               let o = value-some s p (q .value) (subst (MaybeIs s (q .value)) v m) in
-              let k = subst (RightIf (lettersOf r start z) (o .0 .read)) h (says .says z c a (o .0) (o .2)) in
-              record {
-                fault = λ j. firsts-none (Breaks28 (lettersOf r start z) j q) (λ n d b. b .3 (ap (opt (λ (y : Text ℕ). y .read)) (o .1) ∙ ap some (k .same), k .clear));
-                right = (o .0, o .2, k);
-              };
+              checked-settled l q so (o .2 .first ∙ sym (ap (λ (y : Option (Text ℕ)). valuePlace y (q .name)) (o .1))) (tells-true y h k);
         }
 
-    pub checks-wrong : y ≡ false → Checks s r loc top start name value right (record { fault = At 28 (p .from); right = right })
-    checks-wrong h =
-        record {
-          says =
-              λ z c a q i m.
-              let o = value-some s p (q .value) (subst (MaybeIs s (q .value)) v m) in
-              let k = subst (RightIf (lettersOf r start z) (o .0 .read)) h (says .says z c a (o .0) (o .2)) in
-              record {
-                fault =
-                    broken (lettersOf r start z) q (o .2 .first ∙ sym (ap (λ (y : Option (Text ℕ)). valuePlace y (q .name)) (o .1))) (name-is shown i e tells)
-                    (λ g. k (record { clear = g .1; same = Option·some-injective (o .0 .read) (dropStop (lettersOf r start z)) (sym (ap (opt (λ (y : Text ℕ). y .read)) (o .1)) ∙ g .0) }));
-                right = a;
-              };
-        }
+    module _ {y : Bool} (says : SaysRight s r loc top start p right y) where
+      pub checks-right : y ≡ true → Checks s r loc top start name value fault right (record { fault = fault; right = Present p })
+      checks-right h =
+          record {
+            says =
+                λ z c l so q i m.
+                let o = value-some s p (q .value) (subst (MaybeIs s (q .value)) v m) in
+                let k = subst (RightIf (lettersOf r start z) (o .0 .read)) h (says .says z c (so .known) (o .0) (o .2)) in
+                checked-clean l q so (λ n d b. b .3 (ap (opt (λ (y : Text ℕ). y .read)) (o .1) ∙ ap some (k .same), k .clear)) (o .0, o .2, k);
+          }
+
+      pub checks-wrong : {b : Fault} → y ≡ false → Earlier fault (At 28 (p .from)) b
+          → Checks s r loc top start name value fault right (record { fault = b; right = right })
+      checks-wrong h g =
+          record {
+            says =
+                λ z c l so q i m.
+                let o = value-some s p (q .value) (subst (MaybeIs s (q .value)) v m) in
+                let k = subst (RightIf (lettersOf r start z) (o .0 .read)) h (says .says z c (so .known) (o .0) (o .2)) in
+                checked-broken l q so (o .2 .first ∙ sym (ap (λ (y : Option (Text ℕ)). valuePlace y (q .name)) (o .1))) (name-is shown i e tells)
+                (λ d. k (record { clear = d .1; same = Option·some-injective (o .0 .read) (dropStop (lettersOf r start z)) (sym (ap (opt (λ (y : Text ℕ). y .read)) (o .1)) ∙ d .0) })) g;
+          }
 
 -- ---- all of them
 
--- the first fault of those passed, and a value that is known to be right
-abbrev Passed : List ℕ → List ℕ → Fault → Maybe → List (Qualifier ℕ) → Type 0
-Passed s x fault right l = Firsts (Some (Breaks28 x) l) fault × RightAt s x right
-
+-- of the qualifiers passed
 pub record Checking (s r loc : List ℕ) (top start first at : ℕ) (fault : Fault) (right : Maybe) : Type 0 where
-  pub is : (t : Location) → Codes r loc top t → SeenSo s first at (Passed s (lettersOf r start t) fault right)
+  pub is : (t : Location) → Codes r loc top t → SeenSo s first at (CheckedOf s (lettersOf r start t) fault right)
 
 module _ {s r loc : List ℕ} {top start first : ℕ} where
   pub checking-none : Checking s r loc top start first first Clean Absent
@@ -140,23 +161,23 @@ module _ {s r loc : List ℕ} {top start first : ℕ} where
       record {
         is =
             λ t c.
-            seen-none (child qualifier) closing first (Passed s (lettersOf r start t) Clean Absent)
-            (some-none (Breaks28 (lettersOf r start t)), tt);
+            seen-none (child qualifier) closing first (CheckedOf s (lettersOf r start t) Clean Absent)
+            (record { first = some-none (Breaks28 (lettersOf r start t)); known = tt });
       }
 
   module _ {at : ℕ} {fault : Fault} {right : Maybe} {h : Bool} (here : There (bytes "<INSDQualifier") s at h) (w : Checking s r loc top start first at fault right) where
-    pub checking-next : {x : FoundQualifier} {y : Checked} {b : Fault} → h ≡ true → FindsQualifier s at x → Checks s r loc top start (x .name) (x .value) right y
-        → Earlier fault (y .fault) b → Checking s r loc top start first (x .next) b (y .right)
-    checking-next {y = y} {b = b} e f k g =
+    pub checking-next : {x : FoundQualifier} {y : Checked} → h ≡ true → FindsQualifier s at x → Checks s r loc top start (x .name) (x .value) fault right y
+        → Checking s r loc top start first (x .next) (y .fault) (y .right)
+    checking-next {y = y} e f k =
         record {
           is =
               λ t c.
-              one-more (Passed s (lettersOf r start t) fault right) (Passed s (lettersOf r start t) b (y .right)) e here (w .is t c) f
-              (λ l q i m z. let o = k .says t c (z .1) q i m in (some-more (Breaks28 (lettersOf r start t)) l q (z .0) (o .fault (suc (length l))) g, o .right));
+              one-more (CheckedOf s (lettersOf r start t) fault right) (CheckedOf s (lettersOf r start t) (y .fault) (y .right)) e here (w .is t c) f
+              (λ l q i m z. k .says t c l z q i m);
         }
 
     pub checking-stuck : {x : FoundQualifier} → h ≡ true → FindsQualifier s at x → x .next ≤ at → Rights s r loc top start first fault
-    checking-stuck e f n = record { says = λ t c l j d fol. absurd (stuck (Passed s (lettersOf r start t) fault right) e here (w .is t c) f n l j d fol) }
+    checking-stuck e f n = record { says = λ t c l j d fol. absurd (stuck (CheckedOf s (lettersOf r start t) fault right) e here (w .is t c) f n l j d fol) }
 
     pub checking-done : h ≡ false → Rights s r loc top start first fault
-    checking-done e = record { says = λ t c l j d fol. all-seen (Passed s (lettersOf r start t) fault right) e here (w .is t c) l j d fol .0 .0 }
+    checking-done e = record { says = λ t c l j d fol. all-seen (CheckedOf s (lettersOf r start t) fault right) e here (w .is t c) l j d fol .0 .first }

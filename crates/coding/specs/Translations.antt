@@ -1,8 +1,8 @@
 -- What is promised of the translations of a judged coding region.
-use Prim.Native.Nat.{ℕ}
+use Prim.Native.Nat.{ℕ, _<_}
 use mathlib.Core.Path.{_≡_}
 use mathlib.Core.Bool.{Bool, false}
-use mathlib.Core.List.{List}
+use mathlib.Core.List.{List, [], _∷_, _++_}
 use mathlib.Core.Option.{some}
 use lib.ListN.{drop}
 use Rattle.paper.specs.Tree.{Text, Qualifier}
@@ -20,6 +20,7 @@ use Rattle.translation.specs.Reading.{Codes}
 use Rattle.translation.specs.Translating.{lettersOf, RightValue, RightIf}
 use Rattle.judging.specs.Sets.{Firsts, Some}
 use Rattle.paper.specs.declared.Fault.{Fault}
+use Rattle.paper.specs.declared.Fault.the-variants.{Clean, At}
 use Rattle.coding.specs.declared.Checked.{Checked}
 
 -- rule 28 of the qualifier y, number k, where x are the letters of the codons
@@ -36,14 +37,19 @@ pub record SaysRight (s r loc : List ℕ) (top start : ℕ) (value : Part) (righ
   pub says : (t : Location) → Codes r loc top t → RightAt s (lettersOf r start t) right → (u : Text ℕ) → IsPart s u value
       → RightIf (lettersOf r start t) (u .read) y
 
--- the fault of the qualifier q, and what is known to be right afterwards
-pub record CheckedOf (s x : List ℕ) (q : Qualifier ℕ) (y : Checked) : Type 0 where
-  pub fault : (k : ℕ) → Firsts (Breaks28 x k q) (y .fault)
-  pub right : RightAt s x (y .right)
+-- a fault that comes before the place
+abbrev pub Settled : Fault → ℕ → Type 0
+Settled Clean p = ⊥
+Settled (At n q) p = q < p
 
-pub record Checks (s r loc : List ℕ) (top start : ℕ) (name : Part) (value right : Maybe) (y : Checked) : Type 0 where
-  pub says : (t : Location) → Codes r loc top t → RightAt s (lettersOf r start t) right
-      → (q : Qualifier ℕ) → IsPart s (q .name) name → MaybeIs s (q .value) value → CheckedOf s (lettersOf r start t) q y
+-- the first fault of the qualifiers l, and a value that is known to be right
+pub record CheckedOf (s x : List ℕ) (fault : Fault) (right : Maybe) (l : List (Qualifier ℕ)) : Type 0 where
+  pub first : Firsts (Some (Breaks28 x) l) fault
+  pub known : RightAt s x right
+
+pub record Checks (s r loc : List ℕ) (top start : ℕ) (name : Part) (value : Maybe) (fault : Fault) (right : Maybe) (y : Checked) : Type 0 where
+  pub says : (t : Location) → Codes r loc top t → (l : List (Qualifier ℕ)) → CheckedOf s (lettersOf r start t) fault right l
+      → (q : Qualifier ℕ) → IsPart s (q .name) name → MaybeIs s (q .value) value → CheckedOf s (lettersOf r start t) (y .fault) (y .right) (l ++ (q ∷ []))
 
 -- of whichever qualifiers stand from `first` on
 pub record Rights (s r loc : List ℕ) (top start first : ℕ) (y : Fault) : Type 0 where

@@ -11,9 +11,9 @@ use walk::FoundQualifier;
 use walk::Maybe;
 use walk::Part;
 ghost use Rattle.codon.specs.Tables.{SetTable, TurnTable, LetterTable};
-ghost use Rattle.value.specs.Reading.{OfRead};
+ghost use Rattle.value.specs.Reading.{Tells, OfRead};
 ghost use Rattle.coding.specs.Qualifiers.{ValueIs, States, Frames, Excepted, Excepts, Notes, LeavesOut};
-ghost use Rattle.coding.specs.Translations.{SaysRight, Checks, Rights};
+ghost use Rattle.coding.specs.Translations.{Settled, SaysRight, Checks, Rights};
 ghost use Rattle.coding.specs.Coding.{JudgesCoding, JudgesRegion};
 
 // The first fault of the region, whether it is unjudged, and where its qualifiers end.
@@ -112,12 +112,10 @@ fn excepted_with(s: &[u8], excepted: bool, w: &[u8], value: Maybe) -> bool
     if !same(w, b"transl_table") {
         return false;
     }
-    if value_is(s, value, b"1") {
-        return false;
-    }
-    true
+    !value_is(s, value, b"1")
 }
 
+// What all qualifiers say, and where they end.
 struct Noted {
     frame: Frame,
     excepted: bool,
@@ -203,12 +201,30 @@ fn value_right(
     }
 }
 
-// The fault of one qualifier, and a value that is known to be right.
+// Whether the fault comes before this place, so that no fault there is the first.
+fn is_settled(fault: Fault, place: usize) -> bool
+    ensures { λ r. ⌜ Tells r (Settled fault place) ⌝ }
+{
+    match fault {
+        Fault::Clean => {
+            return false;
+        }
+        Fault::At {
+            rule: _,
+            place: first,
+        } => {
+            return first < place;
+        }
+    }
+}
+
+// The first fault so far, and a value that is known to be right.
 struct Checked {
     fault: Fault,
     right: Maybe,
 }
 
+// The same, after one qualifier more. Where a fault stands before its value no codon is read.
 fn check(
     s: &[u8],
     r: &[u8],
@@ -217,6 +233,7 @@ fn check(
     start: usize,
     name: Part,
     value: Maybe,
+    fault: Fault,
     right: Maybe,
     sets: &[u8; 256],
     turns: &[u8; 256],
@@ -225,37 +242,39 @@ fn check(
     requires { ⌜ SetTable (now sets) ⌝ }
     requires { ⌜ TurnTable (now turns) ⌝ }
     requires { ⌜ LetterTable (now table) ⌝ }
-    ensures { λ y. ⌜ Checks (now (s .entry)) (now (r .entry)) (now (loc .entry)) top start name value right y ⌝ }
+    ensures { λ y. ⌜ Checks (now (s .entry)) (now (r .entry)) (now (loc .entry)) top start name value fault right y ⌝ }
 {
     let w = bytes_of(s, name.from, name.to);
     if !same(w, b"translation") {
-        return Checked {
-            fault: Fault::Clean,
-            right,
-        };
+        return Checked { fault, right };
     }
     match value {
         Maybe::Absent => {
+            let missing = Fault::At {
+                rule: 28,
+                place: name.from,
+            };
             return Checked {
-                fault: Fault::At {
-                    rule: 28,
-                    place: name.from,
-                },
+                fault: earlier(fault, missing),
                 right,
             };
         }
         Maybe::Present(p) => {
+            if is_settled(fault, p.from) {
+                return Checked { fault, right };
+            }
             if value_right(s, r, loc, top, start, p, right, sets, turns, table) {
                 return Checked {
-                    fault: Fault::Clean,
+                    fault,
                     right: Maybe::Present(p),
                 };
             }
+            let wrong = Fault::At {
+                rule: 28,
+                place: p.from,
+            };
             return Checked {
-                fault: Fault::At {
-                    rule: 28,
-                    place: p.from,
-                },
+                fault: earlier(fault, wrong),
                 right,
             };
         }
@@ -289,7 +308,7 @@ fn translations(
                 return fault;
             }
             let Checked {
-                fault: here,
+                fault: least,
                 right: known,
             } = check(
                 s,
@@ -299,12 +318,13 @@ fn translations(
                 start,
                 name,
                 value,
+                fault,
                 right,
                 sets,
                 turns,
                 table,
             );
-            fault = earlier(fault, here);
+            fault = least;
             right = known;
             at = next;
         } else {

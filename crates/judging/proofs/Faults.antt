@@ -7,7 +7,7 @@ use mathlib.Core.Logic.{_⊎_, inl, inr}
 use mathlib.Core.List.{List, [], _∷_, _++_}
 use lib.ListN.{length}
 use Rattle.paper.specs.Lists.{Nth, Numbered}
-use Rattle.paper.specs.Rules.{Least, Earlier}
+use Rattle.paper.specs.Rules.{Least, Earlier, Before}
 use Rattle.paper.specs.declared.Fault.{Fault}
 use Rattle.paper.specs.declared.Fault.the-variants.{Clean, At}
 use Rattle.paper.proofs.Firsts.{_or_, before-self, least-or, least-as}
@@ -66,17 +66,27 @@ module _ {A : Type 0} (B : ℕ → A → Faults) where
   pub some-none : Firsts (Some B []) Clean
   some-none = firsts-none (Some B []) (λ n p x. x .2 .2)
 
-  -- one element more
-  pub some-more : (l : List A) (y : A) {a b r : Fault} → Firsts (Some B l) a → Firsts (B (suc (length l)) y) b → Earlier a b r → Firsts (Some B (l ++ (y ∷ []))) r
-  some-more l y f g e = firsts-as (_or_ (Some B l) (B (suc (length l)) y)) (Some B (l ++ (y ∷ []))) to of (firsts-or (Some B l) (B (suc (length l)) y) f g e)
-    where
-      to : (n p : ℕ) → _or_ (Some B l) (B (suc (length l)) y) n p → Some B (l ++ (y ∷ [])) n p
-      to n p (inl x) = (x .0, x .1, (x .2 .0, x .2 .1, nth-front l (y ∷ []) (x .2 .0) (x .1) (x .2 .2)), x .3)
-      to n p (inr x) = (suc (length l), y, (length l, refl, nth-last l y), x)
+  module _ (l : List A) (y : A) where
+    to : (n p : ℕ) → _or_ (Some B l) (B (suc (length l)) y) n p → Some B (l ++ (y ∷ [])) n p
+    to n p (inl x) = (x .0, x .1, (x .2 .0, x .2 .1, nth-front l (y ∷ []) (x .2 .0) (x .1) (x .2 .2)), x .3)
+    to n p (inr x) = (suc (length l), y, (length l, refl, nth-last l y), x)
 
-      of : (n p : ℕ) → Some B (l ++ (y ∷ [])) n p → _or_ (Some B l) (B (suc (length l)) y) n p
-      of n p x = cases (nth-split l y (x .2 .0) (x .1) (x .2 .2))
-        where
-          cases : Nth l (x .2 .0) (x .1) ⊎ ((x .2 .0 ≡ length l) × (x .1 ≡ y)) → _or_ (Some B l) (B (suc (length l)) y) n p
-          cases (inl h) = inl (x .0, x .1, (x .2 .0, x .2 .1, h), x .3)
-          cases (inr h) = inr (subst (λ (k : ℕ). B k y n p) (x .2 .1 ∙ ap suc (h .0)) (subst (λ (z : A). B (x .0) z n p) (h .1) (x .3)))
+    of : (n p : ℕ) → Some B (l ++ (y ∷ [])) n p → _or_ (Some B l) (B (suc (length l)) y) n p
+    of n p x = cases (nth-split l y (x .2 .0) (x .1) (x .2 .2))
+      where
+        cases : Nth l (x .2 .0) (x .1) ⊎ ((x .2 .0 ≡ length l) × (x .1 ≡ y)) → _or_ (Some B l) (B (suc (length l)) y) n p
+        cases (inl h) = inl (x .0, x .1, (x .2 .0, x .2 .1, h), x .3)
+        cases (inr h) = inr (subst (λ (k : ℕ). B k y n p) (x .2 .1 ∙ ap suc (h .0)) (subst (λ (z : A). B (x .0) z n p) (h .1) (x .3)))
+
+    -- one element more
+    pub some-more : {a b r : Fault} → Firsts (Some B l) a → Firsts (B (suc (length l)) y) b → Earlier a b r → Firsts (Some B (l ++ (y ∷ []))) r
+    some-more f g e = firsts-as (_or_ (Some B l) (B (suc (length l)) y)) (Some B (l ++ (y ∷ []))) to of (firsts-or (Some B l) (B (suc (length l)) y) f g e)
+
+    -- one whose faults come later, whatever they are
+    pub some-later : {n p : ℕ} → Firsts (Some B l) (At n p) → ((m q : ℕ) → B (suc (length l)) y m q → Before n p m q) → Firsts (Some B (l ++ (y ∷ []))) (At n p)
+    some-later {n} {p} f h =
+        firsts-as (_or_ (Some B l) (B (suc (length l)) y)) (Some B (l ++ (y ∷ []))) to of (record { is = record { broken = inl (f .is .broken); least = least } })
+      where
+        least : (m q : ℕ) → _or_ (Some B l) (B (suc (length l)) y) m q → Before n p m q
+        least m q (inl x) = f .is .least m q x
+        least m q (inr x) = h m q x

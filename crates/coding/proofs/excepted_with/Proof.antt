@@ -1,6 +1,6 @@
 -- `coding::excepted_with` meets its contract.
 use borrow.Author.Tests.{not-true, not-false}
-use Rattle.coding.proofs.Exceptions.{excepts-before, excepts-name, excepts-code, excepts-other, excepts-first}
+use Rattle.coding.proofs.Exceptions.{excepts-before, excepts-name, excepts-other, excepts-code}
 use borrow.Author.Needs.{needs}
 use Rattle.coding.proofs.excepted_with.Statement.{statement}
 use Rattle.coding.proofs.excepted_with.Tie as tie
@@ -30,10 +30,8 @@ value-is-requires : tie.Need-value-is-requires
 value-is-requires c κs = search needs
 
 returns-4 : tie.Need-returns-4
-returns-4 c = excepts-first (c .before .before .before .before .before .before .before .before .if1 .left) (c .before .before .before .before .before .before .if2 .left) (c .before .before .before .before .before .before .before .is-excepted .ensures) (c .if4 .taken) (c .before .value-is .ensures)
-
-returns-5 : tie.Need-returns-5
-returns-5 c = excepts-code (not-false (c .before .before .before .before .same .result) (c .before .before .before .if3 .left)) (c .before .before .before .before .same .ensures) (c .if4 .left) (c .before .value-is .ensures)
+returns-4 c =
+    excepts-code (c .before .before .before .before .before .before .before .if1 .left) (c .before .before .before .before .before .if2 .left) (c .before .before .before .before .before .before .is-excepted .ensures) (c .value-is .result) (not-false (c .before .before .before .same .result) (c .before .before .if3 .left)) (c .before .before .before .same .ensures) (c .value-is .ensures)
 
 pub excepted-with-spec : {M : Type 1} → statement M
 excepted-with-spec =
@@ -47,5 +45,4 @@ excepted-with-spec =
     returns-3
     slice-aggregate-value-is
     value-is-requires
-    returns-4
-    returns-5)
+    returns-4)

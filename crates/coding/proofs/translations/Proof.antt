@@ -31,14 +31,11 @@ returns c = checking-stuck (c .before .before .before .before .qualifier-here .e
 check-requires : tie.Need-check-requires Inv-loop μ-loop
 check-requires c κs = c .before .before .before .before .before .before .before .before .before .pre
 
-earlier-requires : tie.Need-earlier-requires Inv-loop μ-loop
-earlier-requires c κs = search needs
-
 loop-less : tie.Need-loop-less Inv-loop μ-loop
-loop-less c = omega (arith, there-inside 60 (bytes "INSDQualifier") (now (c .before .before .before .before .before .before .before .before .before .before .before .args .s)) (c .before .before .before .before .before .before .before .loop .at) (c .before .before .before .before .before .if1 .taken) (c .before .before .before .before .before .before .qualifier-here .ensures))
+loop-less c = omega (arith, there-inside 60 (bytes "INSDQualifier") (now (c .before .before .before .before .before .before .before .before .before .before .args .s)) (c .before .before .before .before .before .before .loop .at) (c .before .before .before .before .if1 .taken) (c .before .before .before .before .before .qualifier-here .ensures))
 
 loop-again : tie.Need-loop-again Inv-loop μ-loop
-loop-again c = checking-next (c .before .before .before .before .before .before .qualifier-here .ensures) (c .before .before .before .before .before .before .before .loop .inv) (c .before .before .before .before .before .if1 .taken) (c .before .before .before .before .qualifier .ensures) (c .before .check .ensures) (c .earlier .ensures)
+loop-again c = checking-next (c .before .before .before .before .before .qualifier-here .ensures) (c .before .before .before .before .before .before .loop .inv) (c .before .before .before .before .if1 .taken) (c .before .before .before .qualifier .ensures) (c .check .ensures)
 
 returns-2 : tie.Need-returns-2 Inv-loop μ-loop
 returns-2 c = checking-done (c .before .qualifier-here .ensures) (c .before .before .loop .inv) (c .if1 .left)
@@ -54,7 +51,6 @@ translations-spec =
     qualifier-requires
     returns
     check-requires
-    earlier-requires
     loop-less
     loop-again
     returns-2)
