@@ -4,19 +4,18 @@ use Prim.Native.String.{String}
 use mathlib.Core.Path.{_≡_, refl, sym, ap, _∙_, subst}
 use mathlib.Core.Bool.{Bool, true, false, true≢false, not}
 use mathlib.Core.Logic.{_⊎_, inl, inr}
-use mathlib.Core.List.{List, [], _∷_, _++_}
-use mathlib.Core.Option.{some}
+use mathlib.Core.List.{List}
 use Rattle.paper.specs.Bytes.{bytes, raw}
 use Rattle.paper.specs.Lists.{_∈_}
 use Rattle.paper.specs.Tree.{Qualifier, Feature, qualifiersOf}
 use Rattle.paper.specs.Locations.{Location, Locates, leavesUnjudged}
-use Rattle.paper.specs.Rules.{Named, valueRead, Unjudged, excepted, other-code, located}
+use Rattle.paper.specs.Rules.{Unjudged, excepted, other-code, located}
 use Rattle.paper.proofs.Locate.{locates-once}
 use Rattle.value.specs.Reading.{Tells, OfRead}
 use Rattle.value.proofs.Tests.{tells-true, tells-false}
 use Rattle.value.proofs.Read.{tells-word, tells-read}
 use Rattle.walk.specs.declared.Maybe.{Maybe}
-use Rattle.location.specs.Judging.{Judged, AreFacts}
+use Rattle.location.specs.Judging.{Judged}
 use Rattle.location.specs.declared.judging.Facts.{Facts}
 use Rattle.location.specs.declared.judging.Verdict.{Verdict}
 use Rattle.location.specs.declared.judging.Verdict.the-variants.{Bad, Is}

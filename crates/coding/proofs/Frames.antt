@@ -1,12 +1,11 @@
 -- Rule 27: the frame of a list of qualifiers, after one qualifier more.
-use Prim.Native.Nat.{ℕ, suc}
+use Prim.Native.Nat.{ℕ}
 use native.Mathlib.Omega.{arith}
-use mathlib.Core.Path.{_≡_, refl, sym, ap, _∙_, subst}
+use mathlib.Core.Path.{_≡_, refl, subst}
 use mathlib.Core.Bool.{Bool, true, false}
 use mathlib.Core.Logic.{_⊎_, inl, inr}
 use mathlib.Core.List.{List, [], _∷_, _++_}
-use mathlib.Core.Option.{Option, some}
-use Rattle.paper.specs.Bytes.{bytes, raw}
+use Rattle.paper.specs.Bytes.{bytes}
 use Rattle.paper.specs.Lists.{_∈_, Count}
 use Rattle.paper.specs.Tree.{Qualifier, Feature, qualifiersOf}
 use Rattle.paper.specs.Rules.{Named, valueRead, CodonStart, absent, stated}

@@ -4,23 +4,22 @@ use native.Mathlib.Omega.{arith}
 use mathlib.Core.Path.{_≡_, refl, sym, ap, _∙_, subst, subst₂}
 use mathlib.Core.Bool.{Bool, true, false, true≢false}
 use mathlib.Core.Logic.{inr}
-use mathlib.Core.List.{List, [], _∷_, _++_}
+use mathlib.Core.List.{List}
 use mathlib.Core.Option.{Option, some}
 use lib.ListN.{length}
-use Rattle.paper.specs.Bytes.{bytes, raw, all}
+use Rattle.paper.specs.Bytes.{bytes, all}
 use Rattle.paper.specs.Lists.{end}
-use Rattle.paper.specs.Tree.{Qualifier, Feature, Sequence, qualifiersOf}
+use Rattle.paper.specs.Tree.{Feature, Sequence, qualifiersOf}
 use Rattle.paper.specs.Layout.{child, qualifier}
-use Rattle.paper.specs.Locations.{Location, breaks25}
+use Rattle.paper.specs.Locations.{breaks25}
 use Rattle.paper.specs.Translation.{dropStop, hasStopInside}
-use Rattle.paper.specs.Rules.{L, isSymbol, Before, CodonStart, absent, Unjudged, Judged}
-use Rattle.paper.specs.Answers.{Outcome, Translates}
+use Rattle.paper.specs.Rules.{L, isSymbol, Before, CodonStart, Judged}
+use Rattle.paper.specs.Answers.{Translates}
 use Rattle.paper.specs.declared.Fault.{Fault}
 use Rattle.paper.specs.declared.Fault.the-variants.{Clean, At}
 use Rattle.paper.proofs.Locate.{locates-once}
 use Rattle.paper.proofs.Once.{translates-once}
 use Rattle.scan.specs.Follow.{closing}
-use Rattle.value.specs.Reading.{Tells}
 use Rattle.value.proofs.Tests.{tells-true, tells-false}
 use Rattle.value.proofs.Residues.{raw-symbols}
 use Rattle.walk.specs.Stands.{There, FindsQualifier}
@@ -30,7 +29,6 @@ use Rattle.location.specs.Judging.{Judged as Placed}
 use Rattle.location.specs.declared.judging.Facts.{Facts}
 use Rattle.location.specs.declared.judging.Verdict.{Verdict}
 use Rattle.location.specs.declared.judging.Verdict.the-variants.{Bad, Is}
-use Rattle.translation.specs.Reading.{Codes}
 use Rattle.translation.specs.Translating.{lettersOf}
 use Rattle.judging.specs.Sets.{Firsts, Some, InCoding, rule-27, rule-28}
 use Rattle.judging.specs.Known.{Shows}
@@ -42,10 +40,10 @@ use Rattle.coding.specs.Qualifiers.{Shown, Frames, FrameIs, Excepts, Not
 use Rattle.coding.specs.Translations.{Breaks28, Rights}
 use Rattle.coding.specs.Coding.{Asked, JudgesCoding, JudgesRegion}
 use Rattle.coding.specs.declared.Frame.{Frame}
-use Rattle.coding.specs.declared.Frame.the-variants.{Unstated, Stated, Wrong}
+use Rattle.coding.specs.declared.Frame.the-variants.{Unstated, Wrong}
 use Rattle.coding.specs.declared.Noted.{Noted}
 use Rattle.coding.proofs.Loops.{SeenSo, one-more, stuck, all-seen}
-use Rattle.coding.proofs.Frames.{start-one, start-wrong}
+use Rattle.coding.proofs.Frames.{start-wrong}
 
 -- ---- the qualifiers
 

@@ -1,8 +1,8 @@
 -- The value of a qualifier, tested; what a codon_start of that value states.
 use Prim.Native.Nat.{ℕ}
-use mathlib.Core.Path.{_≡_, refl, sym, ap, _∙_, subst}
+use mathlib.Core.Path.{_≡_, refl, ap, _∙_, subst}
 use mathlib.Core.Bool.{Bool, true, false}
-use mathlib.Core.Logic.{_⊎_, inl, inr}
+use mathlib.Core.Logic.{inl, inr}
 use mathlib.Core.List.{List}
 use mathlib.Core.Option.{Option, none, some, Option·none-ne-some, Option·some-injective}
 use Rattle.paper.specs.Bytes.{bytes, raw}
@@ -11,15 +11,14 @@ use Rattle.paper.specs.Values.{Number}
 use Rattle.value.specs.Reading.{Tells}
 use Rattle.value.proofs.Tests.{tells-true, tells-false}
 use Rattle.value.proofs.Read.{tells-word}
-use Rattle.walk.specs.Stands.{IsPart, MaybeIs}
+use Rattle.walk.specs.Stands.{MaybeIs}
 use Rattle.walk.specs.declared.Part.{Part}
 use Rattle.walk.specs.declared.Maybe.{Maybe}
 use Rattle.walk.specs.declared.Maybe.the-variants.{Absent, Present}
 use Rattle.judging.specs.Known.{Shows}
 use Rattle.judging.proofs.Bytes.{part-shows}
-use Rattle.coding.specs.Qualifiers.{ValueIs, Small, StatesStart, States}
-use Rattle.coding.specs.declared.Frame.{Frame}
-use Rattle.coding.specs.declared.Frame.the-variants.{Unstated, Stated, Wrong}
+use Rattle.coding.specs.Qualifiers.{ValueIs, Small, States}
+use Rattle.coding.specs.declared.Frame.the-variants.{Stated, Wrong}
 
 pub tells-as : (r : Bool) {A B : Type 0} → (A → B) → (B → A) → Tells r A → Tells r B
 tells-as true to of t = to t
