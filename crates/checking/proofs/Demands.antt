@@ -6,13 +6,16 @@ use mathlib.Core.Bool.{Bool, true, false, true≢false}
 use mathlib.Core.Logic.{_⊎_, inl, inr, _↔_}
 use mathlib.Core.List.{List}
 use lib.ListN.{length}
-use Rattle.paper.specs.Tree.{Listing, Bare, forget}
+use Rattle.paper.specs.Lists.{_∈_}
+use Rattle.paper.specs.Tree.{Sequence, Feature, Listing, Bare, forget, featuresOf}
+use Rattle.paper.specs.Locations.{Location, Locates, Span, spans}
 use Rattle.paper.specs.Layout.{LaidOut, Writes}
-use Rattle.paper.specs.Rules.{Broken, First}
+use Rattle.paper.specs.Rules.{L, Broken}
 use Rattle.paper.specs.Answers.{limit, CheckSays, Checked, refuse, give}
 use Rattle.paper.specs.Answers as paper
 use Rattle.paper.specs.declared.Verdict.{Verdict}
 use Rattle.paper.specs.declared.Verdict.the-variants.{Accepted, Refused}
+use Rattle.paper.proofs.Inside.{Inside, accepted-inside}
 use Rattle.paper.proofs.Marks.{bare-exactly}
 use Rattle.paper.proofs.Once.{check-once}
 use Rattle.layout.proofs.Wholes.{laid-once, writes-once}
@@ -73,3 +76,8 @@ exactly w (Refused n p) c = (λ a. absurd (refused-not n p a), λ g. absurd (not
 -- ".. and then no other is": any two that are written by the bytes are one
 pub no-other : (w : List ℕ) (a b : Bare) → Writes a w → Writes b w → a ≡ b
 no-other w a b x y = writes-once a b x y
+
+-- no location of an accepted listing points outside its sequence
+pub none-outside : {w : List ℕ} {t s f j u : ℕ} (c : CheckSays w (Accepted t s f j u)) (q : Sequence ℕ) → q ∈ c .0 .sequences → (g : Feature ℕ) → g ∈ featuresOf q
+    → (x : Location) → Locates x (g .location .read) → (y : Span) → y ∈ spans x → Inside (L q) y
+none-outside c = accepted-inside (c .1)
