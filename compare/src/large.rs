@@ -1,12 +1,13 @@
 //! Listings of an exact size: the three mixes, and traps for a reader that reads something twice.
 
+use crate::report::Input;
 use judge::generate::sized::{sized, Mix};
 
 /// "16,777,216 bytes is the longest listing."
 pub const LONGEST: usize = 16_777_216;
 
 /// Makes an input of exactly this size, which is at least 4,000.
-type Make = fn(usize) -> Vec<u8>;
+pub type Make = fn(usize) -> Vec<u8>;
 
 /// Valid listings, and what they are mostly made of.
 pub const MIXES: [(&str, Make); 3] = [
@@ -55,6 +56,14 @@ pub fn make(kind: &str, size: usize) -> Option<Vec<u8>> {
     let mut kinds = MIXES.iter().chain(&TRAPS);
     let (_, make) = kinds.find(|(name, _)| *name == kind)?;
     Some(make(size))
+}
+
+/// The inputs of these kinds and this size.
+pub fn inputs(kinds: &'static [(&str, Make)], size: usize) -> impl Iterator<Item = Input> {
+    kinds.iter().map(move |(name, make)| Input {
+        name: format!("compare make {name} {size}"),
+        bytes: make(size),
+    })
 }
 
 fn mix(mix: Mix, size: usize) -> Vec<u8> {

@@ -18,14 +18,7 @@ pub fn run(count: u64, seed: u64, root: &Path) -> Result<bool, String> {
     let folder = root.join("target/compare");
     let mut comparison = Comparison::new(proved::layout, judge::layout, Some(folder));
 
-    let generated = (0..count).map(|number| {
-        let case = judge::generate::case(seed, number);
-        Input {
-            name: format!("judge::generate::case({seed}, {number}), {}", case.name),
-            bytes: case.bytes,
-        }
-    });
-    comparison.kind("generated", generated);
+    comparison.kind("generated", generated(count, seed));
     comparison.kind(
         "mutants",
         (0..count).map(|number| mutants::mutant(seed, number)),
@@ -35,29 +28,38 @@ pub fn run(count: u64, seed: u64, root: &Path) -> Result<bool, String> {
         mutants::sweep(&swept.0, &swept.1),
     );
     comparison.kind("of the greatest size, and one byte more", large_inputs());
-    comparison.kind(
-        "specimens",
-        specimens.into_iter().map(|(name, bytes)| Input {
-            name: format!("specimens/{name}"),
-            bytes,
-        }),
-    );
+    comparison.kind("specimens", specimen_inputs(specimens));
     Ok(comparison.count.close("layout"))
 }
 
-/// The mixes and traps of the greatest size, and the mixes with one byte more.
-fn large_inputs() -> impl Iterator<Item = Input> {
-    let fitting = large::MIXES.iter().chain(&large::TRAPS);
-    let fitting = fitting.map(|kind| (kind, large::LONGEST));
-    let too_long = large::MIXES.iter().map(|kind| (kind, large::LONGEST + 1));
-    fitting.chain(too_long).map(|((name, make), size)| Input {
-        name: format!("compare make {name} {size}"),
-        bytes: make(size),
+/// So many cases of the judge's generator.
+pub fn generated(count: u64, seed: u64) -> impl Iterator<Item = Input> {
+    (0..count).map(move |number| {
+        let case = judge::generate::case(seed, number);
+        Input {
+            name: format!("judge::generate::case({seed}, {number}), {}", case.name),
+            bytes: case.bytes,
+        }
     })
 }
 
+/// The specimens as inputs.
+pub fn specimen_inputs(specimens: Vec<(String, Vec<u8>)>) -> impl Iterator<Item = Input> {
+    specimens.into_iter().map(|(name, bytes)| Input {
+        name: format!("specimens/{name}"),
+        bytes,
+    })
+}
+
+/// The mixes and traps of the greatest size, and the mixes with one byte more.
+pub fn large_inputs() -> impl Iterator<Item = Input> {
+    large::inputs(&large::MIXES, large::LONGEST)
+        .chain(large::inputs(&large::TRAPS, large::LONGEST))
+        .chain(large::inputs(&large::MIXES, large::LONGEST + 1))
+}
+
 /// Every specimen with its name, in order.
-fn specimens(folder: &Path) -> Result<Vec<(String, Vec<u8>)>, String> {
+pub fn specimens(folder: &Path) -> Result<Vec<(String, Vec<u8>)>, String> {
     let failed = |error| format!("{}: {error}", folder.display());
     let mut found = Vec::new();
     for entry in fs::read_dir(folder).map_err(failed)? {

@@ -1,5 +1,6 @@
 //! The program `compare`: the proved reader beside the independent judge.
 
+mod check;
 mod large;
 mod layout;
 mod location;
@@ -15,6 +16,7 @@ const USAGE: &str = "\
 compare layout COUNT [SEED]      rules 1 and 2 on COUNT generated listings, COUNT mutants, and more
 compare location COUNT [SEED]    every short location text, and COUNT generated ones
 compare translation COUNT [SEED] every codon, and COUNT generated coding regions
+compare check COUNT [SEED]       the whole check on COUNT generated listings, COUNT damages, COUNT mutants, and more
 compare make KIND SIZE FILE      writes a listing of this size, for measuring";
 
 fn main() -> ExitCode {
@@ -46,6 +48,7 @@ fn compare(what: &str, count: &str, seed: &str, root: &Path) -> Result<bool, Str
         "layout" => layout::run(count, seed, root),
         "location" => location::run(count, seed),
         "translation" => translation::run(count, seed),
+        "check" => check::run(count, seed, root),
         _ => Err(usage()),
     }
 }

@@ -112,6 +112,67 @@ pub fn mutant(seed: u64, number: u64) -> Input {
     }
 }
 
+/// What a text or an attribute's value may get instead of what it has; some of it means something in a value.
+const CHARACTERS: &[u8] = b"0123456789acgtnuACGTMKXZ .,^()-_jo";
+
+/// A valid listing with a change or two inside its values, so that it stays of the layout: the rules on values judge it.
+pub fn value_mutant(seed: u64, number: u64) -> Input {
+    let rng = &mut Rng::new(!seed ^ number.wrapping_mul(0x9e6c_63d0_876a_68e5));
+    let mut bytes = valid_listing(rng).1.bytes;
+    let count = *rng.pick(&[1, 1, 2, 3]);
+    for _ in 0..count {
+        while change_value(&mut bytes, rng).is_none() {}
+    }
+    Input {
+        name: format!("value mutant {number} of seed {seed}"),
+        bytes,
+    }
+}
+
+/// Changes, drops, adds or exchanges characters of a value, or gives it another value of the listing.
+fn change_value(bytes: &mut Vec<u8>, rng: &mut Rng) -> Option<()> {
+    let values = values(bytes);
+    let value = some(&values, rng)?;
+    let at = rng.between(value.start, value.end - 1);
+    let character = *rng.pick(CHARACTERS);
+    // A character that is written as an entity stays as it is.
+    let fixed = bytes[value.clone()].contains(&b'&');
+    match rng.below(6) {
+        0 if !fixed => bytes[at] = character,
+        1 if !fixed => drop(bytes.remove(at)),
+        2 if !fixed => bytes.insert(at, character),
+        3 if !fixed && at + 1 < value.end => bytes.swap(at, at + 1),
+        4 => bytes.insert(value.end, character),
+        5 => {
+            let other = bytes[some(&values, rng)?].to_vec();
+            bytes.splice(value, other);
+        }
+        _ => return None,
+    }
+    Some(())
+}
+
+/// The values that aren't empty: texts between tags, and attributes' values.
+fn values(bytes: &[u8]) -> Vec<Range<usize>> {
+    let tags = tags(bytes);
+    let texts = tags.windows(2).filter_map(|pair| {
+        let (start, end) = (&pair[0], &pair[1]);
+        let is_text = bytes[start.name.clone()] == bytes[end.name.clone()]
+            && bytes[start.whole.start + 1] != b'/'
+            && bytes[end.whole.start + 1] == b'/';
+        is_text.then_some(start.whole.end..end.whole.start)
+    });
+    let attributes = tags.iter().flat_map(|tag| {
+        let quotes: Vec<usize> = tag.whole.clone().filter(|&at| bytes[at] == b'"').collect();
+        let values: Vec<Range<usize>> = quotes.chunks(2).map(|pair| pair[0] + 1..pair[1]).collect();
+        values
+    });
+    texts
+        .chain(attributes)
+        .filter(|value| !value.is_empty())
+        .collect()
+}
+
 /// Keeps a beginning only.
 fn cut(bytes: &mut Vec<u8>, rng: &mut Rng) -> Option<()> {
     bytes.truncate(rng.below(bytes.len() + 1));
@@ -368,6 +429,13 @@ mod tests {
         assert_eq!(whole(2), None);
         assert_eq!(whole(3), Some(b"<C />".as_slice()));
         assert_eq!(whole(4), Some(b"<D></D >".as_slice()));
+    }
+
+    #[test]
+    fn values_are_found() {
+        let values = values(LISTING);
+        let values: Vec<&[u8]> = values.into_iter().map(|range| &LISTING[range]).collect();
+        assert_eq!(values, [b"t", b"1", b"2"]);
     }
 
     #[test]

@@ -1,11 +1,12 @@
 //! Compares answers, counts the verdicts and tells the differences.
 
 use judge::Refusal;
+use std::fmt::Debug;
 use std::fs;
 use std::path::{Path, PathBuf};
 
-/// What a reader says of rules 1 and 2.
-pub type Verdict = Result<(), Refusal>;
+/// What a reader says: what it found in a listing that it accepts, or the refusal.
+pub type Verdict<T = ()> = Result<T, Refusal>;
 
 /// An input and a name by which it can be made again.
 pub struct Input {
@@ -89,7 +90,12 @@ pub struct Comparison<P, J> {
     pub count: Count,
 }
 
-impl<P: Fn(&[u8]) -> Verdict, J: Fn(&[u8]) -> Verdict> Comparison<P, J> {
+impl<T, P, J> Comparison<P, J>
+where
+    T: Copy + Debug + PartialEq,
+    P: Fn(&[u8]) -> Verdict<T>,
+    J: Fn(&[u8]) -> Verdict<T>,
+{
     pub fn new(proved: P, judge: J, folder: Option<PathBuf>) -> Self {
         Comparison {
             proved,
@@ -99,25 +105,19 @@ impl<P: Fn(&[u8]) -> Verdict, J: Fn(&[u8]) -> Verdict> Comparison<P, J> {
         }
     }
 
-    /// Compares all inputs of one kind, and prints a line of their verdicts.
-    pub fn kind(&mut self, kind: &str, inputs: impl Iterator<Item = Input>) -> Tally {
-        let mut tally = Tally::default();
+    /// Compares all inputs; `add` is given each with the judge's verdict.
+    pub fn all(
+        &mut self,
+        inputs: impl Iterator<Item = Input>,
+        mut add: impl FnMut(&[u8], Verdict<T>),
+    ) {
         for input in inputs {
-            tally.add(&input.bytes, self.one(&input));
+            add(&input.bytes, self.one(&input));
         }
-        println!(
-            "{kind}: {} cases; {} laid out, {} too long, {} wrong in the header, {} wrong later",
-            tally.cases(),
-            tally.laid_out,
-            tally.too_long,
-            tally.wrong_early,
-            tally.wrong_late
-        );
-        tally
     }
 
     /// Compares one input; the answer is the judge's.
-    fn one(&mut self, input: &Input) -> Verdict {
+    fn one(&mut self, input: &Input) -> Verdict<T> {
         let (proved, judge) = ((self.proved)(&input.bytes), (self.judge)(&input.bytes));
         let folder = self.folder.as_deref();
         self.count.case(proved == judge, |number| {
@@ -132,6 +132,23 @@ impl<P: Fn(&[u8]) -> Verdict, J: Fn(&[u8]) -> Verdict> Comparison<P, J> {
     }
 }
 
+impl<P: Fn(&[u8]) -> Verdict, J: Fn(&[u8]) -> Verdict> Comparison<P, J> {
+    /// Compares all inputs of one kind, and prints a line of their verdicts.
+    pub fn kind(&mut self, kind: &str, inputs: impl Iterator<Item = Input>) -> Tally {
+        let mut tally = Tally::default();
+        self.all(inputs, |input, verdict| tally.add(input, verdict));
+        println!(
+            "{kind}: {} cases; {} laid out, {} too long, {} wrong in the header, {} wrong later",
+            tally.cases(),
+            tally.laid_out,
+            tally.too_long,
+            tally.wrong_early,
+            tally.wrong_late
+        );
+        tally
+    }
+}
+
 /// Keeps an input with a difference.
 fn keep(folder: &Path, number: usize, input: &[u8]) {
     let file = folder.join(format!("differs-{number}.xml"));
@@ -143,9 +160,9 @@ fn keep(folder: &Path, number: usize, input: &[u8]) {
 }
 
 /// A verdict in words, with the bytes on both sides of its place.
-fn words(input: &[u8], verdict: Verdict) -> String {
+fn words<T: Debug>(input: &[u8], verdict: Verdict<T>) -> String {
     match verdict {
-        Ok(()) => "laid out".into(),
+        Ok(found) => format!("accepted, {found:?}"),
         Err(Refusal { rule, place }) => {
             let at = place.min(input.len());
             let before = &input[at.saturating_sub(30)..at];
