@@ -1,5 +1,6 @@
 //! Listings of an exact size: the three mixes, and traps for a reader that reads something twice.
 
+use crate::heavy::HEAVY;
 use crate::report::Input;
 use judge::generate::sized::{sized, Mix};
 
@@ -53,7 +54,7 @@ pub const TRAPS: [(&str, Make); 15] = [
 
 /// The input of this kind and size, if there is such a kind.
 pub fn make(kind: &str, size: usize) -> Option<Vec<u8>> {
-    let mut kinds = MIXES.iter().chain(&TRAPS);
+    let mut kinds = MIXES.iter().chain(&TRAPS).chain(&HEAVY);
     let (_, make) = kinds.find(|(name, _)| *name == kind)?;
     Some(make(size))
 }

@@ -1,6 +1,7 @@
 //! The program `compare`: the proved reader beside the independent judge.
 
 mod check;
+mod heavy;
 mod large;
 mod layout;
 mod location;
@@ -17,7 +18,7 @@ compare layout COUNT [SEED]      rules 1 and 2 on COUNT generated listings, COUN
 compare location COUNT [SEED]    every short location text, and COUNT generated ones
 compare translation COUNT [SEED] every codon, and COUNT generated coding regions
 compare check COUNT [SEED]       the whole check on COUNT generated listings, COUNT damages, COUNT mutants, and more
-compare make KIND SIZE FILE      writes a listing of this size, for measuring";
+compare make KIND SIZE FILE      writes a listing of this size, or nearly, for measuring";
 
 fn main() -> ExitCode {
     let arguments: Vec<String> = std::env::args().skip(1).collect();
@@ -54,7 +55,10 @@ fn compare(what: &str, count: &str, seed: &str, root: &Path) -> Result<bool, Str
 }
 
 fn usage() -> String {
-    let kinds = large::MIXES.iter().chain(&large::TRAPS);
+    let kinds = large::MIXES
+        .iter()
+        .chain(&large::TRAPS)
+        .chain(&heavy::HEAVY);
     let kinds: Vec<&str> = kinds.map(|&(name, _)| name).collect();
     format!("{USAGE}\nKIND is one of: {}", kinds.join(" "))
 }
