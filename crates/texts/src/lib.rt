@@ -159,7 +159,8 @@ pub fn judge_texts(s: &[u8], declared: Part, moltype: Part, division: Part, know
         judging::bytes_of(s, declared.from, declared.to),
         known.top as usize,
     );
-    let a = judging::unless(is_known(kind), 16, moltype.from);
+    let named = is_known(kind);
+    let a = judging::unless(named, 16, moltype.from);
     let b = judging::unless(pat, 17, division.from);
     let c = judge_residues(
         judging::bytes_of(s, place, residues.to),
