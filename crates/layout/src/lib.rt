@@ -40,20 +40,20 @@ pub enum Shape {
 }
 
 // Blanks, the `>` of a start tag, blanks.
-pub fn enter(s: &[u8], st: Step) -> Step
+fn enter(s: &[u8], st: Step) -> Step
     ensures { λ r. ⌜ Enters (now (s .entry)) st r ⌝ }
 {
     scan::blanks(s, scan::lit(s, scan::blanks(s, st), b">"))
 }
 
 // An end tag, blanks.
-pub fn leave(s: &[u8], st: Step, name: &[u8]) -> Step
+fn leave(s: &[u8], st: Step, name: &[u8]) -> Step
     ensures { λ r. ⌜ Leaves (now (name .entry)) (now (s .entry)) st r ⌝ }
 {
     scan::blanks(s, scan::close(s, st, name))
 }
 
-pub fn qualifier(s: &[u8], next: usize, far: usize, t: &[u8; 256]) -> Step
+fn qualifier(s: &[u8], next: usize, far: usize, t: &[u8; 256]) -> Step
     requires { ⌜ ClassTable (now t) ⌝ }
     ensures { λ r. ⌜ Reads (Form.child Form.qualifier) (Not isBlank) (now (s .entry)) (Ok next far) r ⌝ }
 {
@@ -67,7 +67,7 @@ pub fn qualifier(s: &[u8], next: usize, far: usize, t: &[u8; 256]) -> Step
     leave(s, d, b"INSDQualifier")
 }
 
-pub fn qualifiers(s: &[u8], st: Step, t: &[u8; 256]) -> Step
+fn qualifiers(s: &[u8], st: Step, t: &[u8; 256]) -> Step
     requires { ⌜ ClassTable (now t) ⌝ }
     ensures { λ r. ⌜ Reads (each (Form.child Form.qualifier)) (Starts closing) (now (s .entry)) st r ⌝ }
 {
@@ -90,7 +90,7 @@ pub fn qualifiers(s: &[u8], st: Step, t: &[u8; 256]) -> Step
 }
 
 // What follows the tag of INSDFeature_quals, and the blanks after the element.
-pub fn quals_rest(s: &[u8], next: usize, far: usize, t: &[u8; 256]) -> Step
+fn quals_rest(s: &[u8], next: usize, far: usize, t: &[u8; 256]) -> Step
     requires { ⌜ ClassTable (now t) ⌝ }
     ensures { λ r. ⌜ Followed QualsRest Form.blanks (now (s .entry)) (Ok next far) r ⌝ }
 {
@@ -107,7 +107,7 @@ pub fn quals_rest(s: &[u8], next: usize, far: usize, t: &[u8; 256]) -> Step
     scan::blanks(s, scan::close(s, c, b"INSDFeature_quals"))
 }
 
-pub fn quals_maybe(s: &[u8], st: Step, t: &[u8; 256]) -> Step
+fn quals_maybe(s: &[u8], st: Step, t: &[u8; 256]) -> Step
     requires { ⌜ ClassTable (now t) ⌝ }
     ensures { λ r. ⌜ Tried (Form.child Form.quals) (Not isBlank) (now (s .entry)) st r ⌝ }
 {
@@ -120,7 +120,7 @@ pub fn quals_maybe(s: &[u8], st: Step, t: &[u8; 256]) -> Step
     }
 }
 
-pub fn feature(s: &[u8], next: usize, far: usize, t: &[u8; 256]) -> Step
+fn feature(s: &[u8], next: usize, far: usize, t: &[u8; 256]) -> Step
     requires { ⌜ ClassTable (now t) ⌝ }
     ensures { λ r. ⌜ Reads (Form.child Form.feature) (Not isBlank) (now (s .entry)) (Ok next far) r ⌝ }
 {
@@ -135,7 +135,7 @@ pub fn feature(s: &[u8], next: usize, far: usize, t: &[u8; 256]) -> Step
     leave(s, e, b"INSDFeature")
 }
 
-pub fn feature_on(s: &[u8], st: Step, t: &[u8; 256]) -> Step
+fn feature_on(s: &[u8], st: Step, t: &[u8; 256]) -> Step
     requires { ⌜ ClassTable (now t) ⌝ }
     ensures { λ r. ⌜ Reads (Form.child Form.feature) (Not isBlank) (now (s .entry)) st r ⌝ }
 {
@@ -145,7 +145,7 @@ pub fn feature_on(s: &[u8], st: Step, t: &[u8; 256]) -> Step
     }
 }
 
-pub fn features(s: &[u8], st: Step, t: &[u8; 256]) -> Step
+fn features(s: &[u8], st: Step, t: &[u8; 256]) -> Step
     requires { ⌜ ClassTable (now t) ⌝ }
     ensures { λ r. ⌜ Reads (each (Form.child Form.feature)) (Starts closing) (now (s .entry)) st r ⌝ }
 {
@@ -167,7 +167,7 @@ pub fn features(s: &[u8], st: Step, t: &[u8; 256]) -> Step
     }
 }
 
-pub fn table_maybe(s: &[u8], st: Step, t: &[u8; 256]) -> Step
+fn table_maybe(s: &[u8], st: Step, t: &[u8; 256]) -> Step
     requires { ⌜ ClassTable (now t) ⌝ }
     ensures { λ r. ⌜ Tried (Form.child Form.table) (Not isBlank) (now (s .entry)) st r ⌝ }
 {
@@ -185,7 +185,7 @@ pub fn table_maybe(s: &[u8], st: Step, t: &[u8; 256]) -> Step
 }
 
 // What follows the tag of INSDSeq_other-seqids, and the blanks after the element.
-pub fn ids_rest(s: &[u8], next: usize, far: usize, t: &[u8; 256]) -> Step
+fn ids_rest(s: &[u8], next: usize, far: usize, t: &[u8; 256]) -> Step
     requires { ⌜ ClassTable (now t) ⌝ }
     ensures { λ r. ⌜ Followed IdsRest Form.blanks (now (s .entry)) (Ok next far) r ⌝ }
 {
@@ -202,7 +202,7 @@ pub fn ids_rest(s: &[u8], next: usize, far: usize, t: &[u8; 256]) -> Step
     scan::blanks(s, scan::close(s, c, b"INSDSeq_other-seqids"))
 }
 
-pub fn ids_maybe(s: &[u8], st: Step, t: &[u8; 256]) -> Step
+fn ids_maybe(s: &[u8], st: Step, t: &[u8; 256]) -> Step
     requires { ⌜ ClassTable (now t) ⌝ }
     ensures { λ r. ⌜ Tried (Form.child Form.otherIds) (Not isBlank) (now (s .entry)) st r ⌝ }
 {
@@ -216,7 +216,7 @@ pub fn ids_maybe(s: &[u8], st: Step, t: &[u8; 256]) -> Step
 }
 
 // INSDSeq.
-pub fn inner(s: &[u8], st: Step, t: &[u8; 256]) -> Step
+fn inner(s: &[u8], st: Step, t: &[u8; 256]) -> Step
     requires { ⌜ ClassTable (now t) ⌝ }
     ensures { λ r. ⌜ Reads (Form.child held) (Not isBlank) (now (s .entry)) st r ⌝ }
 {
@@ -231,7 +231,7 @@ pub fn inner(s: &[u8], st: Step, t: &[u8; 256]) -> Step
 }
 
 // SequenceData.
-pub fn sequence(s: &[u8], next: usize, far: usize, t: &[u8; 256]) -> Step
+fn sequence(s: &[u8], next: usize, far: usize, t: &[u8; 256]) -> Step
     requires { ⌜ ClassTable (now t) ⌝ }
     ensures { λ r. ⌜ Reads (Form.child Form.sequence) (Not isBlank) (now (s .entry)) (Ok next far) r ⌝ }
 {
@@ -244,7 +244,7 @@ pub fn sequence(s: &[u8], next: usize, far: usize, t: &[u8; 256]) -> Step
     leave(s, c, b"SequenceData")
 }
 
-pub fn sequence_on(s: &[u8], st: Step, t: &[u8; 256]) -> Step
+fn sequence_on(s: &[u8], st: Step, t: &[u8; 256]) -> Step
     requires { ⌜ ClassTable (now t) ⌝ }
     ensures { λ r. ⌜ Reads (Form.child Form.sequence) (Not isBlank) (now (s .entry)) st r ⌝ }
 {
@@ -254,7 +254,7 @@ pub fn sequence_on(s: &[u8], st: Step, t: &[u8; 256]) -> Step
     }
 }
 
-pub fn sequences(s: &[u8], st: Step, t: &[u8; 256]) -> Step
+fn sequences(s: &[u8], st: Step, t: &[u8; 256]) -> Step
     requires { ⌜ ClassTable (now t) ⌝ }
     ensures { λ r. ⌜ Reads (each (Form.child Form.sequence)) (Starts closing) (now (s .entry)) st r ⌝ }
 {
@@ -277,7 +277,7 @@ pub fn sequences(s: &[u8], st: Step, t: &[u8; 256]) -> Step
 }
 
 // ApplicationIdentification or EarliestPriorityApplicationIdentification.
-pub fn identification(s: &[u8], st: Step, name: &[u8], t: &[u8; 256]) -> Step
+fn identification(s: &[u8], st: Step, name: &[u8], t: &[u8; 256]) -> Step
     requires { ⌜ ClassTable (now t) ⌝ }
     ensures { λ r. ⌜ Reads (Form.child (Form.identification (now (name .entry)))) (Not isBlank) (now (s .entry)) st r ⌝ }
 {
@@ -288,7 +288,7 @@ pub fn identification(s: &[u8], st: Step, name: &[u8], t: &[u8; 256]) -> Step
     leave(s, d, name)
 }
 
-pub fn identification_maybe(s: &[u8], st: Step, name: &[u8], t: &[u8; 256]) -> Step
+fn identification_maybe(s: &[u8], st: Step, name: &[u8], t: &[u8; 256]) -> Step
     requires { ⌜ ClassTable (now t) ⌝ }
     ensures { λ r. ⌜ Tried (Form.child (Form.identification (now (name .entry)))) (Not isBlank) (now (s .entry)) st r ⌝ }
 {
@@ -299,7 +299,7 @@ pub fn identification_maybe(s: &[u8], st: Step, name: &[u8], t: &[u8; 256]) -> S
 }
 
 // "either ApplicantFileReference, or ApplicationIdentification then ApplicantFileReference?"
-pub fn heading(s: &[u8], st: Step, t: &[u8; 256]) -> Step
+fn heading(s: &[u8], st: Step, t: &[u8; 256]) -> Step
     requires { ⌜ ClassTable (now t) ⌝ }
     ensures { λ r. ⌜ Reads Form.heading (Starts earlier) (now (s .entry)) st r ⌝ }
 {
@@ -317,7 +317,7 @@ pub fn heading(s: &[u8], st: Step, t: &[u8; 256]) -> Step
 }
 
 // A name and its form in Latin letters, or nothing.
-pub fn party_maybe(s: &[u8], st: Step, name: &[u8], latin: &[u8], t: &[u8; 256]) -> Step
+fn party_maybe(s: &[u8], st: Step, name: &[u8], latin: &[u8], t: &[u8; 256]) -> Step
     requires { ⌜ ClassTable (now t) ⌝ }
     ensures { λ r. ⌜ MaybeParty (now (name .entry)) (now (latin .entry)) (now (s .entry)) st r ⌝ }
 {
@@ -331,7 +331,7 @@ pub fn party_maybe(s: &[u8], st: Step, name: &[u8], latin: &[u8], t: &[u8; 256])
 }
 
 // What stands before the titles.
-pub fn introduction(s: &[u8], st: Step, t: &[u8; 256]) -> Step
+fn introduction(s: &[u8], st: Step, t: &[u8; 256]) -> Step
     requires { ⌜ ClassTable (now t) ⌝ }
     ensures { λ r. ⌜ Reads introduced (Starts titled) (now (s .entry)) st r ⌝ }
 {
@@ -341,7 +341,7 @@ pub fn introduction(s: &[u8], st: Step, t: &[u8; 256]) -> Step
     party_maybe(s, c, b"InventorName", b"InventorNameLatin", t)
 }
 
-pub fn title_on(s: &[u8], st: Step, t: &[u8; 256]) -> Step
+fn title_on(s: &[u8], st: Step, t: &[u8; 256]) -> Step
     requires { ⌜ ClassTable (now t) ⌝ }
     ensures { λ r. ⌜ Reads (Form.child (Form.spoken (bytes "InventionTitle"))) (Not isBlank) (now (s .entry)) st r ⌝ }
 {
@@ -351,7 +351,7 @@ pub fn title_on(s: &[u8], st: Step, t: &[u8; 256]) -> Step
     }
 }
 
-pub fn titles(s: &[u8], st: Step, t: &[u8; 256]) -> Step
+fn titles(s: &[u8], st: Step, t: &[u8; 256]) -> Step
     requires { ⌜ ClassTable (now t) ⌝ }
     ensures { λ r. ⌜ Reads (each (Form.child (Form.spoken (bytes "InventionTitle")))) (Starts totalled) (now (s .entry)) st r ⌝ }
 {
@@ -377,7 +377,7 @@ pub fn titles(s: &[u8], st: Step, t: &[u8; 256]) -> Step
     }
 }
 
-pub fn attributes(s: &[u8], st: Step, t: &[u8; 256]) -> Step
+fn attributes(s: &[u8], st: Step, t: &[u8; 256]) -> Step
     requires { ⌜ ClassTable (now t) ⌝ }
     ensures { λ r. ⌜ Reads attributed (StartsPast close-tag) (now (s .entry)) st r ⌝ }
 {
@@ -388,7 +388,7 @@ pub fn attributes(s: &[u8], st: Step, t: &[u8; 256]) -> Step
     scan::attribute_maybe(s, d, b"productionDate", t)
 }
 
-pub fn root(s: &[u8], st: Step, t: &[u8; 256]) -> Step
+fn root(s: &[u8], st: Step, t: &[u8; 256]) -> Step
     requires { ⌜ ClassTable (now t) ⌝ }
     ensures { λ r. ⌜ Reads Form.root anything (now (s .entry)) st r ⌝ }
 {
@@ -402,7 +402,7 @@ pub fn root(s: &[u8], st: Step, t: &[u8; 256]) -> Step
 }
 
 // The document type line.
-pub fn doctype(s: &[u8], st: Step) -> Step
+fn doctype(s: &[u8], st: Step) -> Step
     ensures { λ r. ⌜ Passes Form.doctype anything (now (s .entry)) st r ⌝ }
 {
     let a = scan::gap(s, scan::lit(s, st, b"<!DOCTYPE"));
@@ -413,7 +413,7 @@ pub fn doctype(s: &[u8], st: Step) -> Step
 }
 
 // The whole text.
-pub fn document(s: &[u8], c: Cursor, t: &[u8; 256]) -> Step
+fn document(s: &[u8], c: Cursor, t: &[u8; 256]) -> Step
     requires { ⌜ ClassTable (now t) ⌝ }
     requires { ⌜ c .at ≡ 0 ⌝ }
     ensures { λ r. ⌜ Reads Form.document nothing (now (s .entry)) (Ok 0 0) r × AtEnd (now (s .entry)) r ⌝ }
