@@ -6,6 +6,7 @@ use judging::earlier;
 use location::judging::Verdict;
 use paper::Fault;
 use translation::comparing::is_right;
+use value::Kind;
 use value::same;
 use walk::FoundQualifier;
 use walk::Maybe;
@@ -14,13 +15,25 @@ ghost use Rattle.codon.specs.Tables.{SetTable, TurnTable, LetterTable};
 ghost use Rattle.value.specs.Reading.{Tells, OfRead};
 ghost use Rattle.coding.specs.Qualifiers.{ValueIs, States, Frames, Excepted, Excepts, Notes, LeavesOut};
 ghost use Rattle.coding.specs.Translations.{Settled, SaysRight, Checks, Rights};
-ghost use Rattle.coding.specs.Coding.{JudgesCoding, JudgesRegion};
+ghost use Rattle.coding.specs.Coding.{NamesCoding, JudgesCoding, JudgesRegion, StartsAt};
 
 // The first fault of the region, whether it is unjudged, and where its qualifiers end.
 pub struct Region {
     pub fault: Fault,
     pub unjudged: bool,
     pub next: usize,
+}
+
+// Whether a key is that of a coding region, for a kind.
+pub fn is_coding(key: &[u8], kind: Kind) -> bool
+    ensures { λ r. ⌜ NamesCoding (now (key .entry)) kind r ⌝ }
+{
+    match kind {
+        Kind::Dna => same(key, b"CDS"),
+        Kind::Rna => same(key, b"CDS"),
+        Kind::Aa => false,
+        Kind::Other => false,
+    }
 }
 
 // ---- what the qualifiers say
@@ -166,6 +179,31 @@ fn is_unjudged(excepted: bool, verdict: Verdict) -> bool
         Verdict::Is(f) => {
             return f.unjudged;
         }
+    }
+}
+
+// Where the codons of a region start, if it is judged.
+pub enum Start {
+    Unjudged,
+    At(usize),
+}
+
+// Of a region that keeps rule 27.
+pub fn start_of(s: &[u8], first: usize, verdict: Verdict) -> Start
+    ensures { λ r. ⌜ StartsAt (now (s .entry)) first verdict r ⌝ }
+{
+    let Noted {
+        frame,
+        excepted,
+        next: _,
+    } = gather(s, first);
+    if is_unjudged(excepted, verdict) {
+        return Start::Unjudged;
+    }
+    match frame {
+        Frame::Unstated => Start::At(1),
+        Frame::Stated(n) => Start::At(n),
+        Frame::Wrong => Start::Unjudged,
     }
 }
 

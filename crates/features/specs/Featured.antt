@@ -51,9 +51,6 @@ IsSource q f = (k : Kind) × IsKind k q × Keyed (sourceName k) f
 pub record NamesSource (key : List ℕ) (kind : code.Kind) (r : Bool) : Type 0 where
   pub says : (q : Sequence ℕ) (f : Feature ℕ) → KindIs (q .moltype .read) kind → key ≡ raw (f .key .read) → Tells r (IsSource q f)
 
-pub record NamesCoding (key : List ℕ) (kind : code.Kind) (r : Bool) : Type 0 where
-  pub says : (q : Sequence ℕ) (f : Feature ℕ) → KindIs (q .moltype .read) kind → key ≡ raw (f .key .read) → Tells r (Coding q f)
-
 abbrev pub RoleIs : Sequence ℕ → Feature ℕ → Role → Type 0
 RoleIs q f role.Source = IsSource q f × (¬ Coding q f)
 RoleIs q f role.Judged = (¬ IsSource q f) × Coding q f × (¬ Unjudged f)

@@ -10,7 +10,7 @@ use walk::FoundFeature;
 use walk::FoundTable;
 ghost use mathlib.Core.Path.{_≡_};
 ghost use Rattle.codon.specs.Tables.{SetTable, TurnTable, LetterTable};
-ghost use Rattle.features.specs.Featured.{placeFault, NamesSource, NamesCoding, roleOf, nothingYet, upTo, Adds, Finishes, WithSource, Tables, JudgesFeature, JudgesFeatures, JudgesTable};
+ghost use Rattle.features.specs.Featured.{placeFault, NamesSource, roleOf, nothingYet, upTo, Adds, Finishes, WithSource, Tables, JudgesFeature, JudgesFeatures, JudgesTable};
 
 // What a feature is, for a count.
 pub enum Role {
@@ -67,18 +67,6 @@ fn is_source(key: &[u8], kind: Kind) -> bool
         Kind::Dna => value::same(key, b"source"),
         Kind::Rna => value::same(key, b"source"),
         Kind::Aa => value::same(key, b"SOURCE"),
-        Kind::Other => false,
-    }
-}
-
-// Whether a key is that of a coding region, for a kind.
-fn is_coding(key: &[u8], kind: Kind) -> bool
-    ensures { λ r. ⌜ NamesCoding (now (key .entry)) kind r ⌝ }
-{
-    match kind {
-        Kind::Dna => value::same(key, b"CDS"),
-        Kind::Rna => value::same(key, b"CDS"),
-        Kind::Aa => false,
         Kind::Other => false,
     }
 }
@@ -258,7 +246,7 @@ fn judge_feature(
             next: walk::feature_end(s, next, long),
         };
     }
-    if is_coding(name, kind) {
+    if coding::is_coding(name, kind) {
         let Region {
             fault,
             unjudged,

@@ -1,0 +1,37 @@
+-- How a feature of an accepted listing is translated.
+use Prim.Native.Nat.{ℕ}
+use mathlib.Core.List.{List}
+use Rattle.paper.specs.Bytes.{raw}
+use Rattle.paper.specs.Tree.{Sequence, Feature}
+use Rattle.paper.specs.Locations.{Location}
+use Rattle.paper.specs.Rules.{L, Coding, Unjudged, Judged}
+use Rattle.walk.specs.Stands.{IsFeature}
+use Rattle.walk.specs.declared.FoundFeature.{FoundFeature}
+use Rattle.translation.specs.Reading.{Codes}
+use Rattle.translation.specs.Translating.{lettersOf}
+use Rattle.judging.specs.Sets.{InTexts, InFeature}
+use Rattle.judging.specs.Known.{Knows}
+use Rattle.judging.specs.declared.Known.{Known}
+use Rattle.translating.specs.declared.Plan.{Plan}
+use Rattle.translating.specs.declared.Plan.the-variants.{NoCds, From}
+use Rattle.translating.specs.declared.Plan.the-variants as plan
+
+-- no rule on the texts of the sequence q, and none on its feature f, is broken
+pub record Keeps (q : Sequence ℕ) (f : Feature ℕ) : Type 0 where
+  pub texts : (n p : ℕ) → ¬ InTexts q n p
+  pub feature : (n p : ℕ) → ¬ InFeature q f n p
+
+-- f is a judged CDS of q, and its codons start with residue `start` of its spans
+pub record PlannedFrom (q : Sequence ℕ) (f : Feature ℕ) (start : ℕ) : Type 0 where
+  pub location : Location
+  pub codes : Codes (q .residues .read) (raw (f .location .read)) (L q) location
+  pub judged : Judged q f (lettersOf (q .residues .read) start location)
+
+abbrev pub PlanIs : Sequence ℕ → Feature ℕ → Plan → Type 0
+PlanIs q f NoCds = ¬ Coding q f
+PlanIs q f plan.Unjudged = Coding q f × Unjudged f
+PlanIs q f (From n) = PlannedFrom q f n
+
+-- of whichever sequence is known so, and feature of it that was found so
+pub record Plans (s : List ℕ) (known : Known) (g : FoundFeature) (r : Plan) : Type 0 where
+  pub says : (q : Sequence ℕ) (f : Feature ℕ) (e : ℕ) → Knows s q known → IsFeature s f e g → Keeps q f → PlanIs q f r

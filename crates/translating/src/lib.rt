@@ -1,0 +1,304 @@
+// The translations of an accepted listing: of one feature, and all of a sequence, into lent bytes.
+// Relies on the walk along the features, the coding regions, the judged location and the translation.
+use coding::Start;
+use coding::is_coding;
+use coding::start_of;
+use judging::Known;
+use judging::bytes_of;
+use location::judging::judge_location;
+use translation::writing::Size;
+use translation::writing::measure;
+use translation::writing::pour;
+use translation::writing::write;
+use walk::FoundFeature;
+use walk::FoundTable;
+ghost use Rattle.codon.specs.Tables.{SetTable, TurnTable, LetterTable};
+ghost use Rattle.translating.specs.Plans.{Plans};
+ghost use Rattle.translating.specs.Lines.{TranslatesOne, Dashes, MeasuresLine, MeasuresLines, PutsDash, PutsLine, PassesFeature, PutsLines, TranslatesAll};
+
+// How a feature is translated.
+pub enum Plan {
+    // It is no CDS of DNA or RNA.
+    NoCds,
+    // It is a CDS that isn't judged.
+    Unjudged,
+    // It is a judged CDS, and its codons start with this residue of its spans.
+    From(usize),
+}
+
+fn plan(s: &[u8], known: Known, feature: FoundFeature) -> Plan
+    ensures { λ r. ⌜ Plans (now (s .entry)) known feature r ⌝ }
+{
+    let key = feature.key;
+    let location = feature.location;
+    let quals = feature.quals;
+    let name = bytes_of(s, key.from, key.to);
+    if !is_coding(name, known.kind) {
+        return Plan::NoCds;
+    }
+    let loc = bytes_of(s, location.from, location.to);
+    let verdict = judge_location(loc, known.top);
+    match start_of(s, quals, verdict) {
+        Start::Unjudged => Plan::Unjudged,
+        Start::At(n) => Plan::From(n),
+    }
+}
+
+// The number of a refusal, or 0, and the length of what was written.
+pub struct Written {
+    pub number: usize,
+    pub size: usize,
+}
+
+// One translation at the front of out; or nothing is written.
+pub fn translate(
+    s: &[u8],
+    known: Known,
+    feature: FoundFeature,
+    sets: &[u8; 256],
+    turns: &[u8; 256],
+    table: &[u8; 4096],
+    out: &mut [u8],
+) -> Written
+    requires { ⌜ SetTable (now sets) ⌝ }
+    requires { ⌜ TurnTable (now turns) ⌝ }
+    requires { ⌜ LetterTable (now table) ⌝ }
+    ensures { λ r. ⌜ TranslatesOne (now (s .entry)) known feature (now (out .entry)) r (now (out .exit)) ⌝ }
+{
+    match plan(s, known, feature) {
+        Plan::NoCds => Written { number: 35, size: 0 },
+        Plan::Unjudged => Written { number: 36, size: 0 },
+        Plan::From(start) => {
+            let residues = known.residues;
+            let location = feature.location;
+            let r = bytes_of(s, residues.from, residues.to);
+            let loc = bytes_of(s, location.from, location.to);
+            match write(r, loc, known.top, start, sets, turns, table, out) {
+                Size::Is(n) => Written { number: 0, size: n },
+                Size::Short => Written {
+                    number: 34,
+                    size: 0,
+                },
+                Size::Stop => Written {
+                    number: 37,
+                    size: 0,
+                },
+            }
+        }
+    }
+}
+
+// ---- all translations of a sequence, a line for each
+
+// The length of some lines, or that they are longer than the room.
+pub enum Lined {
+    Is(usize),
+    Short,
+}
+
+// The length of the line `-`.
+fn dash_size(room: usize) -> Lined
+    ensures { λ r. ⌜ Dashes room r ⌝ }
+{
+    if room < 2 {
+        return Lined::Short;
+    }
+    Lined::Is(2)
+}
+
+// The length of a feature's line.
+fn line_size(
+    s: &[u8],
+    known: Known,
+    feature: FoundFeature,
+    room: usize,
+    sets: &[u8; 256],
+    turns: &[u8; 256],
+    table: &[u8; 4096],
+) -> Lined
+    requires { ⌜ SetTable (now sets) ⌝ }
+    requires { ⌜ TurnTable (now turns) ⌝ }
+    requires { ⌜ LetterTable (now table) ⌝ }
+    ensures { λ r. ⌜ MeasuresLine (now (s .entry)) known feature room r ⌝ }
+{
+    match plan(s, known, feature) {
+        Plan::NoCds => Lined::Is(0),
+        Plan::Unjudged => dash_size(room),
+        Plan::From(start) => {
+            let residues = known.residues;
+            let location = feature.location;
+            let r = bytes_of(s, residues.from, residues.to);
+            let loc = bytes_of(s, location.from, location.to);
+            match measure(r, loc, known.top, start, room, sets, turns, table) {
+                Size::Is(n) => {
+                    if n < room {
+                        return Lined::Is(n + 1);
+                    }
+                    Lined::Short
+                }
+                Size::Short => Lined::Short,
+                Size::Stop => dash_size(room),
+            }
+        }
+    }
+}
+
+// From behind its last qualifier past the end of a feature.
+fn past(s: &[u8], feature: FoundFeature) -> usize
+    ensures { λ r. ⌜ PassesFeature (now (s .entry)) feature r ⌝ }
+{
+    let a = walk::qualifiers_over(s, feature.quals);
+    walk::feature_end(s, a, feature.long)
+}
+
+// The length of the lines of all features that stand from here on.
+fn lines_size(
+    s: &[u8],
+    first: usize,
+    known: Known,
+    room: usize,
+    sets: &[u8; 256],
+    turns: &[u8; 256],
+    table: &[u8; 4096],
+) -> Lined
+    requires { ⌜ SetTable (now sets) ⌝ }
+    requires { ⌜ TurnTable (now turns) ⌝ }
+    requires { ⌜ LetterTable (now table) ⌝ }
+    ensures { λ r. ⌜ MeasuresLines (now (s .entry)) first known room r ⌝ }
+{
+    let mut at = first;
+    let mut left = room;
+    loop {
+        if walk::feature_here(s, at) {
+            let feature = walk::feature(s, at);
+            let next = past(s, feature);
+            if next <= at {
+                return Lined::Short;
+            }
+            match line_size(s, known, feature, left, sets, turns, table) {
+                Lined::Short => {
+                    return Lined::Short;
+                }
+                Lined::Is(n) => {
+                    left -= n;
+                    at = next;
+                }
+            }
+        } else {
+            return Lined::Is(room - left);
+        }
+    }
+}
+
+// The line `-` at the front of out: how many bytes.
+fn put_dash(out: &mut [u8]) -> usize
+    ensures { λ r. ⌜ PutsDash (now (out .entry)) r (now (out .exit)) ⌝ }
+{
+    if out.len() < 2 {
+        return 0;
+    }
+    out[0] = b'-';
+    out[1] = b'\n';
+    2
+}
+
+// A feature's line at the front of out, where it fits: how many bytes. Behind it out may hold letters before a stop.
+fn put_line(
+    s: &[u8],
+    known: Known,
+    feature: FoundFeature,
+    sets: &[u8; 256],
+    turns: &[u8; 256],
+    table: &[u8; 4096],
+    out: &mut [u8],
+) -> usize
+    requires { ⌜ SetTable (now sets) ⌝ }
+    requires { ⌜ TurnTable (now turns) ⌝ }
+    requires { ⌜ LetterTable (now table) ⌝ }
+    ensures { λ r. ⌜ PutsLine (now (s .entry)) known feature (now (out .entry)) r (now (out .exit)) ⌝ }
+{
+    match plan(s, known, feature) {
+        Plan::NoCds => 0,
+        Plan::Unjudged => put_dash(out),
+        Plan::From(start) => {
+            let residues = known.residues;
+            let location = feature.location;
+            let r = bytes_of(s, residues.from, residues.to);
+            let loc = bytes_of(s, location.from, location.to);
+            match pour(r, loc, known.top, start, sets, turns, table, out) {
+                Size::Is(n) => {
+                    if n < out.len() {
+                        out[n] = b'\n';
+                        return n + 1;
+                    }
+                    n
+                }
+                Size::Short => put_dash(out),
+                Size::Stop => put_dash(out),
+            }
+        }
+    }
+}
+
+// The lines of all features that stand from here on. They fill out: what stands behind a line for a moment is written over by the next.
+fn put_lines(
+    s: &[u8],
+    first: usize,
+    known: Known,
+    sets: &[u8; 256],
+    turns: &[u8; 256],
+    table: &[u8; 4096],
+    out: &mut [u8],
+)
+    requires { ⌜ SetTable (now sets) ⌝ }
+    requires { ⌜ TurnTable (now turns) ⌝ }
+    requires { ⌜ LetterTable (now table) ⌝ }
+    ensures { λ _. ⌜ PutsLines (now (s .entry)) first known (now (out .entry)) (now (out .exit)) ⌝ }
+{
+    let mut at = first;
+    let mut end: usize = 0;
+    loop {
+        if walk::feature_here(s, at) {
+            let feature = walk::feature(s, at);
+            let next = past(s, feature);
+            if next <= at {
+                return;
+            }
+            let n = put_line(s, known, feature, sets, turns, table, &mut out[end..]);
+            end += n;
+            at = next;
+        } else {
+            return;
+        }
+    }
+}
+
+// All translations of a sequence at the front of out; or nothing is written.
+pub fn translate_all(
+    s: &[u8],
+    known: Known,
+    found: FoundTable,
+    sets: &[u8; 256],
+    turns: &[u8; 256],
+    table: &[u8; 4096],
+    out: &mut [u8],
+) -> Written
+    requires { ⌜ SetTable (now sets) ⌝ }
+    requires { ⌜ TurnTable (now turns) ⌝ }
+    requires { ⌜ LetterTable (now table) ⌝ }
+    ensures { λ r. ⌜ TranslatesAll (now (s .entry)) known found (now (out .entry)) r (now (out .exit)) ⌝ }
+{
+    if !found.present {
+        return Written { number: 0, size: 0 };
+    }
+    match lines_size(s, found.first, known, out.len(), sets, turns, table) {
+        Lined::Short => Written {
+            number: 34,
+            size: 0,
+        },
+        Lined::Is(n) => {
+            put_lines(s, found.first, known, sets, turns, table, &mut out[..n]);
+            Written { number: 0, size: n }
+        }
+    }
+}
