@@ -14,14 +14,14 @@ use Rattle.scan.specs.Follow.{Not, Starts, anything, closing, sharp, skip}
 use Rattle.scan.specs.Texts.{allowedIn, Scanned}
 use Rattle.scan.proofs.Fronts.{Leads, leads-seq, leads-less, leads-sharp, starts-sharp, named-sharp}
 use Rattle.scan.proofs.Tags.{attribute-leads, spoken-element}
-use Rattle.walk.specs.Stands.{Stands, There, tagOf, Ends, Finds, FindsMaybe, IsMaybe, FindsAttribute, entering, leaving}
+use Rattle.walk.specs.Stands.{Stands, There, tagOf, Ends, Finds, FindsContent, FindsMaybe, IsMaybe, FindsAttribute, entering, leaving}
 use Rattle.walk.specs.Header.{FindsAttributeMaybe, tagEnd, FindsAttributes, FindsSpoken, FindsParty, FindsIdentification, FindsIdentificationMaybe}
 use Rattle.walk.specs.declared.Found.{Found}
 use Rattle.walk.specs.declared.FoundMaybe.{FoundMaybe}
 use Rattle.walk.specs.declared.Maybe.the-variants.{Absent, Present}
 use Rattle.walk.specs.declared.FoundIdentification.{FoundIdentification}
 use Rattle.walk.proofs.Places.{part, from, scan-end, run-ends}
-use Rattle.walk.proofs.Leaves.{starts-at}
+use Rattle.walk.proofs.Leaves.{starts-at, tag-inside}
 use Rattle.walk.proofs.Items.{Sharp, held, absent-by, present-by, starts-by, missing-none, there-some, tag-starts, tag-leads, leaf-leads}
 
 -- ---- an attribute that may be missing
@@ -101,7 +101,7 @@ pub spoken-leads : (name : List ℕ) (x : Spoken ℕ) → Leads (tagOf name) (ch
 spoken-leads name x = leads-seq (tagOf name) (spoken name x) blanks (spoken-element name .leads x)
 
 pub spoken-found : {name s : List ℕ} {at a n : ℕ} {x w : Found} → Ends (tag name) anything s at a → FindsAttribute (bytes "languageCode") s a x
-    → Finds (content name (allowedIn true) at) anything s (x .next) w → Scanned isBlank s (w .next) (length s) n
+    → FindsContent name (allowedIn true) at s (x .next) w → Scanned isBlank s (w .next) (length s) n
     → FindsSpoken name s at (record { part = x .part; next = n })
 spoken-found {name} {at = at} p fa fw c x e d fol =
     let A = attribute (bytes "languageCode") (x .languageCode) in
@@ -110,7 +110,7 @@ spoken-found {name} {at = at} p fa fw c x e d fol =
     let v = part (tag name · A) (content name (allowedIn true) at (x .words)) (record { word = q .word; laid = q .laid; size = q .size; here = q .here }) in
     let k = part (tag name) A (v .1) in
     let ra = fa refl (x .languageCode) (v .0) (from (p .is (k .0) (k .1) tt) (k .2)) tt in
-    let rc = fw (x .words) (u .0) (from (ra .next) (v .2)) tt in
+    let rc = fw .says (tag-inside (k .1)) (x .words) (u .0) (from (ra .next) (v .2)) tt in
     record { part = ra .part; next = run-ends isBlank c .is e (from (rc .next) (u .2)) fol }
 
 -- ---- a name and its Latin form

@@ -1,5 +1,5 @@
 -- A tag, a text and a leaf found again, each from what is promised of its parts.
-use Prim.Native.Nat.{ℕ, suc, _+_}
+use Prim.Native.Nat.{ℕ, suc, _+_, _≤_}
 use native.Mathlib.Omega.{arith}
 use mathlib.Core.Path.{_≡_, refl, sym, ap, _∙_}
 use mathlib.Core.Bool.{Bool, true, false, not}
@@ -18,9 +18,9 @@ use Rattle.scan.specs.Texts.{allowedIn, Scanned}
 use Rattle.scan.specs.declared.Step.the-variants.{Ok, Fail}
 use Rattle.scan.proofs.Fronts.{Leads, leads-all, leads-starts, leads-sharp}
 use Rattle.scan.proofs.Tags.{Body, Long, body-sharp, close-leads, long-leads}
-use Rattle.walk.specs.Stands.{Stands, Past, There, others, Ends, Finds, IsPart, IsFound}
+use Rattle.walk.specs.Stands.{Stands, Past, There, others, Ends, Finds, FindsContent, IsPart, IsFound}
 use Rattle.walk.specs.declared.Found.{Found}
-use Rattle.walk.proofs.Places.{part, before, from, past-these, pasts, scan-end, run-ends}
+use Rattle.walk.proofs.Places.{part, these-inside, before, from, past-these, pasts, scan-end, run-ends}
 
 -- ---- what a text starts with
 
@@ -79,8 +79,8 @@ free-quote =
 
 -- so the first one behind a text's start is where it ends
 pub text-found : (stop : ℕ) → ((b : ℕ) → all (others stop) (spell b)) → (allowed : ℕ → Bool) {s : List ℕ} {b c e : ℕ} (t : Text ℕ)
-    → Scanned (others stop) s b (length s) c → Stands (text allowed t) s b e → Not (others stop) (drop e s) → (c ≡ e) × IsPart s t (record { from = b; to = c })
-text-found stop free allowed {s} {b} {c} {e} t sc d n =
+    → b ≤ length s → Scanned (others stop) s b (length s) c → Stands (text allowed t) s b e → Not (others stop) (drop e s) → (c ≡ e) × IsPart s t (record { from = b; to = c })
+text-found stop free allowed {s} {b} {c} {e} t i sc d n =
     let r = raw (t .read) in
     let here : drop b s ≡ r ++ drop e s = d .here ∙ ap (λ (u : List ℕ). u ++ drop e s) (d .laid .2) in
     let size : c ≡ b + length r = scan-end (others stop) sc r (drop e s) here (raw-all (others stop) free (t .read)) n in
@@ -89,6 +89,7 @@ text-found stop free allowed {s} {b} {c} {e} t sc d n =
       record {
         first = sym (d .laid .0);
         behind = omega (arith, size, d .laid .0);
+        inside = i;
         here = here ∙ ap (λ (k : ℕ). r ++ drop k s) (sym end);
       },
     )
@@ -100,9 +101,9 @@ module _ (name : List ℕ) (high : Bool) {s : List ℕ} {start at h : ℕ} (sc :
       let u = part blanks (Body name high start t) d in
       from (run-ends isBlank sc .is (u .0) (u .1) (before (Not isBlank) (u .2) (body-sharp name high start t _ _ _ (u .2 .laid)))) (u .2)
 
-  pub short-found : {p n : ℕ} → p ≡ getD s h 0 → p ≡ 47 → Past s h 2 n
+  pub short-found : {p n : ℕ} → p ≡ getD s h 0 → p ≡ 47 → Past s h 2 n → start ≤ length s
       → Finds (content name (allowedIn high) start) anything s at (record { part = record { from = start; to = start }; next = n })
-  short-found {p} {n} hp is q t e d fol = let y = body-at t e d in by-kind (y .word) (y .laid) (y .size) (y .here)
+  short-found {p} {n} hp is q i t e d fol = let y = body-at t e d in by-kind (y .word) (y .laid) (y .size) (y .here)
     where
       by-kind : (w : List ℕ) → Body name high start t h w → e ≡ h + length w → drop h s ≡ w ++ drop e s
           → IsFound s t e (record { part = record { from = start; to = start }; next = n })
@@ -112,6 +113,7 @@ module _ (name : List ℕ) (high : Bool) {s : List ℕ} {start at h : ℕ} (sc :
                 record {
                   first = sym (l .0 .0);
                   behind = omega (arith, l .0 .0, ap (λ (c : List ℕ). length (raw c)) (l .0 .1));
+                  inside = i;
                   here = ap (λ (c : List ℕ). raw c ++ drop start s) (sym (l .0 .1));
                 };
             next = past-these (bytes "/>") refl q (record { word = w; laid = l .1; size = z; here = k });
@@ -133,17 +135,21 @@ module _ (name : List ℕ) (high : Bool) {s : List ℕ} {start at h : ℕ} (sc :
       by-kind w (inr l) z k =
           let u = part (lit ">" · text (allowedIn high) t) (close name) (record { word = w; laid = l; size = z; here = k }) in
           let v = part (lit ">") (text (allowedIn high) t) (u .1) in
-          let st = from (past-these (bytes ">") refl q (v .1)) (v .2) in
-          let x = text-found 60 free-lt (allowedIn high) t sc st
+          let eb = past-these (bytes ">") refl q (v .1) in
+          let x = text-found 60 free-lt (allowedIn high) t (omega (arith, eb, these-inside (bytes ">") (v .1) (omega arith))) sc (from eb (v .2))
           (before (Not (others 60)) (u .2) (leads-sharp (others 60) (bytes "</") (close name) refl (close-leads name) (u .0) (u .2 .word) (drop e s) (u .2 .laid))) in
           record { part = x .1; next = o .is e (from (x .0) (u .2)) tt }
 
+-- where a tag stands is within s
+pub tag-inside : {name s : List ℕ} {at e : ℕ} → Stands (tag name) s at e → at ≤ length s
+tag-inside {name} d = omega (arith, d .size, these-inside (bytes "<" ++ name) d (omega arith))
+
 -- a leaf and the blanks after it
-pub leaf-found : {name s : List ℕ} {at a n : ℕ} {r : Found} → Ends (tag name) anything s at a → Finds (content name (allowedIn false) at) anything s a r
+pub leaf-found : {name s : List ℕ} {at a n : ℕ} {r : Found} → Ends (tag name) anything s at a → FindsContent name (allowedIn false) at s a r
     → Scanned isBlank s (r .next) (length s) n → Finds (child (leaf name)) (Not isBlank) s at (record { part = r .part; next = n })
 leaf-found {name} {at = at} p finds q t e d fol =
     let u = part (leaf name t) blanks d in
     let w = u .1 in
     let v = part (tag name) (content name (allowedIn false) at t) (record { word = w .word; laid = w .laid; size = w .size; here = w .here }) in
-    let r = finds t (u .0) (from (p .is (v .0) (v .1) tt) (v .2)) tt in
+    let r = finds .says (tag-inside (v .1)) t (u .0) (from (p .is (v .0) (v .1) tt) (v .2)) tt in
     record { part = r .part; next = run-ends isBlank q .is e (from (r .next) (u .2)) fol }

@@ -1,5 +1,5 @@
 -- Laws of `Stands`: a text in parts, bytes that are passed by their number, and runs of a class.
-use Prim.Native.Nat.{ℕ, zero, suc, _+_, _-_, _<_}
+use Prim.Native.Nat.{ℕ, zero, suc, _+_, _-_, _≤_, _<_}
 use native.Mathlib.Decide.{decLt}
 use native.Mathlib.Omega.{arith}
 use mathlib.Core.Path.{_≡_, refl, sym, ap, _∙_, subst}
@@ -27,6 +27,10 @@ part F G {s} {at} {e} x =
       record { word = u; laid = d .3; size = refl; here = whole ∙ ap (λ (l : List ℕ). u ++ l) (sym later) },
       record { word = v; laid = d .4; size = omega (arith, x .size, ap length (d .2), length-append u v); here = later },
     )
+
+-- where bytes end, one at least, is within s
+pub these-inside : (k : List ℕ) {s : List ℕ} {at e : ℕ} → Stands (these k) s at e → 0 < length k → e ≤ length s
+these-inside k {s} {at} {e} x h = omega (arith, h, x .size, ap length (x .laid), ap length (x .here), length-append (x .word) (drop e s), length-drop at s)
 
 pub join : {F G : Form} {s : List ℕ} {at b e : ℕ} → Stands F s at b → Stands G s b e → Stands (F · G) s at e
 join {F} {G} {s} {at} {b} {e} x y =

@@ -1,5 +1,6 @@
 -- Features passed over, feature tables and sequences, found by their parts.
 use Prim.Native.Nat.{ℕ}
+use native.Mathlib.Omega.{arith}
 use mathlib.Core.Path.{_≡_, refl, sym, _∙_, subst}
 use mathlib.Core.Bool.{Bool, true, false}
 use mathlib.Core.List.{List, [], _∷_, _++_}
@@ -20,7 +21,7 @@ use Rattle.walk.specs.declared.FoundFeature.{FoundFeature}
 use Rattle.walk.specs.declared.FoundIds.{FoundIds}
 use Rattle.walk.specs.declared.FoundTable.{FoundTable}
 use Rattle.walk.specs.declared.Opened.{Opened}
-use Rattle.walk.proofs.Places.{part, join, wider, before, from, past-these, split, scan-end}
+use Rattle.walk.proofs.Places.{part, these-inside, join, wider, before, from, past-these, split, scan-end}
 use Rattle.walk.proofs.Leaves.{starts-at, no-blank, text-found, free-quote}
 use Rattle.walk.proofs.Items.{Sharp, inside, held, within, missing-none, there-some, tag-starts, tag-leads, leaf-leads}
 
@@ -38,7 +39,7 @@ attribute-found name {s} {at} sc p q sc2 o named t e d fol =
     (name-sharp name named (w .1)) ∙ sym (z .1 .size) in
     let ea = past-these name refl p (from eh (w .1)) in
     let eb = past-these (bytes "=\"") refl q (from ea (w .2)) in
-    let f = text-found 34 free-quote isPrinted t sc2 (from eb (y .2)) (before (Not (others 34)) (x .2) (leads-sharp (others 34) (bytes "\"") (lit "\"") refl (leads-all (bytes "\"")) (x .0) (x .2 .word) (drop e s) (x .2 .laid))) in
+    let f = text-found 34 free-quote isPrinted t (omega (arith, eb, these-inside (bytes "=\"") (w .2) (omega arith))) sc2 (from eb (y .2)) (before (Not (others 34)) (x .2) (leads-sharp (others 34) (bytes "\"") (lit "\"") refl (leads-all (bytes "\"")) (x .0) (x .2 .word) (drop e s) (x .2 .laid))) in
     record { part = f .1; next = past-these (bytes "\"") refl o (from (f .0) (x .2)) }
   where
     name-sharp : (k : List ℕ) → Named k → {at e : ℕ} → Stands (these k) s at e → Not isBlank (drop at s)

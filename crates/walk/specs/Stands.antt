@@ -9,7 +9,7 @@ use lib.Dec.{eqb}
 use Rattle.paper.specs.Bytes.{bytes, raw, isBlank}
 use Rattle.paper.specs.Form.{Form, lit, _·_, maybe, each}
 use Rattle.paper.specs.Tree.{Text, Qualifier, Feature, Table, Sequence, qualifiersOf}
-use Rattle.paper.specs.Layout.{blanks, tag, close, attribute, leaf, child, child?, qualifier, feature, table, otherIds, sequence}
+use Rattle.paper.specs.Layout.{blanks, tag, close, attribute, content, leaf, child, child?, qualifier, feature, table, otherIds, sequence}
 use Rattle.scan.specs.Follow.{Not, Starts, Before, Named, anything, closing}
 use Rattle.scan.specs.Texts.{Scanned}
 use Rattle.walk.specs.declared.Part.{Part}
@@ -60,6 +60,7 @@ pub record Over {A : Type 0} (F : A → Form) (Fol : List ℕ → Type 0) (s : L
 pub record IsPart (s : List ℕ) (x : Text ℕ) (p : Part) : Type 0 where
   pub first : p .from ≡ x .place
   pub behind : p .to ≡ x .place + length (raw (x .read))
+  pub inside : p .from ≤ length s
   pub here : drop (p .from) s ≡ raw (x .read) ++ drop (p .to) s
 
 pub record IsFound (s : List ℕ) (x : Text ℕ) (e : ℕ) (r : Found) : Type 0 where
@@ -69,6 +70,10 @@ pub record IsFound (s : List ℕ) (x : Text ℕ) (e : ℕ) (r : Found) : Type 0 
 -- whichever text of the form F x stands here, before what may follow: it is found, and where it ends
 abbrev pub Finds : (Text ℕ → Form) → (List ℕ → Type 0) → List ℕ → ℕ → Found → Type 0
 Finds F Fol s at r = (x : Text ℕ) (e : ℕ) → Stands (F x) s at e → Fol (drop e s) → IsFound s x e r
+
+-- of an element that starts within s
+pub record FindsContent (name : List ℕ) (allowed : ℕ → Bool) (start : ℕ) (s : List ℕ) (at : ℕ) (r : Found) : Type 0 where
+  pub says : start ≤ length s → Finds (content name allowed start) anything s at r
 
 -- the same where it may be missing
 abbrev pub MaybeIs : List ℕ → Option (Text ℕ) → Maybe → Type 0

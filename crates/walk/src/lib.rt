@@ -9,7 +9,7 @@ ghost use Rattle.paper.specs.Layout as Form;
 ghost use Rattle.paper.specs.Form.{each};
 ghost use Rattle.scan.specs.Follow.{Not, Starts, anything, closing};
 ghost use Rattle.scan.specs.Texts.{allowedIn, Scanned};
-ghost use Rattle.walk.specs.Stands.{Past, There, others, tagOf, Ends, Finds, FindsMaybe, entering, leaving, shutting, OpensSo, Over, FindsQualifier, FindsFeature, featureTail, FindsTable, FindsAttribute, FindsIds, FindsSequence};
+ghost use Rattle.walk.specs.Stands.{Past, There, others, tagOf, Ends, Finds, FindsContent, FindsMaybe, entering, leaving, shutting, OpensSo, Over, FindsQualifier, FindsFeature, featureTail, FindsTable, FindsAttribute, FindsIds, FindsSequence};
 ghost use Rattle.walk.specs.Header.{FindsAttributeMaybe, FindsSpoken, FindsIdentification, FindsIdentificationMaybe, FindsHeading, FindsParty, FindsAttributes, FindsParties, line, FindsHeader};
 
 // A text of the listing, from its first byte to the one behind its last.
@@ -100,7 +100,7 @@ fn close(s: &[u8], at: usize, name: &[u8]) -> usize
 
 // The text between the rest of a start tag and the end tag. `start` is where the element starts.
 fn content(s: &[u8], at: usize, start: usize, name: &[u8], high: bool) -> Found
-    ensures { λ r. ⌜ Finds (Form.content (now (name .entry)) (allowedIn high) start) anything (now (s .entry)) at r ⌝ }
+    ensures { λ r. ⌜ FindsContent (now (name .entry)) (allowedIn high) start (now (s .entry)) at r ⌝ }
 {
     let h = blanks(s, at);
     if peek(s, h) == b'/' {

@@ -17,7 +17,7 @@ past-requires c κs = search needs
 returns : tie.Need-returns
 returns c =
     let a = c .before .before .before .before .before .before .args in
-    short-found (now (a .name)) (a .high) (c .before .before .before .blanks .ensures) (c .before .before .peek .ensures) (c .before .if1 .taken) (c .past .ensures)
+    record { says = short-found (now (a .name)) (a .high) (c .before .before .before .blanks .ensures) (c .before .before .peek .ensures) (c .before .if1 .taken) (c .past .ensures) }
 
 past-requires-2 : tie.Need-past-requires-2
 past-requires-2 c κs = search needs
@@ -31,7 +31,7 @@ close-requires c κs = search needs
 returns-2 : tie.Need-returns-2
 returns-2 c =
     let a = c .before .before .before .before .before .before .before .before .args in
-    long-found (now (a .name)) (a .high) (c .before .before .before .before .before .blanks .ensures) (c .before .before .before .before .peek .ensures) (c .before .before .before .if1 .left) (c .before .before .past2 .ensures) (c .before .until .ensures) (c .close .ensures)
+    record { says = λ i. long-found (now (a .name)) (a .high) (c .before .before .before .before .before .blanks .ensures) (c .before .before .before .before .peek .ensures) (c .before .before .before .if1 .left) (c .before .before .past2 .ensures) (c .before .until .ensures) (c .close .ensures) }
 
 pub content-spec : {M : Type 1} → statement M
 content-spec =
