@@ -3,16 +3,17 @@ use Prim.Native.Nat.{ℕ, zero, suc, _+_, _-_, _≤_, _<_}
 use native.Mathlib.Decide.{decLt}
 use native.Mathlib.Omega.{arith}
 use mathlib.Core.Path.{_≡_, refl, sym, ap, _∙_, subst}
-use mathlib.Core.Bool.{Bool, true, false}
+use mathlib.Core.Bool.{Bool, true, false, not}
 use mathlib.Core.List.{List, [], _∷_, _++_, append-assoc}
 use lib.ListN.{length, drop, getD, length-append, length-drop}
 use lib.Seq.{drop-drop, drop-append-seam, getD-drop, getD-append-add}
+use borrow.Author.Tests.{ne-eqb}
 use Rattle.paper.specs.Bytes.{all}
 use Rattle.paper.specs.Form.{Form, these, run, _·_}
 use Rattle.scan.specs.Follow.{Not}
-use Rattle.scan.specs.Texts.{Scanned}
+use Rattle.scan.specs.Texts.{Scanned, Upto, isPlain}
 use Rattle.scan.proofs.Fronts.{false-true}
-use Rattle.walk.specs.Stands.{Stands, Past, Ends}
+use Rattle.walk.specs.Stands.{Stands, Past, Ends, others}
 
 -- F and then G: F, and where it ends G
 pub part : (F G : Form) {s : List ℕ} {at e : ℕ} → Stands (F · G) s at e → (b : ℕ) × Stands F s at b × Stands G s b e
@@ -121,3 +122,9 @@ module _ (f : ℕ → Bool) where
 
   pub run-ends : {s : List ℕ} {at r : ℕ} → Scanned f s at (length s) r → Ends (run f) (Not f) s at r
   run-ends {s} c = record { is = λ e d n. scan-end c (d .word) (drop e s) (d .here) (d .laid) n ∙ sym (d .size) }
+
+-- what stands for itself in every text is none of the bytes that do in no text
+pub upto-others : (stop : ℕ) (s : List ℕ) (start at : ℕ) → isPlain false stop ≡ false → Upto (isPlain false) s start at → Upto (others stop) s start at
+upto-others stop s start at odd u k i j =
+    let h = u k i j in
+    (h .0, ap not (ne-eqb (getD s k 0) stop (λ e. false-true (sym odd ∙ ap (isPlain false) (sym e) ∙ h .1))))

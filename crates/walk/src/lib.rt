@@ -3,12 +3,14 @@
 // Relies on the paper, and in its proofs on the scan's laws of what may follow what.
 use scan::Step;
 ghost use mathlib.Core.Path.{_≡_};
+ghost use Prim.Native.Nat.{_≤_};
+ghost use mathlib.Core.Bool.{false};
 ghost use lib.ListN.{length, getD};
 ghost use Rattle.paper.specs.Bytes.{bytes, isBlank};
 ghost use Rattle.paper.specs.Layout as Form;
 ghost use Rattle.paper.specs.Form.{each};
 ghost use Rattle.scan.specs.Follow.{Not, Starts, anything, closing};
-ghost use Rattle.scan.specs.Texts.{allowedIn, Scanned};
+ghost use Rattle.scan.specs.Texts.{allowedIn, isPlain, Scanned};
 ghost use Rattle.walk.specs.Stands.{Past, There, others, tagOf, Ends, Finds, FindsContent, FindsMaybe, entering, leaving, shutting, OpensSo, Over, FindsQualifier, FindsFeature, featureTail, FindsTable, FindsAttribute, FindsIds, FindsSequence};
 ghost use Rattle.walk.specs.Header.{FindsAttributeMaybe, FindsSpoken, FindsIdentification, FindsIdentificationMaybe, FindsHeading, FindsParty, FindsAttributes, FindsParties, line, FindsHeader};
 
@@ -54,18 +56,38 @@ pub fn there(s: &[u8], at: usize, x: &[u8]) -> bool
     }
 }
 
-// The first place from here on where this byte stands.
-fn until(s: &[u8], at: usize, stop: u8) -> usize
-    ensures { λ r. ⌜ Scanned (others stop) (now (s .entry)) at (length (now (s .entry))) r ⌝ }
+// The first place from here on, before `end`, where this byte stands.
+fn seek(s: &[u8], at: usize, end: usize, stop: u8) -> usize
+    requires { ⌜ end ≤ length (now s) ⌝ }
+    ensures { λ r. ⌜ Scanned (others stop) (now (s .entry)) at end r ⌝ }
 {
     let mut i = at;
-    while i < s.len() {
+    while i < end {
         if s[i] == stop {
             return i;
         }
         i += 1;
     }
     i
+}
+
+// The same in all of s, for a byte that stands for itself in no text: most texts are short, and a long one is passed by blocks.
+fn until(s: &[u8], at: usize, stop: u8) -> usize
+    requires { ⌜ isPlain false stop ≡ false ⌝ }
+    ensures { λ r. ⌜ Scanned (others stop) (now (s .entry)) at (length (now (s .entry))) r ⌝ }
+{
+    let n = s.len();
+    if n <= at {
+        return at;
+    }
+    if n - at < 32 {
+        return seek(s, at, n, stop);
+    }
+    let mid = seek(s, at, at + 32, stop);
+    if mid < at + 32 {
+        return mid;
+    }
+    seek(s, scan::blocks(s, mid), n, stop)
 }
 
 // Past any blanks.

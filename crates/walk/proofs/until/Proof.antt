@@ -1,55 +1,76 @@
--- `walk::until` meets its contract. The loop's invariant: no byte so far is the one that is looked for. The measure is what is left.
-use Prim.Native.Nat.{_-_, _≤_}
+-- `walk::until` meets its contract: bytes one by one, then whole blocks in which every byte stands for itself, then the rest.
 use native.Mathlib.Omega.{arith}
-use mathlib.Core.Path.{sym, ap, _∙_}
-use mathlib.Core.Bool.{not}
-use lib.ListN.{length}
-use borrow.Author.Tests.{eq-eqb, ne-eqb}
-use Rattle.scan.specs.Texts.{Upto}
-use Rattle.scan.proofs.Scans.{upto-none, upto-more}
+use denote.Ref.{now}
+use Rattle.scan.proofs.Scans.{upto-none, upto-join}
 use Rattle.walk.specs.Stands.{others}
+use Rattle.walk.proofs.Places.{upto-others}
 use borrow.Author.Needs.{needs}
 use Rattle.walk.proofs.until.Statement.{statement}
 use Rattle.walk.proofs.until.Tie as tie
 
-abbrev Inv-loop : tie.InvT-loop
-Inv-loop s at stop i₀ i = (at ≤ i) × Upto (others stop) s at i
+returns : tie.Need-returns
+returns c =
+    let a = c .before .before .args in
+    record { onward = omega arith; each = upto-none (others (a .stop)) (now (a .s)) (a .at); ends = λ h. absurd (omega arith) }
 
-abbrev μ-loop : tie.MeasureT-loop
-μ-loop s at stop i₀ i = length s - i
+sub-if2 : tie.Need-sub-if2
+sub-if2 c = search needs
 
-loop-holds : tie.Need-loop-holds Inv-loop μ-loop
-loop-holds c = (omega arith, upto-none (others (c .args .stop)) (c .args .s .now) (c .args .at))
+seek-requires : tie.Need-seek-requires
+seek-requires c κs = search needs
 
-shared-slice-read-if1 : tie.Need-shared-slice-read-if1 Inv-loop μ-loop
-shared-slice-read-if1 c = search needs
+returns-2 : tie.Need-returns-2
+returns-2 c = search needs
 
-returns : tie.Need-returns Inv-loop μ-loop
-returns c = record { onward = c .before .before .before .loop .inv .0; each = c .before .before .before .loop .inv .1; ends = λ h. ap not (eq-eqb _ _ (c .if1 .taken)) }
+add-seek : tie.Need-add-seek
+add-seek c = search needs
 
-add-i : tie.Need-add-i Inv-loop μ-loop
-add-i c = search needs
+seek-requires-2 : tie.Need-seek-requires-2
+seek-requires-2 c κs = search needs
 
-loop-less : tie.Need-loop-less Inv-loop μ-loop
-loop-less c = search needs
+add-if3 : tie.Need-add-if3
+add-if3 c = search needs
 
-loop-again : tie.Need-loop-again Inv-loop μ-loop
-loop-again c =
-    (omega (arith, c .before .before .before .loop .inv .0), upto-more (others (c .before .before .before .before .args .stop)) (c .before .before .before .before .args .s .now) (c .before .before .before .before .args .at) (c .before .before .before .loop .i) (c .before .before .before .loop .inv .1) (omega arith) (ap not (ne-eqb _ _ (c .if1 .left))))
+returns-3 : tie.Need-returns-3
+returns-3 c =
+    let m = c .before .seek2 .ensures in
+    record { onward = m .onward; each = m .each; ends = λ h. m .ends (omega arith) }
 
-returns-2 : tie.Need-returns-2 Inv-loop μ-loop
-returns-2 c = record { onward = c .before .loop .inv .0; each = c .before .loop .inv .1; ends = λ h. absurd (omega arith) }
+blocks-requires : tie.Need-blocks-requires
+blocks-requires c κs = search needs
+
+seek-requires-3 : tie.Need-seek-requires-3
+seek-requires-3 c κs = search needs
+
+returns-4 : tie.Need-returns-4
+returns-4 c =
+    let a = c .before .before .before .before .before .before .before .args in
+    let m = c .before .before .before .seek2 in
+    let b = c .before .blocks2 in
+    let e = c .seek3 .ensures in
+    let s = now (a .s) in
+    let f = others (a .stop) in
+    record {
+      onward = omega (arith, m .ensures .onward, b .ensures .onward, e .onward);
+      each =
+          upto-join f s (a .at) (b .result) (c .seek3 .result)
+          (upto-join f s (a .at) (m .result) (b .result) (m .ensures .each) (upto-others (a .stop) s (m .result) (b .result) (c .before .before .before .before .before .before .before .pre) (b .ensures .each)))
+          (e .each);
+      ends = e .ends;
+    }
 
 pub until-spec : {M : Type 1} → statement M
 until-spec =
     tie.close
     (tie.spec
-    Inv-loop
-    μ-loop
-    loop-holds
-    shared-slice-read-if1
     returns
-    add-i
-    loop-less
-    loop-again
-    returns-2)
+    sub-if2
+    seek-requires
+    returns-2
+    add-seek
+    seek-requires-2
+    add-if3
+    returns-3
+    blocks-requires
+    seek-requires-3
+    returns-4)
