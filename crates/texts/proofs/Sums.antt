@@ -15,7 +15,7 @@ use Rattle.paper.specs.declared.Fault.{Fault}
 use Rattle.paper.specs.declared.Fault.the-variants.{Clean, At}
 use Rattle.paper.proofs.Lists.{count-once}
 use Rattle.paper.proofs.Firsts.{_or_}
-use Rattle.value.specs.Reading.{Tells, OfRead, KindIs, Names, Defined}
+use Rattle.value.specs.Reading.{Tells, OfRead, KindIs, Names, HasDefined}
 use Rattle.value.specs.declared.Kind as code
 use Rattle.value.specs.declared.Kind.the-variants as kind
 use Rattle.value.proofs.Read.{tells-word}
@@ -70,20 +70,22 @@ only-19 q k n i t c m a (own.rule-19 j g x y l) =
     (refl, refl, subst (λ (z : Kind). n < fewest z) e (subst (λ (z : ℕ). z < fewest j) (count-once y' c) l))
 
 -- where every residue is a symbol they are written as themselves, so bytes are counted
-counted : (q : Sequence ℕ) (k : Kind) {w : List ℕ} {none n : ℕ} → none ≡ undefined k → w ≡ raw (q .residues .read) → all (isSymbol k) (q .residues .read) → Defined w none n
-    → Count (λ (b : ℕ). ¬ (b ≡ undefined k)) (q .residues .read) n
+counted : (q : Sequence ℕ) (k : Kind) {w : List ℕ} {none n : ℕ} → none ≡ undefined k → w ≡ raw (q .residues .read) → all (isSymbol k) (q .residues .read)
+    → Count (λ (b : ℕ). ¬ (b ≡ none)) w n → Count (λ (b : ℕ). ¬ (b ≡ undefined k)) (q .residues .read) n
 counted q k {w} {n = n} u e t d =
     subst (λ (v : List ℕ). Count (λ (b : ℕ). ¬ (b ≡ undefined k)) v n) (e ∙ raw-symbols k (q .residues .read) t)
-    (subst (λ (x : ℕ). Count (λ (b : ℕ). ¬ (b ≡ x)) w n) u (d .says))
+    (subst (λ (x : ℕ). Count (λ (b : ℕ). ¬ (b ≡ x)) w n) u d)
 
-module _ {w : List ℕ} {none n : ℕ} {clean : Bool} (h : clean ≡ true) (d : Defined w none n) where
-  pub few-defined : {few place : ℕ} → n < few → JudgesSymbols w clean none few place (At 19 place)
-  few-defined l =
+module _ {w : List ℕ} {none few : ℕ} {clean ok : Bool} (h : clean ≡ true) (d : HasDefined w none few ok) where
+  pub few-defined : {place : ℕ} → ok ≡ false → JudgesSymbols w clean none few place (At 19 place)
+  few-defined no-more =
+      let n = d .count in
+      let l = subst (λ (c : Bool). Tells c (few ≤ n)) no-more (d .says) in
       record {
         says =
             λ q k i u f p e t.
             let a = told-true h (all (isSymbol k) (q .residues .read)) t in
-            let c = counted q k u e a d in
+            let c = counted q k u e a (d .counts) in
             record {
               is =
                   record {
@@ -93,13 +95,15 @@ module _ {w : List ℕ} {none n : ℕ} {clean : Bool} (h : clean ≡ true) (d : 
             };
       }
 
-  pub enough-defined : {few place : ℕ} → few ≤ n → JudgesSymbols w clean none few place Clean
-  enough-defined l =
+  pub enough-defined : {place : ℕ} → ok ≡ true → JudgesSymbols w clean none few place Clean
+  enough-defined so =
+      let n = d .count in
+      let l = told-true so (few ≤ n) (d .says) in
       record {
         says =
             λ q k i u f p e t.
             let a = told-true h (all (isSymbol k) (q .residues .read)) t in
-            let c = counted q k u e a d in
+            let c = counted q k u e a (d .counts) in
             record { is = λ m b x. omega (arith, l, only-19 q k n i a c m b x .2, f) };
       }
 

@@ -116,10 +116,10 @@ fn judge_symbols(w: &[u8], clean: bool, undefined: u8, fewest: usize, place: usi
     ensures { λ r. ⌜ JudgesSymbols (now (w .entry)) clean undefined fewest place r ⌝ }
 {
     if clean {
-        if value::defined(w, undefined) < fewest {
-            return Fault::At { rule: 19, place };
+        if value::has_defined(w, undefined, fewest) {
+            return Fault::Clean;
         }
-        return Fault::Clean;
+        return Fault::At { rule: 19, place };
     }
     Fault::At { rule: 18, place }
 }

@@ -60,5 +60,7 @@ pub record FirstForeign (k : Rules.Kind) (w : List ℕ) (r : ℕ) : Type 0 where
 pub record Symbols (w : List ℕ) (class r : ℕ) : Type 0 where
   pub says : (k : Rules.Kind) → class ≡ symbolClass k → FirstForeign k w r
 
-pub record Defined (w : List ℕ) (undefined r : ℕ) : Type 0 where
-  pub says : Count (λ (b : ℕ). ¬ (b ≡ undefined)) w r
+pub record HasDefined (w : List ℕ) (undefined enough : ℕ) (r : Bool) : Type 0 where
+  pub count : ℕ
+  pub counts : Count (λ (b : ℕ). ¬ (b ≡ undefined)) w count
+  pub says : Tells r (enough ≤ count)

@@ -3,7 +3,7 @@
 ghost use mathlib.Core.Path.{_≡_};
 ghost use Rattle.paper.specs.Values.{Number, Date, Two, isUpper, isLower, isLeap, daysIn};
 ghost use Rattle.paper.specs.Rules.{Whole};
-ghost use Rattle.value.specs.Reading.{Tells, OfRead, Moltypes, Characters, SymbolTable, Symbols, Defined};
+ghost use Rattle.value.specs.Reading.{Tells, OfRead, Moltypes, Characters, SymbolTable, Symbols, HasDefined};
 ghost use Rattle.value.specs.Parts.{between, twoDigits, Day};
 
 // What a moltype names.
@@ -299,17 +299,23 @@ pub fn symbols(w: &[u8], class: u8, t: &[u8; 256]) -> usize
     i
 }
 
-// How many bytes are other than this one.
-pub fn defined(w: &[u8], undefined: u8) -> usize
-    ensures { λ r. ⌜ Defined (now (w .entry)) undefined r ⌝ }
+// Whether at least so many residues aren't the undefined one. No more are read than it takes.
+pub fn has_defined(w: &[u8], undefined: u8, enough: usize) -> bool
+    ensures { λ r. ⌜ HasDefined (now (w .entry)) undefined enough r ⌝ }
 {
-    let mut n: usize = 0;
+    let mut left = enough;
     let mut i: usize = 0;
     while i < w.len() {
+        if left == 0 {
+            return true;
+        }
         if w[i] != undefined {
-            n += 1;
+            left -= 1;
         }
         i += 1;
     }
-    n
+    if left == 0 {
+        return true;
+    }
+    false
 }
