@@ -147,8 +147,14 @@ pub fn find_sequence(listing: &[u8], k: usize) -> SequenceAt
 }
 
 pub enum FeatureAt {
-    Refused { rule: usize, place: usize },
-    Found { sequence: FoundSequence, feature: FoundFeature },
+    Refused {
+        rule: usize,
+        place: usize,
+    },
+    Found {
+        sequence: FoundSequence,
+        feature: FoundFeature,
+    },
 }
 
 // The feature number j of a sequence that was found.

@@ -66,8 +66,14 @@ pub fn translate(
     ensures { λ r. ⌜ TranslatesOne (now (s .entry)) known feature (now (out .entry)) r (now (out .exit)) ⌝ }
 {
     match plan(s, known, feature) {
-        Plan::NoCds => Written { number: 35, size: 0 },
-        Plan::Unjudged => Written { number: 36, size: 0 },
+        Plan::NoCds => Written {
+            number: 35,
+            size: 0,
+        },
+        Plan::Unjudged => Written {
+            number: 36,
+            size: 0,
+        },
         Plan::From(start) => {
             let residues = known.residues;
             let location = feature.location;

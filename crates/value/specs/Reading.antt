@@ -1,5 +1,5 @@
 -- What is promised of a raw part: it holds of whichever text as read the part is written from.
-use Prim.Native.Nat.{ℕ, _≤_, _<_}
+use Prim.Native.Nat.{ℕ, _+_, _≤_, _<_}
 use mathlib.Core.Path.{_≡_}
 use mathlib.Core.Bool.{Bool, true, false}
 use mathlib.Core.List.{List}
@@ -56,6 +56,32 @@ pub record FirstForeign (k : Rules.Kind) (w : List ℕ) (r : ℕ) : Type 0 where
   pub inside : r ≤ length w
   pub before : (i : ℕ) → i < r → isSymbol k (getD w i 0) ≡ true
   pub there : r < length w → isSymbol k (getD w r 0) ≡ false
+
+-- the test of a byte, as a number
+pub record Differs (a b r : ℕ) : Type 0 where
+  pub small : r ≤ 1
+  pub one : ¬ (a ≡ b) → r ≡ 1
+
+-- b is a symbol of each kind of the class
+abbrev pub OfClass : ℕ → ℕ → Type 0
+OfClass class b = (k : Rules.Kind) → class ≡ symbolClass k → isSymbol k b ≡ true
+
+pub record Strange (b class r : ℕ) : Type 0 where
+  pub small : r ≤ 1
+  pub none : r ≡ 0 → OfClass class b
+
+-- each byte from a place to another is
+abbrev pub Between : List ℕ → ℕ → ℕ → ℕ → Type 0
+Between w class from to = (i : ℕ) → from ≤ i → i < to → OfClass class (getD w i 0)
+
+pub record Block (w : List ℕ) (class at r : ℕ) : Type 0 where
+  pub none : r ≡ 0 → Between w class at (at + 32)
+
+pub record Foreign (w : List ℕ) (class from end r : ℕ) : Type 0 where
+  pub onward : from ≤ r
+  pub inside : r ≤ end
+  pub each : Between w class from r
+  pub there : r < end → (k : Rules.Kind) → class ≡ symbolClass k → isSymbol k (getD w r 0) ≡ false
 
 pub record Symbols (w : List ℕ) (class r : ℕ) : Type 0 where
   pub says : (k : Rules.Kind) → class ≡ symbolClass k → FirstForeign k w r

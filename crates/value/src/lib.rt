@@ -1,9 +1,11 @@
 // The values of texts: numbers, dates, codes, words and residues. Each test takes the raw part of the listing, and its promise speaks of
 // whichever text as read that part is written from. It relies on the paper alone, and knows no element of the listing.
+ghost use Prim.Native.Nat.{_+_, _≤_};
 ghost use mathlib.Core.Path.{_≡_};
+ghost use lib.ListN.{length};
 ghost use Rattle.paper.specs.Values.{Number, Date, Two, isUpper, isLower, isLeap, daysIn};
 ghost use Rattle.paper.specs.Rules.{Whole};
-ghost use Rattle.value.specs.Reading.{Tells, OfRead, Moltypes, Characters, SymbolTable, Symbols, HasDefined};
+ghost use Rattle.value.specs.Reading.{Tells, OfRead, Moltypes, Characters, SymbolTable, Symbols, Differs, Strange, Block, Foreign, HasDefined};
 ghost use Rattle.value.specs.Parts.{between, twoDigits, Day};
 
 // What a moltype names.
@@ -284,19 +286,90 @@ pub fn characters(w: &[u8]) -> usize
     n
 }
 
-// Where the first byte stands that is not of the class; the length where each one is.
-pub fn symbols(w: &[u8], class: u8, t: &[u8; 256]) -> usize
-    requires { ⌜ SymbolTable (now t) ⌝ }
-    ensures { λ r. ⌜ Symbols (now (w .entry)) class r ⌝ }
+// 1 where two bytes differ. As a number, so that many tests are combined without a branch.
+fn differs(a: u8, b: u8) -> u8
+    ensures { λ r. ⌜ Differs a b r ⌝ }
 {
-    let mut i: usize = 0;
-    while i < w.len() {
+    if a != b { 1 } else { 0 }
+}
+
+// 0 only for the bases and `n`, which most residues are.
+fn no_base(b: u8) -> u8
+    ensures { λ r. ⌜ Strange b 1 r ⌝ }
+{
+    differs(b, b'a') & differs(b, b'c') & differs(b, b'g') & differs(b, b't') & differs(b, b'n')
+}
+
+// 0 only for the symbols of AA.
+fn no_amino(b: u8) -> u8
+    ensures { λ r. ⌜ Strange b 2 r ⌝ }
+{
+    if b < b'A' {
+        return 1;
+    }
+    if b'Z' < b { 1 } else { 0 }
+}
+
+// 0 only for symbols of the class.
+fn strange(b: u8, class: u8) -> u8
+    ensures { λ r. ⌜ Strange b class r ⌝ }
+{
+    if class == 1 {
+        return no_base(b);
+    }
+    if class == 2 {
+        return no_amino(b);
+    }
+    1
+}
+
+// 0 only where 32 bytes are symbols of the class. A sum with no branch: it is compiled to vector code.
+fn block(w: &[u8], at: usize, class: u8) -> u8
+    requires { ⌜ at + 32 ≤ length (now w) ⌝ }
+    ensures { λ r. ⌜ Block (now (w .entry)) class at r ⌝ }
+{
+    let mut bad: u8 = 0;
+    let mut j: usize = 0;
+    while j < 32 {
+        bad += strange(w[at + j], class);
+        j += 1;
+    }
+    bad
+}
+
+// The first byte from `from` on, before `end`, that is no symbol of the class.
+fn foreign(w: &[u8], from: usize, end: usize, class: u8, t: &[u8; 256]) -> usize
+    requires { ⌜ end ≤ length (now w) ⌝ }
+    requires { ⌜ from ≤ end ⌝ }
+    requires { ⌜ SymbolTable (now t) ⌝ }
+    ensures { λ r. ⌜ Foreign (now (w .entry)) class from end r ⌝ }
+{
+    let mut i = from;
+    while i < end {
         if t[w[i] as usize] != class {
             return i;
         }
         i += 1;
     }
     i
+}
+
+// The first byte that is no symbol of the class: by blocks, and by the table where a block has a rarer symbol.
+pub fn symbols(w: &[u8], class: u8, t: &[u8; 256]) -> usize
+    requires { ⌜ SymbolTable (now t) ⌝ }
+    ensures { λ r. ⌜ Symbols (now (w .entry)) class r ⌝ }
+{
+    let mut i: usize = 0;
+    while 32 <= w.len() - i {
+        if block(w, i, class) != 0 {
+            let r = foreign(w, i, i + 32, class, t);
+            if r < i + 32 {
+                return r;
+            }
+        }
+        i += 32;
+    }
+    foreign(w, i, w.len(), class, t)
 }
 
 // Whether at least so many residues aren't the undefined one. No more are read than it takes.

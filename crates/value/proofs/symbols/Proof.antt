@@ -1,36 +1,44 @@
--- `value::symbols` meets its contract. The loop's invariant: each byte passed is a symbol of every kind of the class.
-use Prim.Native.Nat.{_-_, _≤_}
-use native.Mathlib.Omega.{arith}
+-- `value::symbols` meets its contract. The loop's invariant: each byte passed is a symbol of the class. The measure is what is left.
+use Rattle.value.proofs.Residues.{between-none, between-join, first-foreign}
+use Rattle.value.specs.Reading.{Between}
 use lib.ListN.{length}
-use Rattle.value.proofs.Residues.{Passed, passed-none, passed-next, passed-all, stopped}
+use mathlib.Core.Logic.{⊎-elim}
+use mathlib.Core.Path.{_≡_, subst}
+use native.Mathlib.Omega.{arith}
+use Prim.Native.Nat.{ℕ, _+_, _-_, _≤_}
 use borrow.Author.Needs.{needs}
 use Rattle.value.proofs.symbols.Statement.{statement}
 use Rattle.value.proofs.symbols.Tie as tie
 
 abbrev Inv-loop : tie.InvT-loop
-Inv-loop w class t i₀ i = (i ≤ length w) × Passed w class i
+Inv-loop w class t i₀ i = (i ≤ length w) × Between w class 0 i
 
 abbrev μ-loop : tie.MeasureT-loop
 μ-loop w class t i₀ i = length w - i
 
 loop-holds : tie.Need-loop-holds Inv-loop μ-loop
-loop-holds c = (omega arith, passed-none (c .args .w .now) (c .args .class))
+loop-holds c = (omega arith, between-none (c .before .args .w .now) (c .before .args .class) 0)
 
-shared-slice-read-if1 : tie.Need-shared-slice-read-if1 Inv-loop μ-loop
-shared-slice-read-if1 c = search needs
+sub-loop : tie.Need-sub-loop Inv-loop μ-loop
+sub-loop c = search needs
 
-cast-if1 : tie.Need-cast-if1 Inv-loop μ-loop
-cast-if1 c = omega (arith, c .shared-slice-known .given (c .before .before .loop .i))
+block-requires : tie.Need-block-requires Inv-loop μ-loop
+block-requires c κs = search needs
 
-element-copy-out-if1 : tie.Need-element-copy-out-if1 Inv-loop μ-loop
-element-copy-out-if1 c = omega (arith, c .shared-slice-known .given (c .before .before .loop .i))
+add-foreign : tie.Need-add-foreign Inv-loop μ-loop
+add-foreign c = search needs
+
+foreign-requires : tie.Need-foreign-requires Inv-loop μ-loop
+foreign-requires c κs = (omega arith, (omega arith, c .before .before .before .before .before .pre))
+
+add-if2 : tie.Need-add-if2 Inv-loop μ-loop
+add-if2 c = search needs
 
 returns : tie.Need-returns Inv-loop μ-loop
 returns c =
-    let a = c .before .before .before .before .before .args in
-    let l = c .before .before .before .before .loop in
-    stopped (a .w .now) (a .class) (l .i) (omega arith) (a .t .now) (c .before .before .before .before .before .pre)
-    (omega (arith, c .before .before .shared-slice-known .given (l .i))) (l .inv .1) (c .if1 .taken)
+    let a = c .before .before .before .before .before .before .before .args in
+    let f = c .before .foreign .ensures in
+    first-foreign (a .w .now) (a .class) (c .before .before .before .before .before .loop .inv .1) f (omega (arith, f .inside)) (λ h. omega arith)
 
 add-i : tie.Need-add-i Inv-loop μ-loop
 add-i c = search needs
@@ -40,15 +48,23 @@ loop-less c = omega arith
 
 loop-again : tie.Need-loop-again Inv-loop μ-loop
 loop-again c =
-    let a = c .before .before .before .before .before .args in
-    let l = c .before .before .before .before .loop in (
+    let l = c .before .before .before .loop in
+    let a = c .before .before .before .before .before .args in (
       omega arith,
-      passed-next (a .w .now) (a .class) (l .i) (omega arith) (a .t .now) (c .before .before .before .before .before .pre)
-          (omega (arith, c .before .before .shared-slice-known .given (l .i))) (l .inv .1) (c .if1 .left),
+      between-join (a .w .now) (a .class) 0 (l .i) (l .i + 32) (l .inv .1)
+          (⊎-elim
+          (λ x. subst (Between (a .w .now) (a .class) (l .i)) (omega (arith, x .1 .ensures .inside)) (x .1 .ensures .each))
+          (λ x. c .before .block .ensures .none (omega arith)) (c .if1 .came)),
     )
 
+foreign-requires-2 : tie.Need-foreign-requires-2 Inv-loop μ-loop
+foreign-requires-2 c κs = (omega arith, (omega arith, c .before .before .before .pre))
+
 returns-2 : tie.Need-returns-2 Inv-loop μ-loop
-returns-2 c = let l = c .before .loop in passed-all _ _ (l .i) (omega arith) (omega arith) (l .inv .1)
+returns-2 c =
+    let a = c .before .before .before .before .args in
+    let f = c .foreign2 .ensures in
+    first-foreign (a .w .now) (a .class) (c .before .before .loop .inv .1) f (f .inside) (λ h. h)
 
 pub symbols-spec : {M : Type 1} → statement M
 symbols-spec =
@@ -57,11 +73,14 @@ symbols-spec =
     Inv-loop
     μ-loop
     loop-holds
-    shared-slice-read-if1
-    cast-if1
-    element-copy-out-if1
+    sub-loop
+    block-requires
+    add-foreign
+    foreign-requires
+    add-if2
     returns
     add-i
     loop-less
     loop-again
+    foreign-requires-2
     returns-2)
