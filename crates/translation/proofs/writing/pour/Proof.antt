@@ -1,107 +1,118 @@
+-- Run by run. Invariant: the letters poured stand at the front and are no stop, and the others are left.
+use native.Mathlib.Omega.{arith}
+use mathlib.Core.Path.{refl}
+use lib.ListN.{length}
+use Rattle.translation.specs.Reading.{residuesLeft}
+use Rattle.translation.proofs.Readings.{letters-are, run-falls}
+use Rattle.translation.proofs.Stops.{finished-done, finished-last, stops-inside}
+use Rattle.translation.proofs.Pouring.{Pouring, pouring-start, pouring-run, pouring-one, pouring-end, pouring-stop, pouring-short, pours, pours-none}
 use borrow.Author.Needs.{needs}
 use Rattle.translation.proofs.writing.pour.Statement.{statement}
 use Rattle.translation.proofs.writing.pour.Tie as tie
-use Rattle.translation.proofs.writing.pour.Reads as reads
-use Rattle.translation.proofs.writing.pour.Lts as lts
-use Rattle.translation.proofs.reading.begin.Reads as begin-reads
-use Rattle.translation.proofs.reading.ends.Reads as ends-reads
-use Rattle.translation.proofs.reading.next.Reads as next-reads
-use Rattle.translation.proofs.reading.onward.Reads as onward-reads
-use Rattle.translation.proofs.writing.lay_clear.Reads as lay-clear-reads
 
 abbrev Inv-loop : tie.InvT-loop
-Inv-loop r loc top frame sets turns table out₀ x₀ i₀ out x i = ?
+Inv-loop r loc top frame sets turns table out₀ x₀ i₀ out x i = Pouring r loc top x₀ out₀ out x i
 
 abbrev μ-loop : tie.MeasureT-loop
-μ-loop r loc top frame sets turns table out₀ x₀ i₀ out x i = ?
+μ-loop r loc top frame sets turns table out₀ x₀ i₀ out x i = residuesLeft (length r) (length loc) x
 
--- src/writing.rt:355:9
 returns : tie.Need-returns Inv-loop μ-loop
-returns c = search needs
+returns c = pours-none (c .if1 .taken)
 
--- src/writing.rt:357:9
 begin-requires : tie.Need-begin-requires Inv-loop μ-loop
-begin-requires c κs = search needs
+begin-requires c κs = (c .if1 .left, (c .before .before .before .before .pre .0, c .before .before .before .before .pre .1 .0))
 
--- src/writing.rt:359:5
 loop-holds : tie.Need-loop-holds Inv-loop μ-loop
-loop-holds c = search needs
+loop-holds c = pouring-start (c .begin .ensures .ready)
 
--- src/writing.rt:363:13
 lay-clear-requires : tie.Need-lay-clear-requires Inv-loop μ-loop
-lay-clear-requires c κs = search needs
+lay-clear-requires c κs =
+    let i = c .before .loop .inv .put in
+    (i .ready .order, (i .ready .inside, (omega (arith, i .within, i .size), c .before .before .before .before .before .before .before .pre)))
 
--- src/writing.rt:364:17
 add-j : tie.Need-add-j Inv-loop μ-loop
-add-j c = search needs
+add-j c = omega (arith, c .before .before .lay-clear .ensures .laid .inside)
 
--- src/writing.rt:365:28
 onward-requires : tie.Need-onward-requires Inv-loop μ-loop
-onward-requires c κs = search needs
+onward-requires c κs = c .before .before .lay-clear .ensures .laid .within
 
--- src/writing.rt:365:15
 next-requires : tie.Need-next-requires Inv-loop μ-loop
-next-requires c κs = search needs
+next-requires c κs =
+    let f = pouring-run (c .before .before .before .before .before .loop .inv) (c .onward .ensures) (c .before .before .before .lay-clear .ensures) in
+    (c .before .before .before .before .before .before .before .if1 .left, (f .put .ready, c .before .before .before .before .before .before .before .before .before .before .before .pre))
 
--- src/writing.rt:367:17
 enum-told : tie.Need-enum-told Inv-loop μ-loop
 enum-told c = search needs
 
--- src/writing.rt:367:17
 same-length : tie.Need-same-length Inv-loop μ-loop
-same-length c = search needs
+same-length c =
+    let f = pouring-run (c .before .before .before .before .before .before .before .before .loop .inv) (c .before .before .before .onward .ensures) (c .before .before .before .before .before .before .lay-clear .ensures) in
+    f .put .size
 
--- src/writing.rt:367:17
 returns-2 : tie.Need-returns-2 Inv-loop μ-loop
-returns-2 c = search needs
+returns-2 c =
+    let f = pouring-run (c .before .before .before .before .before .before .before .before .loop .inv) (c .before .before .before .onward .ensures) (c .before .before .before .before .before .before .lay-clear .ensures) in
+    pours (c .before .before .before .before .before .before .before .before .before .begin .ensures) (pouring-end f (finished-done (letters-are (c .before .before .next .ensures) (c .enum-told .given .1))))
 
--- src/writing.rt:369:24
 enum-known-letter : tie.Need-enum-known-letter Inv-loop μ-loop
 enum-known-letter c = search needs
 
--- src/writing.rt:371:24
 ends-requires : tie.Need-ends-requires Inv-loop μ-loop
-ends-requires c κs = search needs
+ends-requires c κs =
+    let g = letters-are (c .before .before .before .before .next .ensures) (c .before .before .letter .given .1) in
+    (c .before .before .before .before .before .before .before .before .before .before .before .before .if1 .left, (g .one .ready, c .before .before .before .before .before .before .before .before .before .before .before .before .before .before .before .before .pre))
 
--- src/writing.rt:372:25
 same-length-2 : tie.Need-same-length-2 Inv-loop μ-loop
-same-length-2 c = search needs
+same-length-2 c =
+    let f = pouring-run (c .before .before .before .before .before .before .before .before .before .before .before .before .loop .inv) (c .before .before .before .before .before .before .before .onward .ensures) (c .before .before .before .before .before .before .before .before .before .before .lay-clear .ensures) in
+    f .put .size
 
--- src/writing.rt:372:25
 returns-3 : tie.Need-returns-3 Inv-loop μ-loop
-returns-3 c = search needs
+returns-3 c =
+    let f = pouring-run (c .before .before .before .before .before .before .before .before .before .before .before .before .loop .inv) (c .before .before .before .before .before .before .before .onward .ensures) (c .before .before .before .before .before .before .before .before .before .before .lay-clear .ensures) in
+    let g = letters-are (c .before .before .before .before .before .before .next .ensures) (c .before .before .before .before .letter .given .1) in
+    pours (c .before .before .before .before .before .before .before .before .before .before .before .before .before .begin .ensures) (pouring-end f (finished-last g (c .before .before .if2 .taken) (c .before .ends .ensures) (c .if3 .taken)))
 
--- src/writing.rt:374:21
 same-length-3 : tie.Need-same-length-3 Inv-loop μ-loop
-same-length-3 c = search needs
+same-length-3 c =
+    let f = pouring-run (c .before .before .before .before .before .before .before .before .before .before .before .before .loop .inv) (c .before .before .before .before .before .before .before .onward .ensures) (c .before .before .before .before .before .before .before .before .before .before .lay-clear .ensures) in
+    f .put .size
 
--- src/writing.rt:374:21
 returns-4 : tie.Need-returns-4 Inv-loop μ-loop
-returns-4 c = search needs
+returns-4 c =
+    let f = pouring-run (c .before .before .before .before .before .before .before .before .before .before .before .before .loop .inv) (c .before .before .before .before .before .before .before .onward .ensures) (c .before .before .before .before .before .before .before .before .before .before .lay-clear .ensures) in
+    let g = letters-are (c .before .before .before .before .before .before .next .ensures) (c .before .before .before .before .letter .given .1) in
+    pours (c .before .before .before .before .before .before .before .before .before .before .before .before .before .begin .ensures) (pouring-stop f (stops-inside g (c .before .before .if2 .taken) (c .before .ends .ensures) (c .if3 .left)))
 
--- src/writing.rt:377:21
 same-length-4 : tie.Need-same-length-4 Inv-loop μ-loop
-same-length-4 c = search needs
+same-length-4 c =
+    let f = pouring-run (c .before .before .before .before .before .before .before .before .before .before .before .loop .inv) (c .before .before .before .before .before .before .onward .ensures) (c .before .before .before .before .before .before .before .before .before .lay-clear .ensures) in
+    f .put .size
 
--- src/writing.rt:377:21
 returns-5 : tie.Need-returns-5 Inv-loop μ-loop
-returns-5 c = search needs
+returns-5 c =
+    let f = pouring-run (c .before .before .before .before .before .before .before .before .before .before .before .loop .inv) (c .before .before .before .before .before .before .onward .ensures) (c .before .before .before .before .before .before .before .before .before .lay-clear .ensures) in
+    let g = letters-are (c .before .before .before .before .before .next .ensures) (c .before .before .before .letter .given .1) in
+    pours (c .before .before .before .before .before .before .before .before .before .before .before .before .begin .ensures) (pouring-short f g (c .before .if2 .left) (omega (arith, c .if4 .taken, f .put .size)))
 
--- src/writing.rt:379:17
 slice-write-out : tie.Need-slice-write-out Inv-loop μ-loop
 slice-write-out c = search needs
 
--- src/writing.rt:381:21
 add-i : tie.Need-add-i Inv-loop μ-loop
-add-i c = search needs
+add-i c =
+    let f = pouring-run (c .before .before .before .before .before .before .before .before .before .before .before .loop .inv) (c .before .before .before .before .before .before .onward .ensures) (c .before .before .before .before .before .before .before .before .before .lay-clear .ensures) in
+    omega (arith, c .if4 .left, f .put .size, c .before .before .before .before .before .before .before .before .before .before .before .before .before .before .before .before .before .good .1 .1 .1 .1 .1 .1 .1 .0 .0)
 
--- src/writing.rt:359:5
 loop-less : tie.Need-loop-less Inv-loop μ-loop
-loop-less c = search needs
+loop-less c =
+    let g = letters-are (c .before .before .before .before .before .next .ensures) (c .before .before .before .letter .given .1) in
+    omega (arith, g .falls, run-falls (c .before .before .before .before .before .before .before .before .before .before .before .before .before .before .before .before .before .args .r .now) (c .before .before .before .before .before .before .before .before .before .before .before .loop .inv .put .ready) (c .before .before .before .before .before .before .onward .ensures) (length (c .before .before .before .before .before .before .before .before .before .before .before .before .before .before .before .before .before .args .loc .now)))
 
--- src/writing.rt:359:5
 loop-again : tie.Need-loop-again Inv-loop μ-loop
-loop-again c = search needs
+loop-again c =
+    let f = pouring-run (c .before .before .before .before .before .before .before .before .before .before .before .loop .inv) (c .before .before .before .before .before .before .onward .ensures) (c .before .before .before .before .before .before .before .before .before .lay-clear .ensures) in
+    let g = letters-are (c .before .before .before .before .before .next .ensures) (c .before .before .before .letter .given .1) in
+    pouring-one f g (c .before .if2 .left) (omega (arith, c .if4 .left, f .put .size))
 
 pub pour-spec : {M : Type 1} → statement M
 pour-spec =
