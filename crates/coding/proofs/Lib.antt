@@ -1,3 +1,4 @@
+pub mod Keys
 pub mod Lists
 pub mod Loops
 pub mod Values

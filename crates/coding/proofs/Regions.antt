@@ -7,13 +7,13 @@ use mathlib.Core.Logic.{inr}
 use mathlib.Core.List.{List}
 use mathlib.Core.Option.{Option, some}
 use lib.ListN.{length}
-use Rattle.paper.specs.Bytes.{bytes, all}
+use Rattle.paper.specs.Bytes.{bytes, raw, all}
 use Rattle.paper.specs.Lists.{end}
 use Rattle.paper.specs.Tree.{Feature, Sequence, qualifiersOf}
 use Rattle.paper.specs.Layout.{child, qualifier}
-use Rattle.paper.specs.Locations.{breaks25}
+use Rattle.paper.specs.Locations.{Location, Locates, breaks25}
 use Rattle.paper.specs.Translation.{dropStop, hasStopInside}
-use Rattle.paper.specs.Rules.{L, isSymbol, Before, CodonStart, Judged}
+use Rattle.paper.specs.Rules.{L, Kind, isSymbol, Before, CodonStart, Judged}
 use Rattle.paper.specs.Answers.{Translates}
 use Rattle.paper.specs.declared.Fault.{Fault}
 use Rattle.paper.specs.declared.Fault.the-variants.{Clean, At}
@@ -29,19 +29,22 @@ use Rattle.location.specs.Judging.{Judged as Placed}
 use Rattle.location.specs.declared.judging.Facts.{Facts}
 use Rattle.location.specs.declared.judging.Verdict.{Verdict}
 use Rattle.location.specs.declared.judging.Verdict.the-variants.{Bad, Is}
+use Rattle.translation.specs.Reading.{Codes}
 use Rattle.translation.specs.Translating.{lettersOf}
 use Rattle.judging.specs.Sets.{Firsts, Some, InCoding, rule-27, rule-28}
-use Rattle.judging.specs.Known.{Shows}
+use Rattle.judging.specs.Known.{Shows, Knows}
 use Rattle.judging.specs.declared.Known.{Known}
 use Rattle.judging.proofs.Bytes.{part-shows}
 use Rattle.judging.proofs.Faults.{firsts-none, firsts-as}
 use Rattle.judging.proofs.Seen.{seen-none}
 use Rattle.coding.specs.Qualifiers.{Shown, Frames, FrameIs, Excepts, NotedOf, Notes, LeavesOut}
 use Rattle.coding.specs.Translations.{Breaks28, Rights}
-use Rattle.coding.specs.Coding.{Asked, JudgesCoding, JudgesRegion}
+use Rattle.coding.specs.Coding.{Asked, JudgesCoding, JudgesRegion, StartsAt}
 use Rattle.coding.specs.declared.Frame.{Frame}
 use Rattle.coding.specs.declared.Frame.the-variants.{Unstated, Wrong}
 use Rattle.coding.specs.declared.Noted.{Noted}
+use Rattle.coding.specs.declared.Start.{Start}
+use Rattle.coding.specs.declared.Start.the-variants as start
 use Rattle.coding.proofs.Loops.{SeenSo, one-more, stuck, all-seen}
 use Rattle.coding.proofs.Frames.{start-wrong}
 
@@ -105,6 +108,15 @@ module _ {q : Sequence ℕ} {f : Feature ℕ} {start : ℕ} (starts : CodonStart
       of n p (rule-27 c k) = absurd (k start starts)
       of n p (rule-28 z i y m d k) = (suc (m .0), y, (m .0, refl, m .1), (refl, refl, d, λ h. k (agree j i h)))
 
+-- what was found of it: residues that are symbols, and the location, as they are written
+module _ {s r : List ℕ} {known : Known} {q : Sequence ℕ} (k : Knows s q known) where
+  pub residues-read : Shows s (known .residues .from) (known .residues .to) r → (c : Kind) → all (isSymbol c) (q .residues .read) → r ≡ q .residues .read
+  residues-read shown c sy = part-shows (k .residues) shown ∙ raw-symbols c (q .residues .read) sy
+
+  pub found-codes : {loc v : List ℕ} {t : Location} → loc ≡ raw v → r ≡ q .residues .read → Locates t v → breaks25 (L q) t ≡ false → Codes r loc (known .top) t
+  found-codes {v = v} {t = t} el er l b =
+      record { sized = ap length er ∙ sym (k .size); read = v; written = el; located = l; right = ap (λ (n : ℕ). breaks25 n t) (k .size) ∙ b }
+
 module _ {s : List ℕ} {location : Part} {first : ℕ} {known : Known} {verdict : Verdict} {start : ℕ} {u : Bool} where
   pub region-unjudged : u ≡ true → JudgesRegion s location first known verdict start u Clean
   region-unjudged e = record { says = λ key q f stop a c t. none-judged c (λ x j. j .judged (tells-true u e t)) }
@@ -136,13 +148,13 @@ module _ {s : List ℕ} {location : Part} {first : ℕ} {known : Known} {verdict
     pub region-judged : {r loc : List ℕ} {y : Fault} → u ≡ false → known .clean ≡ true → x .wrong ≡ false
         → Shows s (known .residues .from) (known .residues .to) r → Shows s (location .from) (location .to) loc
         → Rights s r loc (known .top) start first y → JudgesRegion s location first known verdict start u y
-    region-judged {r} {loc} d g w shr shl rights =
+    region-judged d g w shr shl rights =
         record {
           says =
               λ key q f stop a c t.
               let k = subst (Placed (L q) (f .location .read)) e (a .judged) in
               let sy : all (isSymbol (a .coding .kind)) (q .residues .read) = tells-true (known .clean) g (a .knows .clean (a .coding .kind) (a .coding .is)) in
-              let er : r ≡ q .residues .read = part-shows (a .knows .residues) shr ∙ raw-symbols (a .coding .kind) (q .residues .read) sy in
+              let er = residues-read (a .knows) shr (a .coding .kind) sy in
               let b : breaks25 (L q) (k .0) ≡ false = sym (k .2 .wrong) ∙ w in
               judged-as c
               (record {
@@ -152,15 +164,7 @@ module _ {s : List ℕ} {location : Part} {first : ℕ} {known : Known} {verdict
                 codons =
                     record { location = k .0; located = k .1; inside = b; start = start; starts = c; are = ap (λ (z : List ℕ). lettersOf z start (k .0)) er };
               })
-              (rights .says (k .0)
-              (record {
-                sized = ap length er ∙ sym (a .knows .size);
-                read = f .location .read;
-                written = part-shows (a .located) shl;
-                located = k .1;
-                right = ap (λ (n : ℕ). breaks25 n (k .0)) (a .knows .size) ∙ b;
-              })
-              (qualifiersOf f) stop (a .quals) (a .closes));
+              (rights .says (k .0) (found-codes (a .knows) (part-shows (a .located) shl) er (k .1) b) (qualifiersOf f) stop (a .quals) (a .closes));
         }
 
 -- ---- the region
@@ -192,3 +196,24 @@ module _ {s : List ℕ} {key : ℕ} {location : Part} {first : ℕ} {known : Kno
           → (m p : ℕ) → InCoding q f m p → Before 27 key m p
       least q f a z m p (rule-27 c k) = inr (a .at, omega arith)
       least q f a z m p (rule-28 y j w i d k) = absurd (z (j .codons .start) (j .codons .starts))
+
+-- ---- where its codons start
+
+module _ {s : List ℕ} {first : ℕ} {verdict : Verdict} {x : Noted} {u : Bool} (notes : Notes s first x) (leaves : LeavesOut (x .excepted) verdict u) where
+  pub starts-unjudged : u ≡ true → StartsAt s first verdict start.Unjudged
+  starts-unjudged h =
+      record { says = λ m f stop d fol j k. tells-true u h (leaves .says m f (notes .says (qualifiersOf f) stop d fol .0 .left) j) }
+
+  pub starts-at : {n : ℕ} → u ≡ false → ((f : Feature ℕ) → FrameIs (qualifiersOf f) (x .frame) → CodonStart f n) → StartsAt s first verdict (start.At n)
+  starts-at h g =
+      record {
+        says =
+            λ m f stop d fol j k.
+            let y = notes .says (qualifiersOf f) stop d fol .0 in
+            (tells-false u h (leaves .says m f (y .left) j), g f (y .framed));
+      }
+
+  -- rule 27 is broken
+  pub starts-nowhere : {r : Start} → x .frame ≡ Wrong → StartsAt s first verdict r
+  starts-nowhere e =
+      record { says = λ m f stop d fol j k. absurd (k (start-wrong f (subst (FrameIs (qualifiersOf f)) e (notes .says (qualifiersOf f) stop d fol .0 .framed)))) }

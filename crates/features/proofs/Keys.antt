@@ -9,7 +9,7 @@ use lib.ListN.{getD}
 use Rattle.paper.specs.Bytes.{bytes, raw}
 use Rattle.paper.specs.Tree.{Text, Sequence, Feature}
 use Rattle.paper.specs.Locations.{Location, Locates, breaks25, hasComplement}
-use Rattle.paper.specs.Rules.{L, Kind, dna, rna, aa, IsKind, Keyed, sourceName, Coding, isNucleotide}
+use Rattle.paper.specs.Rules.{L, Kind, dna, rna, aa, IsKind, Keyed, sourceName, Coding}
 use Rattle.paper.specs.declared.Fault.{Fault}
 use Rattle.paper.specs.declared.Fault.the-variants.{Clean, At}
 use Rattle.paper.proofs.Locate.{locates-once}
@@ -23,7 +23,7 @@ use Rattle.location.specs.declared.judging.Verdict.{Verdict}
 use Rattle.location.specs.declared.judging.Verdict.the-variants.{Bad, Is}
 use Rattle.judging.specs.Sets.{Firsts, InLocation, rule-24, rule-25, rule-26}
 use Rattle.judging.proofs.Moltypes.{kind-once}
-use Rattle.features.specs.Featured.{ifAa, placeFault, IsSource, NamesSource, NamesCoding}
+use Rattle.features.specs.Featured.{ifAa, placeFault, IsSource, NamesSource}
 
 -- ---- rules 24 to 26
 
@@ -101,22 +101,6 @@ source-named k r plain named t =
 
 pub source-other : {w : List ℕ} → NamesSource w kind.Other false
 source-other = record { says = λ q f i e x. i (x .0) (x .1) }
-
--- the key of a coding region
-pub coding-named : (k : Kind) {c : code.Kind} {w : List ℕ} (r : Bool) → isNucleotide k ≡ true → ((v : List ℕ) → KindIs v c → Names v k)
-    → Tells r (w ≡ bytes "CDS") → NamesCoding w c r
-coding-named k r nuc named t =
-    record { says = λ q f i e. by q f (named (q .moltype .read) i) r (tells-word (bytes "CDS") refl r t .says (f .key .read) e) }
-  where
-    by : (q : Sequence ℕ) (f : Feature ℕ) → Names (q .moltype .read) k → (d : Bool) → Tells d (Keyed "CDS" f) → Tells d (Coding q f)
-    by q f i true h = record { kind = k; is = i; nucleotide = nuc; keyed = h }
-    by q f i false h = λ x. h (x .keyed)
-
-pub coding-aa : {w : List ℕ} → NamesCoding w kind.Aa false
-coding-aa = record { says = λ q f i e x. true≢false (sym (x .nucleotide) ∙ ap isNucleotide (kind-once (q .moltype .read) (x .kind) aa (x .is) i)) }
-
-pub coding-other : {w : List ℕ} → NamesCoding w kind.Other false
-coding-other = record { says = λ q f i e x. i (x .kind) (x .is) }
 
 -- no source is a coding region
 first-letter : (k : Kind) → getD (bytes (sourceName k)) 0 0 ≡ 67 → ⊥

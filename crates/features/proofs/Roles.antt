@@ -26,9 +26,9 @@ use Rattle.judging.proofs.Bytes.{part-shows}
 use Rattle.judging.proofs.Faults.{firsts-or, firsts-as}
 use Rattle.source.specs.Sources.{JudgesSource, IsSource as IsSourced}
 use Rattle.source.specs.declared.Sourced.{Sourced}
-use Rattle.coding.specs.Coding.{JudgesCoding}
+use Rattle.coding.specs.Coding.{NamesCoding, JudgesCoding}
 use Rattle.coding.specs.declared.Region.{Region}
-use Rattle.features.specs.Featured.{placeFault, IsSource, NamesSource, NamesCoding, roleOf, RoleIs, JudgesFeature}
+use Rattle.features.specs.Featured.{placeFault, IsSource, NamesSource, roleOf, RoleIs, JudgesFeature}
 use Rattle.features.specs.declared.Role.{Role}
 use Rattle.features.specs.declared.Role.the-variants as role
 use Rattle.features.proofs.Keys.{placed, not-both}

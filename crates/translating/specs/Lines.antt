@@ -51,6 +51,11 @@ abbrev pub Within : ℕ → Lined → Type 0
 Within room (Is n) = n ≤ room
 Within room Short = Unit {0}
 
+-- the length of two texts, one behind the other
+pub record Adds (a b : Lined) (room : ℕ) (r : Lined) : Type 0 where
+  pub within : Within room r
+  pub is : (x y : List ℕ) → SizeIs x room a → SizeIs y room b → SizeIs (x ++ y) room r
+
 pub record Dashes (room : ℕ) (r : Lined) : Type 0 where
   pub within : Within room r
   pub is : SizeIs (bytes "-\n") room r

@@ -1,13 +1,13 @@
 -- How a feature of an accepted listing is translated.
 use Prim.Native.Nat.{ℕ}
+use mathlib.Core.Path.{_≡_}
+use mathlib.Core.Bool.{false}
 use mathlib.Core.List.{List}
-use Rattle.paper.specs.Bytes.{raw}
 use Rattle.paper.specs.Tree.{Sequence, Feature}
-use Rattle.paper.specs.Locations.{Location}
+use Rattle.paper.specs.Locations.{Location, Locates, breaks25}
 use Rattle.paper.specs.Rules.{L, Coding, Unjudged, Judged}
 use Rattle.walk.specs.Stands.{IsFeature}
 use Rattle.walk.specs.declared.FoundFeature.{FoundFeature}
-use Rattle.translation.specs.Reading.{Codes}
 use Rattle.translation.specs.Translating.{lettersOf}
 use Rattle.judging.specs.Sets.{InTexts, InFeature}
 use Rattle.judging.specs.Known.{Knows}
@@ -24,7 +24,8 @@ pub record Keeps (q : Sequence ℕ) (f : Feature ℕ) : Type 0 where
 -- f is a judged CDS of q, and its codons start with residue `start` of its spans
 pub record PlannedFrom (q : Sequence ℕ) (f : Feature ℕ) (start : ℕ) : Type 0 where
   pub location : Location
-  pub codes : Codes (q .residues .read) (raw (f .location .read)) (L q) location
+  pub located : Locates location (f .location .read)
+  pub inside : breaks25 (L q) location ≡ false
   pub judged : Judged q f (lettersOf (q .residues .read) start location)
 
 abbrev pub PlanIs : Sequence ℕ → Feature ℕ → Plan → Type 0

@@ -8,13 +8,11 @@ use judging::bytes_of;
 use location::judging::judge_location;
 use translation::writing::Size;
 use translation::writing::measure;
-use translation::writing::pour;
 use translation::writing::write;
 use walk::FoundFeature;
-use walk::FoundTable;
 ghost use Rattle.codon.specs.Tables.{SetTable, TurnTable, LetterTable};
 ghost use Rattle.translating.specs.Plans.{Plans};
-ghost use Rattle.translating.specs.Lines.{TranslatesOne, Dashes, MeasuresLine, MeasuresLines, PutsDash, PutsLine, PassesFeature, PutsLines, TranslatesAll};
+ghost use Rattle.translating.specs.Lines.{TranslatesOne, Dashes, MeasuresLine, PassesFeature, Adds, MeasuresLines, PutsDash};
 
 // How a feature is translated.
 pub enum Plan {
@@ -26,19 +24,17 @@ pub enum Plan {
     From(usize),
 }
 
-fn plan(s: &[u8], known: Known, feature: FoundFeature) -> Plan
+fn plan_of(s: &[u8], known: Known, feature: FoundFeature) -> Plan
     ensures { λ r. ⌜ Plans (now (s .entry)) known feature r ⌝ }
 {
-    let key = feature.key;
-    let location = feature.location;
-    let quals = feature.quals;
-    let name = bytes_of(s, key.from, key.to);
-    if !is_coding(name, known.kind) {
+    let name = bytes_of(s, feature.key.from, feature.key.to);
+    let kind = known.kind;
+    if !is_coding(name, kind) {
         return Plan::NoCds;
     }
-    let loc = bytes_of(s, location.from, location.to);
+    let loc = bytes_of(s, feature.location.from, feature.location.to);
     let verdict = judge_location(loc, known.top);
-    match start_of(s, quals, verdict) {
+    match start_of(s, feature.quals, verdict) {
         Start::Unjudged => Plan::Unjudged,
         Start::At(n) => Plan::From(n),
     }
@@ -65,20 +61,12 @@ pub fn translate(
     requires { ⌜ LetterTable (now table) ⌝ }
     ensures { λ r. ⌜ TranslatesOne (now (s .entry)) known feature (now (out .entry)) r (now (out .exit)) ⌝ }
 {
-    match plan(s, known, feature) {
-        Plan::NoCds => Written {
-            number: 35,
-            size: 0,
-        },
-        Plan::Unjudged => Written {
-            number: 36,
-            size: 0,
-        },
+    match plan_of(s, known, feature) {
+        Plan::NoCds => Written { number: 35, size: 0 },
+        Plan::Unjudged => Written { number: 36, size: 0 },
         Plan::From(start) => {
-            let residues = known.residues;
-            let location = feature.location;
-            let r = bytes_of(s, residues.from, residues.to);
-            let loc = bytes_of(s, location.from, location.to);
+            let r = bytes_of(s, known.residues.from, known.residues.to);
+            let loc = bytes_of(s, feature.location.from, feature.location.to);
             match write(r, loc, known.top, start, sets, turns, table, out) {
                 Size::Is(n) => Written { number: 0, size: n },
                 Size::Short => Written {
@@ -127,14 +115,12 @@ fn line_size(
     requires { ⌜ LetterTable (now table) ⌝ }
     ensures { λ r. ⌜ MeasuresLine (now (s .entry)) known feature room r ⌝ }
 {
-    match plan(s, known, feature) {
+    match plan_of(s, known, feature) {
         Plan::NoCds => Lined::Is(0),
         Plan::Unjudged => dash_size(room),
         Plan::From(start) => {
-            let residues = known.residues;
-            let location = feature.location;
-            let r = bytes_of(s, residues.from, residues.to);
-            let loc = bytes_of(s, location.from, location.to);
+            let r = bytes_of(s, known.residues.from, known.residues.to);
+            let loc = bytes_of(s, feature.location.from, feature.location.to);
             match measure(r, loc, known.top, start, room, sets, turns, table) {
                 Size::Is(n) => {
                     if n < room {
@@ -157,6 +143,25 @@ fn past(s: &[u8], feature: FoundFeature) -> usize
     walk::feature_end(s, a, feature.long)
 }
 
+// The length of two texts, one behind the other.
+fn both(a: Lined, b: Lined, room: usize) -> Lined
+    ensures { λ r. ⌜ Adds a b room r ⌝ }
+{
+    let Lined::Is(n) = a else {
+        return Lined::Short;
+    };
+    let Lined::Is(m) = b else {
+        return Lined::Short;
+    };
+    if room < n {
+        return Lined::Short;
+    }
+    if room - n < m {
+        return Lined::Short;
+    }
+    Lined::Is(n + m)
+}
+
 // The length of the lines of all features that stand from here on.
 fn lines_size(
     s: &[u8],
@@ -173,7 +178,7 @@ fn lines_size(
     ensures { λ r. ⌜ MeasuresLines (now (s .entry)) first known room r ⌝ }
 {
     let mut at = first;
-    let mut left = room;
+    let mut size = Lined::Is(0);
     loop {
         if walk::feature_here(s, at) {
             let feature = walk::feature(s, at);
@@ -181,17 +186,11 @@ fn lines_size(
             if next <= at {
                 return Lined::Short;
             }
-            match line_size(s, known, feature, left, sets, turns, table) {
-                Lined::Short => {
-                    return Lined::Short;
-                }
-                Lined::Is(n) => {
-                    left -= n;
-                    at = next;
-                }
-            }
+            let line = line_size(s, known, feature, room, sets, turns, table);
+            size = both(size, line, room);
+            at = next;
         } else {
-            return Lined::Is(room - left);
+            return size;
         }
     }
 }
@@ -206,105 +205,4 @@ fn put_dash(out: &mut [u8]) -> usize
     out[0] = b'-';
     out[1] = b'\n';
     2
-}
-
-// A feature's line at the front of out, where it fits: how many bytes. Behind it out may hold letters before a stop.
-fn put_line(
-    s: &[u8],
-    known: Known,
-    feature: FoundFeature,
-    sets: &[u8; 256],
-    turns: &[u8; 256],
-    table: &[u8; 4096],
-    out: &mut [u8],
-) -> usize
-    requires { ⌜ SetTable (now sets) ⌝ }
-    requires { ⌜ TurnTable (now turns) ⌝ }
-    requires { ⌜ LetterTable (now table) ⌝ }
-    ensures { λ r. ⌜ PutsLine (now (s .entry)) known feature (now (out .entry)) r (now (out .exit)) ⌝ }
-{
-    match plan(s, known, feature) {
-        Plan::NoCds => 0,
-        Plan::Unjudged => put_dash(out),
-        Plan::From(start) => {
-            let residues = known.residues;
-            let location = feature.location;
-            let r = bytes_of(s, residues.from, residues.to);
-            let loc = bytes_of(s, location.from, location.to);
-            match pour(r, loc, known.top, start, sets, turns, table, out) {
-                Size::Is(n) => {
-                    if n < out.len() {
-                        out[n] = b'\n';
-                        return n + 1;
-                    }
-                    n
-                }
-                Size::Short => put_dash(out),
-                Size::Stop => put_dash(out),
-            }
-        }
-    }
-}
-
-// The lines of all features that stand from here on. They fill out: what stands behind a line for a moment is written over by the next.
-fn put_lines(
-    s: &[u8],
-    first: usize,
-    known: Known,
-    sets: &[u8; 256],
-    turns: &[u8; 256],
-    table: &[u8; 4096],
-    out: &mut [u8],
-)
-    requires { ⌜ SetTable (now sets) ⌝ }
-    requires { ⌜ TurnTable (now turns) ⌝ }
-    requires { ⌜ LetterTable (now table) ⌝ }
-    ensures { λ _. ⌜ PutsLines (now (s .entry)) first known (now (out .entry)) (now (out .exit)) ⌝ }
-{
-    let mut at = first;
-    let mut end: usize = 0;
-    loop {
-        if walk::feature_here(s, at) {
-            let feature = walk::feature(s, at);
-            let next = past(s, feature);
-            if next <= at {
-                return;
-            }
-            let n = put_line(s, known, feature, sets, turns, table, &mut out[end..]);
-            end += n;
-            at = next;
-        } else {
-            return;
-        }
-    }
-}
-
-// All translations of a sequence at the front of out; or nothing is written.
-pub fn translate_all(
-    s: &[u8],
-    known: Known,
-    found: FoundTable,
-    sets: &[u8; 256],
-    turns: &[u8; 256],
-    table: &[u8; 4096],
-    out: &mut [u8],
-) -> Written
-    requires { ⌜ SetTable (now sets) ⌝ }
-    requires { ⌜ TurnTable (now turns) ⌝ }
-    requires { ⌜ LetterTable (now table) ⌝ }
-    ensures { λ r. ⌜ TranslatesAll (now (s .entry)) known found (now (out .entry)) r (now (out .exit)) ⌝ }
-{
-    if !found.present {
-        return Written { number: 0, size: 0 };
-    }
-    match lines_size(s, found.first, known, out.len(), sets, turns, table) {
-        Lined::Short => Written {
-            number: 34,
-            size: 0,
-        },
-        Lined::Is(n) => {
-            put_lines(s, found.first, known, sets, turns, table, &mut out[..n]);
-            Written { number: 0, size: n }
-        }
-    }
 }

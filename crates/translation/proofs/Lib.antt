@@ -8,3 +8,4 @@ pub mod Plain
 pub mod Values
 pub mod Measuring
 pub mod Putting
+pub mod Pouring

@@ -12,10 +12,10 @@ use Rattle.translation.specs.declared.reading.Reading.{Reading}
 use Rattle.translation.specs.declared.writing.Count.{Count}
 use Rattle.translation.specs.declared.writing.Size.{Size}
 use Rattle.translation.specs.declared.writing.Size.the-variants as size
-use Rattle.translation.specs.Reading.{Ready, spanLetters, TextLeft, Onward, Gives, LetterIs, Begins, Ends}
+use Rattle.translation.specs.Reading.{Ready, spanLetters, TextLeft, Onward, Gives, LetterIs, Begins}
 use Rattle.translation.specs.Translating.{Clear, Tally, Counted, sizeOf, Measured, SizeWithin, Measures}
 use Rattle.translation.proofs.Readings.{span-within, run-gives}
-use Rattle.translation.proofs.Stops.{Front, front-one, front-take, keep-front, clear-front, stop-last, stop-last-clear, stop-inside}
+use Rattle.translation.proofs.Stops.{Front, Finished, front-one, front-take, keep-front, clear-front}
 
 -- ---- k letters more
 
@@ -66,10 +66,8 @@ module _ {s loc : List ℕ} {L : ℕ} {from : Reading} {room : ℕ} where
       }
 
   module _ {x : Reading} {a : Count} (f : Measuring s loc L from room x a) where
-    -- no letter of the translation is left
-    ended : ((rest : List ℕ) → TextLeft s loc L x rest → (hasStopInside (letters rest) ≡ false) × (dropStop (letters rest) ≡ []))
-        → Tells s loc L from room (sizeOf (a .n) (a .over))
-    ended g = record { within = within (a .over); says = λ text h. let c = f .gives text h in said (letters text) (c .rest) (c .m) (a .over) (c .clear) (c .long) (c .tally) (g (c .rest) (c .left)) }
+    pub measuring-end : Finished s loc L x → Tells s loc L from room (sizeOf (a .n) (a .over))
+    measuring-end g = record { within = within (a .over); says = λ text h. let c = f .gives text h in said (letters text) (c .rest) (c .m) (a .over) (c .clear) (c .long) (c .tally) (g .is (c .rest) (c .left)) }
       where
         within : (over : Bool) → SizeWithin room (sizeOf (a .n) over)
         within true = tt
@@ -80,6 +78,9 @@ module _ {s loc : List ℕ} {L : ℕ} {from : Reading} {room : ℕ} where
             → (hasStopInside (letters rest) ≡ false) × (dropStop (letters rest) ≡ []) → Measured l room (sizeOf (a .n) over)
         said l rest m true p q t z = let e = ap length (z .1) in (p ∙ z .0, omega arith)
         said l rest m false p q t z = let e = ap length (z .1) in (p ∙ z .0, omega (arith, t .0), omega (arith, t .0))
+
+    pub measuring-stop : ((rest : List ℕ) → TextLeft s loc L x rest → hasStopInside (letters rest) ≡ true) → Tells s loc L from room size.Stop
+    measuring-stop g = record { within = tt; says = λ text h. let v = f .gives text h in v .clear ∙ g (v .rest) (v .left) }
 
     -- letters passed: a run of them, or one
     measuring-on : {d : List ℕ} {k : ℕ} {y : Reading} {b : Count} → Gives s loc L x d y → Front d k → Counted room a k b
@@ -112,30 +113,6 @@ module _ {s loc : List ℕ} {L : ℕ} {from : Reading} {room : ℕ} where
     pub measuring-one : {c : ℕ} {y : Reading} {b : Count} → LetterIs s loc L x c y → (c ≡ code "*" → ⊥) → Counted room a 1 b
         → Measuring s loc L from room y b
     measuring-one g n = measuring-on (g .one) (front-one n)
-
-    pub measuring-done : ((text : List ℕ) → TextLeft s loc L x text → letters text ≡ []) → Tells s loc L from room (sizeOf (a .n) (a .over))
-    measuring-done g = ended (λ rest h. rw (g rest h) (refl, refl))
-
-    module _ {c : ℕ} {y : Reading} (g : LetterIs s loc L x c y) where
-      module _ (e : c ≡ code "*") where
-        pub measuring-last : {r : Bool} → Ends s loc L y r → r ≡ true → Tells s loc L from room (sizeOf (a .n) (a .over))
-        measuring-last q t =
-            ended
-            (λ rest h.
-            let u = g .one .gives rest h in
-            let z = subst (Ends s loc L y) t q .says (u .others) (u .left) in
-            rw (u .is, z) (stop-last-clear e, stop-last e))
-
-        pub measuring-stop : {r : Bool} → Ends s loc L y r → r ≡ false → Tells s loc L from room size.Stop
-        measuring-stop q t =
-            record {
-              within = tt;
-              says = λ text h.
-                  let v = f .gives text h in
-                  let u = g .one .gives (v .rest) (v .left) in
-                  let z = subst (Ends s loc L y) t q .says (u .others) (u .left) in
-                  v .clear ∙ ap hasStopInside (u .is ∙ ap (λ (l : List ℕ). c ∷ l) (z .2)) ∙ stop-inside e (z .0) (z .1);
-            }
 
 -- ---- the answer
 

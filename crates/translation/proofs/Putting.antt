@@ -19,26 +19,32 @@ use Rattle.translation.proofs.Stops.{translation-front, translation-sho
 use Rattle.translation.proofs.Measuring.{measured-once}
 
 -- d behind the first letters at the front
-front-more : (l out d o : List ℕ) (k n : ℕ) → length d ≡ n → k ≤ length l → k + n ≤ length out → drop k l ≡ d ++ o
-    → take k (front (take k l) out) ++ d ++ drop (k + n) (front (take k l) out) ≡ front (take (k + n) l) out
-front-more l out d o k n size h j e =
-    let p = take k l in
-    let a = length-take-le k l h in
+front-more : (p out d : List ℕ) (k n : ℕ) → length p ≡ k → length d ≡ n
+    → take k (front p out) ++ d ++ drop (k + n) (front p out) ≡ front (p ++ d) out
+front-more p out d k n a b =
     let rest : drop (k + n) (p ++ drop (length p) out) ≡ drop (k + n) out
     = sym (drop-drop n k (p ++ drop (length p) out))
     ∙ ap (drop n) (drop-at p (drop (length p) out) k a)
     ∙ drop-drop n (length p) out
     ∙ ap (λ (i : ℕ). drop (i + n) out) a in
-    let more : take (k + n) l ≡ p ++ d = take-add k n l ∙ ap (λ (z : List ℕ). p ++ take n z) e ∙ ap (λ (z : List ℕ). p ++ z) (take-at d o n size) in
     let long : length (p ++ d) ≡ k + n = length-append p d ∙ omega arith in
-    rw (take-at p (drop (length p) out) k a, rest, more, long)
+    rw (take-at p (drop (length p) out) k a, rest, long)
+
+-- of the letters l the first k are done, then come d and then o
+module _ (l d o : List ℕ) (k n : ℕ) (size : length d ≡ n) (e : drop k l ≡ d ++ o) where
+  pub take-more : take (k + n) l ≡ take k l ++ d
+  take-more = take-add k n l ∙ ap (λ (z : List ℕ). take k l ++ take n z) e ∙ ap (λ (z : List ℕ). take k l ++ z) (take-at d o n size)
+
+  pub drop-more : drop (k + n) l ≡ o
+  drop-more = sym (drop-drop n k l) ∙ ap (drop n) e ∙ drop-at d o n size
 
 -- of the letters l, k are written and x leaves the others
-record Laid (s loc : List ℕ) (L : ℕ) (before after : List ℕ) (x : Reading) (k : ℕ) (l : List ℕ) : Type 0 where
-  rest : List ℕ
-  left : TextLeft s loc L x rest
-  others : letters rest ≡ drop k l
-  holds : after ≡ front (take k l) before
+pub record Laid (s loc : List ℕ) (L : ℕ) (before after : List ℕ) (x : Reading) (k : ℕ) (l : List ℕ) : Type 0 where
+  pub rest : List ℕ
+  pub left : TextLeft s loc L x rest
+  pub all : k ≤ length l
+  pub others : letters rest ≡ drop k l
+  pub holds : after ≡ front (take k l) before
 
 -- the loop's invariant
 pub record Putting (s loc : List ℕ) (L : ℕ) (from : Reading) (count : ℕ) (before after : List ℕ) (x : Reading) (k : ℕ) : Type 0 where
@@ -46,7 +52,7 @@ pub record Putting (s loc : List ℕ) (L : ℕ) (from : Reading) (count : ℕ) (
   pub within : k ≤ count
   pub room : count ≤ length before
   pub size : length after ≡ length before
-  laid : (text : List ℕ) → TextLeft s loc L from text → count ≤ length (letters text) → Laid s loc L before after x k (letters text)
+  pub laid : (text : List ℕ) → TextLeft s loc L from text → Laid s loc L before after x k (letters text)
 
 module _ {s loc : List ℕ} {L : ℕ} {from : Reading} {count : ℕ} {before : List ℕ} where
   pub putting-start : Ready (length s) from → count ≤ length before → Putting s loc L from count before before from 0
@@ -56,7 +62,7 @@ module _ {s loc : List ℕ} {L : ℕ} {from : Reading} {count : ℕ} {before : L
         within = omega arith;
         room = h;
         size = refl;
-        laid = λ text t n. record { rest = text; left = t; others = refl; holds = refl };
+        laid = λ text t. record { rest = text; left = t; all = omega arith; others = refl; holds = refl };
       }
 
   module _ {after : List ℕ} {x : Reading} {k : ℕ} (f : Putting s loc L from count before after x k) where
@@ -67,7 +73,7 @@ module _ {s loc : List ℕ} {L : ℕ} {from : Reading} {count : ℕ} {before : L
     putting-end h =
         let w = f .within in
         let e : k ≡ count = omega arith in
-        record { says = λ text t n. rw (← e) (f .laid text t n .holds) }
+        record { says = λ text t n. rw (← e) (f .laid text t .holds) }
 
     -- letters laid: a run of them, or one
     putting-on : {d : List ℕ} {n : ℕ} {y : Reading} {out : List ℕ} → Gives s loc L x d y → length d ≡ n → k + n ≤ count
@@ -80,16 +86,17 @@ module _ {s loc : List ℕ} {L : ℕ} {from : Reading} {count : ℕ} {before : L
           size = ap length e
               ∙ length-append (take k after ++ d) (drop (k + n) after)
               ∙ omega (arith, length-append (take k after) d, length-take-le k after (omega (arith, f .size, f .room)), length-drop (k + n) after, f .size, f .room);
-          laid = λ text t m.
+          laid = λ text t.
               let l = letters text in
-              let u = f .laid text t m in
+              let u = f .laid text t in
               let v = g .gives (u .rest) (u .left) in
               let z : drop k l ≡ d ++ letters (v .others) = sym (u .others) ∙ v .is in
               record {
                 rest = v .others;
                 left = v .left;
-                others = sym (sym (drop-drop n k l) ∙ ap (drop n) z ∙ drop-at d (letters (v .others)) n size);
-                holds = e ∙ rw (u .holds) (front-more l before d (letters (v .others)) k n size (omega arith) (omega (arith, f .room)) z);
+                all = omega (arith, u .all, length-drop k l, ap length z, length-append d (letters (v .others)));
+                others = sym (drop-more l d (letters (v .others)) k n size z);
+                holds = e ∙ rw (u .holds, take-more l d (letters (v .others)) k n size z) (front-more (take k l) before d k n (length-take-le k l (u .all)) size);
               };
         }
 
@@ -109,7 +116,7 @@ module _ {s loc : List ℕ} {L : ℕ} {from : Reading} {count : ℕ} {before : L
       putting-done g =
           record {
             says = λ text t n.
-                let u = f .laid text t n in
+                let u = f .laid text t in
                 let z : _≡_ {A = List ℕ} [] (getD (letters text) k 0 ∷ drop (k + 1) (letters text))
                 = sym (g (u .rest) (u .left)) ∙ u .others ∙ next-of (letters text) (omega arith) in
                 absurd (omega (arith, ap length z));

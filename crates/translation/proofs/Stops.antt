@@ -2,14 +2,16 @@
 use Prim.Native.Nat.{ℕ, suc, _≤_}
 use Prim.Native.Char.{code}
 use native.Mathlib.Omega.{arith}
-use mathlib.Core.Path.{_≡_, refl, sym, ap, _∙_}
+use mathlib.Core.Path.{_≡_, refl, sym, ap, _∙_, subst}
 use mathlib.Core.Bool.{Bool, true, false, cond, true≢false}
 use mathlib.Core.List.{List, [], _∷_, _++_, cons≢nil, append-cancel-left}
 use lib.ListN.{length, take, getD}
 use lib.Seq.{getD-take, length-take-le}
 use lib.Dec.{eqb}
 use borrow.Author.Tests.{eq-eqb, ne-eqb}
-use Rattle.paper.specs.Translation.{dropStop, hasStopInside}
+use Rattle.paper.specs.Translation.{letters, dropStop, hasStopInside}
+use Rattle.translation.specs.declared.reading.Reading.{Reading}
+use Rattle.translation.specs.Reading.{TextLeft, LetterIs, Ends}
 use Rattle.translation.specs.Translating.{NoStops, RightValue}
 
 module _ {c : ℕ} (n : c ≡ code "*" → ⊥) where
@@ -96,6 +98,32 @@ module _ {c : ℕ} (e : c ≡ code "*") where
   pub right-stop : (l : List ℕ) {v : List ℕ} → RightValue (c ∷ l) v → v ≡ []
   right-stop [] h = h .same ∙ stop-last
   right-stop (y ∷ l) h = absurd (true≢false (sym (stop-inside y l) ∙ h .clear))
+
+-- ---- where a reading ends
+
+-- no letter of the translation is left
+pub record Finished (s loc : List ℕ) (L : ℕ) (x : Reading) : Type 0 where
+  pub is : (rest : List ℕ) → TextLeft s loc L x rest → (hasStopInside (letters rest) ≡ false) × (dropStop (letters rest) ≡ [])
+
+module _ {s loc : List ℕ} {L : ℕ} {x : Reading} where
+  pub finished-done : ((text : List ℕ) → TextLeft s loc L x text → letters text ≡ []) → Finished s loc L x
+  finished-done g = record { is = λ rest h. rw (g rest h) (refl, refl) }
+
+  module _ {c : ℕ} {y : Reading} (g : LetterIs s loc L x c y) (e : c ≡ code "*") {r : Bool} (q : Ends s loc L y r) where
+    pub finished-last : r ≡ true → Finished s loc L x
+    finished-last t =
+        record {
+          is = λ rest h.
+              let u = g .one .gives rest h in
+              let z = subst (Ends s loc L y) t q .says (u .others) (u .left) in
+              rw (u .is, z) (stop-last-clear e, stop-last e);
+        }
+
+    pub stops-inside : r ≡ false → (rest : List ℕ) → TextLeft s loc L x rest → hasStopInside (letters rest) ≡ true
+    stops-inside t rest h =
+        let u = g .one .gives rest h in
+        let z = subst (Ends s loc L y) t q .says (u .others) (u .left) in
+        ap hasStopInside (u .is ∙ ap (λ (l : List ℕ). c ∷ l) (z .2)) ∙ stop-inside e (z .0) (z .1)
 
 -- ---- the translation is at the front of the letters
 

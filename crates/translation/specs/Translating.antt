@@ -43,6 +43,11 @@ pub record Lays (low high : ℕ) (l : List ℕ) (from count n : ℕ) (out after 
   pub inside : from + n ≤ count
   pub is : after ≡ paste out from l n
 
+-- the first n are no stop, and laid from a place on
+pub record LaysClear (low high : ℕ) (l : List ℕ) (from n : ℕ) (out after : List ℕ) : Type 0 where
+  pub clear : NoStops l 0 n
+  pub laid : Lays low high l from (length out) n out after
+
 -- ---- rule 28
 
 -- neither is the value "different from the translation", nor does a stop stand inside

@@ -12,7 +12,7 @@ ghost use Prim.Native.Nat.{_+_, _*_, _≤_};
 ghost use lib.ListN.{length};
 ghost use Rattle.codon.specs.Tables.{SetTable, TurnTable, LetterTable};
 ghost use Rattle.translation.specs.Reading.{Ready, spanLetters};
-ghost use Rattle.translation.specs.Translating.{Counted, sizeOf, NoStops, Clear, Lays, Measures, Puts, Writes};
+ghost use Rattle.translation.specs.Translating.{Counted, sizeOf, NoStops, Clear, Lays, LaysClear, Measures, Puts, Writes, Pours};
 
 pub enum Size {
     // The translation's length.
@@ -297,6 +297,89 @@ pub fn write(
         }
         Size::Stop => {
             return Size::Stop;
+        }
+    }
+}
+
+// The letters of codons at the front of a span that are no stop, laid into out from `from` on: how many.
+fn lay_clear(
+    r: &[u8],
+    low: usize,
+    high: usize,
+    turned: bool,
+    from: usize,
+    sets: &[u8; 256],
+    turns: &[u8; 256],
+    table: &[u8; 4096],
+    out: &mut [u8],
+) -> usize
+    requires { ⌜ low ≤ high ⌝ }
+    requires { ⌜ high ≤ length (now r) ⌝ }
+    requires { ⌜ from ≤ length (now out) ⌝ }
+    requires { ⌜ SetTable (now sets) ⌝ }
+    requires { ⌜ TurnTable (now turns) ⌝ }
+    requires { ⌜ LetterTable (now table) ⌝ }
+    ensures { λ n. ⌜ LaysClear low high (spanLetters (now (r .entry)) low high turned) from n (now (out .entry)) (now (out .exit)) ⌝ }
+{
+    let whole = least((high - low) / 3, out.len() - from);
+    let mut k: usize = 0;
+    while k < whole {
+        let a = letter_at(r, low, high, turned, k, sets, turns, table);
+        if a == b'*' {
+            return k;
+        }
+        out[from + k] = a;
+        k += 1;
+    }
+    k
+}
+
+// The translation at the front of out where no stop stands inside and it fits, each codon read once; else out may hold letters that were
+// written before that was known.
+pub fn pour(
+    r: &[u8],
+    loc: &[u8],
+    top: u32,
+    frame: usize,
+    sets: &[u8; 256],
+    turns: &[u8; 256],
+    table: &[u8; 4096],
+    out: &mut [u8],
+) -> Size
+    requires { ⌜ SetTable (now sets) ⌝ }
+    requires { ⌜ TurnTable (now turns) ⌝ }
+    requires { ⌜ LetterTable (now table) ⌝ }
+    ensures { λ y. ⌜ Pours (now (r .entry)) (now (loc .entry)) top frame (now (out .entry)) y (now (out .exit)) ⌝ }
+{
+    if r.len() < top as usize {
+        return Size::Stop;
+    }
+    let mut x = begin(r, loc, top, frame, sets, turns);
+    let mut i: usize = 0;
+    loop {
+        let low = x.low;
+        let high = x.high;
+        let turned = x.turned;
+        let k = lay_clear(r, low, high, turned, i, sets, turns, table, out);
+        let j = i + k;
+        match next(r, loc, onward(x, k), top, sets, turns, table) {
+            Letter::Done => {
+                return Size::Is(j);
+            }
+            Letter::Is(letter, y) => {
+                if letter == b'*' {
+                    if ends(r, loc, y, top, sets, turns, table) {
+                        return Size::Is(j);
+                    }
+                    return Size::Stop;
+                }
+                if out.len() <= j {
+                    return Size::Short;
+                }
+                out[j] = letter;
+                x = y;
+                i = j + 1;
+            }
         }
     }
 }

@@ -4,7 +4,8 @@ use native.Mathlib.Omega.{arith}
 use lib.ListN.{length}
 use Rattle.translation.specs.Reading.{residuesLeft}
 use Rattle.translation.proofs.Readings.{letters-are, run-falls}
-use Rattle.translation.proofs.Measuring.{Measuring, measuring-start, measuring-run, measuring-one, measuring-done, measuring-last, measuring-stop, measures, measures-none, measures-are}
+use Rattle.translation.proofs.Measuring.{Measuring, measuring-start, measuring-run, measuring-one, measuring-end, measuring-stop, measures, measures-none, measures-are}
+use Rattle.translation.proofs.Stops.{finished-done, finished-last, stops-inside}
 use borrow.Author.Needs.{needs}
 use Rattle.translation.proofs.writing.measure.Statement.{statement}
 use Rattle.translation.proofs.writing.measure.Tie as tie
@@ -47,7 +48,7 @@ sized-requires c κs = search needs
 returns-2 : tie.Need-returns-2 Inv-loop μ-loop
 returns-2 c =
     let f = measuring-run (c .before .before .before .before .before .before .before .loop .inv) (c .before .before .before .before .onward .ensures) (c .before .before .before .before .before .before .clear .ensures) (c .before .before .before .before .before .counted .ensures) in
-    measures-are (measures (c .before .before .before .before .before .before .before .before .begin .ensures) (measuring-done f (letters-are (c .before .before .before .next .ensures) (c .before .enum-told .given .1)))) (sym (c .sized .ensures))
+    measures-are (measures (c .before .before .before .before .before .before .before .before .begin .ensures) (measuring-end f (finished-done (letters-are (c .before .before .before .next .ensures) (c .before .enum-told .given .1))))) (sym (c .sized .ensures))
 
 enum-known-c : tie.Need-enum-known-c Inv-loop μ-loop
 enum-known-c c = search needs
@@ -64,13 +65,13 @@ returns-3 : tie.Need-returns-3 Inv-loop μ-loop
 returns-3 c =
     let f = measuring-run (c .before .before .before .before .before .before .before .before .before .before .before .loop .inv) (c .before .before .before .before .before .before .before .before .onward .ensures) (c .before .before .before .before .before .before .before .before .before .before .clear .ensures) (c .before .before .before .before .before .before .before .before .before .counted .ensures) in
     let g = letters-are (c .before .before .before .before .before .before .before .next .ensures) (c .before .before .before .before .before .c .given .1) in
-    measures-are (measures (c .before .before .before .before .before .before .before .before .before .before .before .before .begin .ensures) (measuring-last f g (c .before .before .before .if2 .taken) (c .before .before .ends .ensures) (c .before .if3 .taken))) (sym (c .sized2 .ensures))
+    measures-are (measures (c .before .before .before .before .before .before .before .before .before .before .before .before .begin .ensures) (measuring-end f (finished-last g (c .before .before .before .if2 .taken) (c .before .before .ends .ensures) (c .before .if3 .taken)))) (sym (c .sized2 .ensures))
 
 returns-4 : tie.Need-returns-4 Inv-loop μ-loop
 returns-4 c =
     let f = measuring-run (c .before .before .before .before .before .before .before .before .before .before .loop .inv) (c .before .before .before .before .before .before .before .onward .ensures) (c .before .before .before .before .before .before .before .before .before .clear .ensures) (c .before .before .before .before .before .before .before .before .counted .ensures) in
     let g = letters-are (c .before .before .before .before .before .before .next .ensures) (c .before .before .before .before .c .given .1) in
-    measures (c .before .before .before .before .before .before .before .before .before .before .before .begin .ensures) (measuring-stop f g (c .before .before .if2 .taken) (c .before .ends .ensures) (c .if3 .left))
+    measures (c .before .before .before .before .before .before .before .before .before .before .before .begin .ensures) (measuring-stop f (stops-inside g (c .before .before .if2 .taken) (c .before .ends .ensures) (c .if3 .left)))
 
 counted-requires-2 : tie.Need-counted-requires-2 Inv-loop μ-loop
 counted-requires-2 c κs = c .before .before .before .before .before .before .counted .ensures .within

@@ -1,10 +1,10 @@
--- `features::is_coding` meets its contract, by kinds.
+-- `coding::is_coding` meets its contract, by kinds.
 use mathlib.Core.Path.{refl}
-use Rattle.paper.specs.Rules.{dna, rna, aa}
-use Rattle.features.proofs.Keys.{coding-named, coding-aa, coding-other}
+use Rattle.paper.specs.Rules.{dna, rna}
+use Rattle.coding.proofs.Keys.{coding-named, coding-aa, coding-other}
 use borrow.Author.Needs.{needs}
-use Rattle.features.proofs.is_coding.Statement.{statement}
-use Rattle.features.proofs.is_coding.Tie as tie
+use Rattle.coding.proofs.is_coding.Statement.{statement}
+use Rattle.coding.proofs.is_coding.Tie as tie
 
 enum-told : tie.Need-enum-told
 enum-told c = search needs
