@@ -4,7 +4,7 @@ use native.Mathlib.Omega.{arith}
 use mathlib.Core.Path.{_≡_, refl, subst}
 use mathlib.Core.Bool.{Bool, true, false}
 use mathlib.Core.Logic.{_↔_}
-use mathlib.Core.List.{List, [], _∷_}
+use mathlib.Core.List.{List, _∷_}
 use lib.ListN.{drop}
 use Rattle.paper.specs.Bytes.{isBlank}
 use Rattle.paper.specs.Lists.{Nth, Numbered}
@@ -19,11 +19,11 @@ use Rattle.walk.proofs.Places.{from}
 use Rattle.walk.proofs.Items.{qualifier-leads}
 use Rattle.walk.proofs.Sequences.{feature-leads}
 use Rattle.walk.proofs.Loops.{left-none, left-some}
+use Rattle.walk.proofs.Loops as loops
 use Rattle.sequences.proofs.Totals.{sequence-leads}
 use Rattle.finding.specs.Items.{Asked, nameOf, formOf, Seeks}
 use Rattle.finding.specs.declared.Item.{Item}
 use Rattle.finding.specs.declared.Item.the-variants.{Sequence, Feature, Qualifier}
-use Rattle.finding.specs.declared.Place.{Place}
 use Rattle.finding.specs.declared.Place.the-variants.{Missing, At}
 
 pub sequence-over : {s : List ℕ} {at : ℕ} {r : FoundSequence} → FindsSequence s at r → Over (child layout.sequence) (Not isBlank) s at (r .next)
@@ -70,6 +70,12 @@ module _ (item : Item) {s : List ℕ} {first k : ℕ} where
   ahead-all h = record { says = λ l e d fol. record { rest = l; stands = d; same = λ x. rw h (λ y. y, λ y. y) } }
 
   module _ {at ahead : ℕ} {t : Bool} (there : There (tagOf (nameOf item)) s at t) (w : Ahead item s first k at ahead) where
+    first-item : t ≡ true → (l : List (Asked item)) (e : ℕ) (d : Stands (each (formOf item) l) s first e) (fol : Starts closing (drop e s))
+        → loops.Item (formOf item) s (w .says l e d fol .rest) at e
+    first-item h l e d fol =
+        let r = w .says l e d fol in
+        left-some (nameOf item) (formOf item) (leads item) closing (apart item) h there fol (r .rest) (r .stands)
+
     pub ahead-none : t ≡ false → Seeks item s first k Missing
     ahead-none h =
         record {
@@ -85,7 +91,7 @@ module _ (item : Item) {s : List ℕ} {first k : ℕ} where
           says =
               λ l e d fol.
               let r = w .says l e d fol in
-              let i = left-some (nameOf item) (formOf item) (leads item) closing (apart item) h there fol (r .rest) (r .stands) in
+              let i = first-item h l e d fol in
               record {
                 item = i .item;
                 numbered = r .same (i .item) .1 (front (i .is) z);
@@ -102,7 +108,7 @@ module _ (item : Item) {s : List ℕ} {first k : ℕ} where
             says =
                 λ l e d fol.
                 let r = w .says l e d fol in
-                let i = left-some (nameOf item) (formOf item) (leads item) closing (apart item) h there fol (r .rest) (r .stands) in
+                let i = first-item h l e d fol in
                 record {
                   rest = i .others;
                   stands = from (over .is (i .item) (i .end) (i .here) (i .follows)) (i .behind);
@@ -115,7 +121,6 @@ module _ (item : Item) {s : List ℕ} {first k : ℕ} where
           record {
             says =
                 λ l e d fol.
-                let r = w .says l e d fol in
-                let i = left-some (nameOf item) (formOf item) (leads item) closing (apart item) h there fol (r .rest) (r .stands) in
+                let i = first-item h l e d fol in
                 absurd (omega (arith, stuck, i .onward, over .is (i .item) (i .end) (i .here) (i .follows)));
           }

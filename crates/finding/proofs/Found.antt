@@ -2,11 +2,11 @@
 use Prim.Native.Nat.{ℕ}
 use mathlib.Core.Path.{_≡_, refl, sym, ap, _∙_, subst}
 use mathlib.Core.Bool.{Bool, true, false, not, true≢false}
-use mathlib.Core.List.{List, []}
+use mathlib.Core.List.{List}
 use mathlib.Core.Option.{Option, none, some}
 use Rattle.paper.specs.Lists.{Numbered}
 use Rattle.paper.specs.Form.{Form}
-use Rattle.paper.specs.Tree.{Feature, Table, Sequence, Listing, featuresIn, qualifiersOf}
+use Rattle.paper.specs.Tree.{Feature, Table, Listing, featuresIn, qualifiersOf}
 use Rattle.paper.specs.Layout.{LaidOut, child}
 use Rattle.paper.specs.Layout as layout
 use Rattle.paper.specs.Rules.{Skipped}
@@ -25,7 +25,7 @@ use Rattle.header.specs.Headers.{JudgesHeader}
 use Rattle.header.specs.declared.Headed.{Headed}
 use Rattle.texts.specs.Texts.{TellsSkipped}
 use Rattle.finding.specs.Items.{Here, PlaceIs, SeeksIn}
-use Rattle.finding.specs.Finds.{FirstIs, SequenceIs, FeatureIn, FeatureFound, FeatureIs, FeatureAsked, QualifierIn, QualifierFound, QualifierIs, QualifierAsked}
+use Rattle.finding.specs.Finds.{FirstIs, SequenceIs, FeatureFound, FeatureIs, FeatureAsked, QualifierFound, QualifierAsked}
 use Rattle.finding.specs.declared.Place.{Place}
 use Rattle.finding.specs.declared.Place.the-variants.{Missing, At}
 use Rattle.finding.specs.declared.FeatureAt.{FeatureAt}

@@ -5,7 +5,6 @@ use paper::Verdict;
 use walk::FoundFeature;
 use walk::FoundQualifier;
 use walk::FoundSequence;
-use walk::FoundTable;
 ghost use Rattle.paper.specs.Bytes.{isBlank};
 ghost use Rattle.scan.specs.Follow.{Not};
 ghost use Rattle.walk.specs.Stands.{There, tagOf, Over};
@@ -147,8 +146,14 @@ pub fn find_sequence(listing: &[u8], k: usize) -> SequenceAt
 }
 
 pub enum FeatureAt {
-    Refused { rule: usize, place: usize },
-    Found { sequence: FoundSequence, feature: FoundFeature },
+    Refused {
+        rule: usize,
+        place: usize,
+    },
+    Found {
+        sequence: FoundSequence,
+        feature: FoundFeature,
+    },
 }
 
 // The feature number j of a sequence that was found.
