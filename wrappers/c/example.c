@@ -18,7 +18,6 @@
 static uint8_t *read_listing(const char *name, size_t *length)
 {
     const size_t most = (size_t)DREICHNOOK_LIMIT + 1;
-    /* Never NULL for an empty file, which the calls wouldn't take. */
     uint8_t *listing = malloc(most);
     FILE *file = fopen(name, "rb");
     int failed = listing == NULL || file == NULL;
@@ -32,7 +31,9 @@ static uint8_t *read_listing(const char *name, size_t *length)
         free(listing);
         return NULL;
     }
-    return listing;
+    /* No more memory than the listing takes; not NULL for an empty one, which the calls wouldn't take. */
+    uint8_t *fitted = realloc(listing, *length > 0 ? *length : 1);
+    return fitted != NULL ? fitted : listing;
 }
 
 /* Prints all translations of a sequence. The size of the answer isn't known beforehand, so the room grows. */
