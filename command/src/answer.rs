@@ -3,9 +3,7 @@
 use crate::arguments::Question;
 use crate::json::{Fields, Json};
 use crate::place::visible;
-use dreichnook::{
-    Counts, Feature, Kind, Listing, Operator, Part, Qualifier, Refusal, Sequence, Span,
-};
+use dreichnook::{Counts, Feature, Listing, Operator, Part, Qualifier, Refusal, Sequence, Span};
 use std::io::{self, Write};
 
 pub enum Answer<'a> {
@@ -46,7 +44,7 @@ impl Answer<'_> {
                 Ok(())
             }
             Answer::Sequence(sequence) => {
-                writeln!(out, "kind {}", kind(sequence.kind))?;
+                writeln!(out, "kind {}", sequence.kind)?;
                 writeln!(out, "size {}", sequence.residues.bytes.len())?;
                 writeln!(out, "residues {}", visible(sequence.residues.bytes))
             }
@@ -62,7 +60,7 @@ impl Answer<'_> {
                 }
             }
             Answer::Spans(operator, spans) => {
-                writeln!(out, "operator {}", operator_word(*operator))?;
+                writeln!(out, "operator {operator}")?;
                 writeln!(out, "count {}", spans.len())?;
                 for span in spans {
                     let Span { first, last, marks } = span;
@@ -86,12 +84,10 @@ impl Answer<'_> {
                 let counts = figures(counts).map(|(word, count)| (word, Json::from(count)));
                 [verdict].into_iter().chain(counts).collect()
             }
-            Answer::Sequence(Sequence {
-                kind: said,
-                residues,
-            }) => {
-                vec![("kind", kind(*said).into()), ("residues", part(residues))]
-            }
+            Answer::Sequence(Sequence { kind, residues }) => vec![
+                ("kind", Json::Text(kind.to_string())),
+                ("residues", part(residues)),
+            ],
             Answer::Feature(Feature { key, location }) => {
                 vec![("key", part(key)), ("location", part(location))]
             }
@@ -100,7 +96,7 @@ impl Answer<'_> {
                 ("value", value.as_ref().map_or(Json::Null, part)),
             ],
             Answer::Spans(operator, spans) => vec![
-                ("operator", operator_word(*operator).into()),
+                ("operator", Json::Text(operator.to_string())),
                 ("count", spans.len().into()),
                 ("spans", Json::List(spans.iter().map(span).collect())),
             ],
@@ -125,22 +121,6 @@ pub fn figures(counts: &Counts) -> [(&'static str, u64); 5] {
         ("judged", counts.judged),
         ("unjudged", counts.unjudged),
     ]
-}
-
-pub fn kind(kind: Kind) -> &'static str {
-    match kind {
-        Kind::Dna => "DNA",
-        Kind::Rna => "RNA",
-        Kind::Aa => "AA",
-    }
-}
-
-pub fn operator_word(operator: Operator) -> &'static str {
-    match operator {
-        Operator::None => "none",
-        Operator::Join => "join",
-        Operator::Order => "order",
-    }
 }
 
 /// The marks of a span in words; `<` and `>` as they are written.

@@ -1,6 +1,6 @@
 //! The page of `show` for an accepted listing.
 
-use crate::answer::{kind, mark_words, operator_word};
+use crate::answer::mark_words;
 use crate::place::visible;
 use crate::show::{ShownFeature, ShownSequence, Walk};
 use dreichnook::{Counts, Operator, Span};
@@ -37,7 +37,7 @@ pub fn write_sequence(shown: &ShownSequence, out: &mut impl Write) -> io::Result
         None => return writeln!(out, "\nsequence {number}: skipped"),
     };
     let residues = sequence.residues.bytes;
-    let (kind, size) = (kind(sequence.kind), residues.len());
+    let (kind, size) = (sequence.kind, residues.len());
     writeln!(out, "\nsequence {number}: {kind}, {size} residues")?;
     for (line, first) in residues.chunks(LINE).zip((1..).step_by(LINE)).take(LINES) {
         write!(out, "{first:>8}")?;
@@ -69,15 +69,10 @@ fn write_feature(number: u64, shown: &ShownFeature, out: &mut impl Write) -> io:
         shown_spans.push(format!(".. ({} spans)", spans.len()));
     }
     let operator = match operator {
-        Operator::None => "",
-        operator => operator_word(*operator),
+        Operator::None => String::new(),
+        operator => format!("{operator}: "),
     };
-    let separator = if operator.is_empty() { "" } else { ": " };
-    writeln!(
-        out,
-        "    spans {operator}{separator}{}",
-        shown_spans.join(", ")
-    )?;
+    writeln!(out, "    spans {operator}{}", shown_spans.join(", "))?;
     match &shown.translation {
         Some(Ok(letters)) => writeln!(out, "    translation {}", short(letters))?,
         Some(Err(refusal)) => writeln!(out, "    translation {refusal}")?,

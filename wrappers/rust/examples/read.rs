@@ -16,7 +16,7 @@ fn main() -> Result<(), Box<dyn Error>> {
         match listing.sequence(k) {
             Ok(sequence) => {
                 let size = sequence.residues.bytes.len();
-                println!("sequence {k}: {:?}, {size} residues", sequence.kind);
+                println!("sequence {k}: {}, {size} residues", sequence.kind);
                 print!("{}", String::from_utf8(listing.translations(k)?)?);
             }
             Err(refusal) if refusal.number == Refusal::SKIPPED => println!("sequence {k}: skipped"),

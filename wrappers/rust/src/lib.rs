@@ -16,6 +16,8 @@ mod refusal;
 pub use listing::Listing;
 pub use refusal::Refusal;
 
+use std::fmt;
+
 /// The longest listing, in bytes.
 pub const LIMIT: usize = 16_777_216;
 
@@ -47,6 +49,16 @@ pub enum Kind {
     Aa,
 }
 
+impl fmt::Display for Kind {
+    fn fmt(&self, f: &mut fmt::Formatter<'_>) -> fmt::Result {
+        f.write_str(match self {
+            Kind::Dna => "DNA",
+            Kind::Rna => "RNA",
+            Kind::Aa => "AA",
+        })
+    }
+}
+
 #[derive(Clone, Copy, Debug, PartialEq, Eq)]
 pub struct Sequence<'a> {
     pub kind: Kind,
@@ -72,6 +84,16 @@ pub enum Operator {
     None,
     Join,
     Order,
+}
+
+impl fmt::Display for Operator {
+    fn fmt(&self, f: &mut fmt::Formatter<'_>) -> fmt::Result {
+        f.write_str(match self {
+            Operator::None => "none",
+            Operator::Join => "join",
+            Operator::Order => "order",
+        })
+    }
 }
 
 /// One span of a location.
