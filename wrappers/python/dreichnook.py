@@ -118,7 +118,7 @@ class Listing:
 
     def __init__(self, listing):
         # bytes don't change while they are lent.
-        self._bytes = bytes(listing)
+        self._bytes = listing if isinstance(listing, bytes) else bytes(memoryview(listing))
 
     def check(self) -> Counts:
         return Counts(*self._ask("check", (), [c_uint64] * 5))

@@ -98,6 +98,10 @@ class Answers(unittest.TestCase):
         self.refused(2, 0, Listing(bytes(LIMIT)).check)
         self.refused(1, 0, Listing(bytes(LIMIT + 1)).check)
 
+    def test_only_bytes(self):
+        for other in ("<?xml", 5, None, [60, 63]):
+            self.assertRaises(TypeError, Listing, other)
+
     def test_words(self):
         self.assertEqual(str(Refusal(17, 603)), "refused by rule 17 at byte 603: division isn't PAT")
         self.assertEqual(str(Refusal(32, 0)), "refused with 32: no such feature")
