@@ -55,10 +55,11 @@ fn answered(
 ) -> (u8, io::Result<()>) {
     let written = match (arguments.question, answer) {
         (Question::Show { from, limit }, Answer::Counts(counts)) => {
-            if from == 0 || from > counts.total {
-                let number = Refusal::NO_SEQUENCE;
-                let none = Refusal { number, place: 0 };
-                return (REFUSED, refused(arguments, bytes, none, out));
+            match Listing::new(bytes).sequence(from) {
+                Err(refusal) if refusal.number == Refusal::NO_SEQUENCE => {
+                    return (REFUSED, refused(arguments, bytes, refusal, out));
+                }
+                _ => {}
             }
             let walk = Walk::new(bytes, counts.total, from, limit);
             if arguments.json {
@@ -117,7 +118,8 @@ fn refused(
     if arguments.json {
         return writeln!(out, "{}", Json::Object(refused.json()));
     }
-    if let Question::Show { .. } = arguments.question {
+    let is_shown = matches!(arguments.question, Question::Show { .. });
+    if is_shown && refusal.is_of_listing() {
         return refused.write_page(&name, out);
     }
     refused.write(out)?;

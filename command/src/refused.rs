@@ -30,7 +30,7 @@ impl Refused<'_> {
         }
     }
 
-    /// The page of `show`: the rule in words, and the line with a mark.
+    /// The page of `show` for a refused listing: the rule in words, and the line with a mark.
     pub fn write_page(&self, name: &str, out: &mut impl Write) -> io::Result<()> {
         let Refusal { number, place } = self.refusal;
         writeln!(out, "{name}: refused")?;
