@@ -251,6 +251,7 @@ fn a_question_without_an_answer_is_refused() {
             30,
             "no such sequence",
         ),
+        ("show annex-iii.xml --from 0", 30, "no such sequence"),
         (
             "show annex-iii.xml --from 12 --json",
             30,
