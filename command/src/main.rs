@@ -91,11 +91,9 @@ fn show_json(counts: &Answer, mut walk: Walk, out: &mut impl Write) -> io::Resul
         .map(|shown| answer_again(shown).map(|shown| shown.json()))
         .collect();
     fields.push(("sequences", Json::List(shown?)));
-    fields.push(("next", walk.next_number().into()));
-    fields.push((
-        "stopped_amid",
-        walk.stopped_amid().map_or(Json::Null, Json::from),
-    ));
+    let number = |number: Option<u64>| number.map_or(Json::Null, Json::from);
+    fields.push(("next", number(walk.next_number())));
+    fields.push(("stopped_amid", number(walk.stopped_amid())));
     writeln!(out, "{}", Json::Object(fields))
 }
 

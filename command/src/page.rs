@@ -90,22 +90,21 @@ fn write_feature(number: u64, shown: &ShownFeature, out: &mut impl Write) -> io:
 
 /// What isn't shown, and how to see it.
 pub fn write_foot(walk: &Walk, total: u64, out: &mut impl Write) -> io::Result<()> {
-    if let Some(k) = walk.stopped_amid() {
-        writeln!(out, "\nStopped amid sequence {k}: each question checks the whole listing, and these were many.")?;
+    let next = match walk.next_number() {
+        Some(next) => next,
+        None => return Ok(()),
+    };
+    if walk.stopped_amid().is_some() {
+        writeln!(out, "\nStopped amid sequence {next} of {total}.")?;
         writeln!(
             out,
-            "Sequence {k} to its end, however long it takes: --from {k} --limit 1"
+            "Each question checks the whole listing, and these were many. \
+             --limit N shows N sequences to their end, however long it takes."
         )?;
+    } else {
+        writeln!(out, "\nNot shown: sequences {next} to {total}.")?;
     }
-    let next = walk.next_number();
-    if next <= total {
-        let more = total - next + 1;
-        writeln!(
-            out,
-            "\nNot shown: sequences {next} to {total}, {more} more. Go on with --from {next}"
-        )?;
-    }
-    Ok(())
+    writeln!(out, "Go on with --from {next}")
 }
 
 fn span(span: &Span) -> String {

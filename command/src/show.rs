@@ -25,6 +25,7 @@ pub struct ShownFeature<'a> {
 /// walk has a purse, counted in bytes that are read; when it is empty, the walk stops, maybe amid a sequence.
 pub struct Walk<'a> {
     listing: Listing<'a>,
+    total: u64,
     next: u64,
     last: u64,
     price: u64,
@@ -44,6 +45,7 @@ impl<'a> Walk<'a> {
         let last = limit.map_or(total, |limit| total.min((from - 1).saturating_add(limit)));
         Walk {
             listing: Listing::new(bytes),
+            total,
             next: from,
             last,
             price: bytes.len() as u64 + LEAST,
@@ -57,9 +59,10 @@ impl<'a> Walk<'a> {
         self.stopped_amid
     }
 
-    /// The sequence to show next.
-    pub fn next_number(&self) -> u64 {
-        self.next
+    /// The sequence to go on with, where not all are shown to their end.
+    pub fn next_number(&self) -> Option<u64> {
+        let next = self.stopped_amid.unwrap_or(self.next);
+        Some(next).filter(|&next| next <= self.total)
     }
 
     fn pays(&mut self, questions: u64) -> bool {
@@ -202,7 +205,7 @@ mod tests {
     const ANNEX: &[u8] = include_bytes!("../../specimens/annex-iii.xml");
 
     /// The sequences shown with how many features each, where the walk stopped amid one, and what is next.
-    fn walked(mut walk: Walk) -> (Vec<(u64, usize)>, Option<u64>, u64) {
+    fn walked(mut walk: Walk) -> (Vec<(u64, usize)>, Option<u64>, Option<u64>) {
         let shown = (&mut walk).map(Result::unwrap);
         let shown = shown.map(|shown| (shown.number, shown.features.len()));
         (shown.collect(), walk.stopped_amid(), walk.next_number())
@@ -219,24 +222,24 @@ mod tests {
         let (shown, stopped, next) = walked(Walk::new(ANNEX, 11, 1, None));
         let features = shown.iter().map(|(_, features)| features).sum::<usize>();
         assert_eq!((shown.len(), features), (11, 23));
-        assert_eq!((stopped, next), (None, 12));
+        assert_eq!((stopped, next), (None, None));
     }
 
     #[test]
     fn a_limit_of_sequences() {
         let limited = |from, limit| walked(Walk::new(ANNEX, 11, from, Some(limit)));
-        assert_eq!(limited(3, 2), (vec![(3, 2), (4, 1)], None, 5));
-        assert_eq!(limited(11, u64::MAX), (vec![(11, 1)], None, 12));
-        assert_eq!(limited(1, 0), (vec![], None, 1));
+        assert_eq!(limited(3, 2), (vec![(3, 2), (4, 1)], None, Some(5)));
+        assert_eq!(limited(11, u64::MAX), (vec![(11, 1)], None, None));
+        assert_eq!(limited(1, 0), (vec![], None, Some(1)));
     }
 
     #[test]
     fn an_empty_purse_stops_the_walk() {
         // Sequence 3 costs 1, twice 3 with 3 qualifiers' questions, and 3 to learn that there is no more.
-        assert_eq!(walked(with_purse(16)), (vec![(3, 2)], None, 4));
-        assert_eq!(walked(with_purse(15)), (vec![(3, 2)], Some(3), 4));
-        assert_eq!(walked(with_purse(6)), (vec![(3, 1)], Some(3), 4));
-        assert_eq!(walked(with_purse(1)), (vec![(3, 0)], Some(3), 4));
-        assert_eq!(walked(with_purse(0)), (vec![], None, 3));
+        assert_eq!(walked(with_purse(16)), (vec![(3, 2)], None, Some(4)));
+        assert_eq!(walked(with_purse(15)), (vec![(3, 2)], Some(3), Some(3)));
+        assert_eq!(walked(with_purse(6)), (vec![(3, 1)], Some(3), Some(3)));
+        assert_eq!(walked(with_purse(1)), (vec![(3, 0)], Some(3), Some(3)));
+        assert_eq!(walked(with_purse(0)), (vec![], None, Some(3)));
     }
 }

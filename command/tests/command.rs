@@ -358,8 +358,7 @@ sequence 4: AA, 19 residues
     );
 
     let (out, _, _) = said(run("show annex-iii.xml --from 7 --limit 1"));
-    let tail =
-        "\n\nsequence 7: skipped\n\nNot shown: sequences 8 to 11, 4 more. Go on with --from 8\n";
+    let tail = "\n\nsequence 7: skipped\n\nNot shown: sequences 8 to 11.\nGo on with --from 8\n";
     assert!(out.ends_with(tail), "{out}");
     let (out, _, _) = said(run("show annex-iii.xml --from 7 --limit 1 --json"));
     let tail =
