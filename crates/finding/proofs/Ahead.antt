@@ -40,7 +40,7 @@ apart Sequence = record { clash = refl; sharps = refl }
 apart Feature = record { clash = refl; sharps = refl }
 apart Qualifier = record { clash = refl; sharps = refl }
 
--- what is left of l at `at`: number k of l is what `ahead` items stand before
+-- what is left of l at `at`; the number k of l is the one behind the first `ahead` of it
 pub record Rest {A : Type 0} (F : A → Form) (s : List ℕ) (l : List A) (k at ahead e : ℕ) : Type 0 where
   pub rest : List A
   pub stands : Stands (each F rest) s at e
@@ -70,6 +70,7 @@ module _ (item : Item) {s : List ℕ} {first k : ℕ} where
   ahead-all h = record { says = λ l e d fol. record { rest = l; stands = d; same = λ x. rw h (λ y. y, λ y. y) } }
 
   module _ {at ahead : ℕ} {t : Bool} (there : There (tagOf (nameOf item)) s at t) (w : Ahead item s first k at ahead) where
+    -- an item that starts here is the first of what is left
     first-item : t ≡ true → (l : List (Asked item)) (e : ℕ) (d : Stands (each (formOf item) l) s first e) (fol : Starts closing (drop e s))
         → loops.Item (formOf item) s (w .says l e d fol .rest) at e
     first-item h l e d fol =
@@ -116,6 +117,7 @@ module _ (item : Item) {s : List ℕ} {first k : ℕ} where
                 };
           }
 
+      -- an item is never empty
       pub ahead-stuck : n ≤ at → Seeks item s first k Missing
       ahead-stuck stuck =
           record {
