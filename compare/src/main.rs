@@ -9,6 +9,7 @@ mod mutants;
 mod proved;
 mod report;
 mod translation;
+mod xmllint;
 
 use std::path::Path;
 use std::process::ExitCode;
