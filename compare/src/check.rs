@@ -39,7 +39,7 @@ fn judged(input: &[u8]) -> Verdict<Counts> {
 }
 
 /// Listings with one damage, each rule in turn.
-fn damages(count: u64, seed: u64) -> impl Iterator<Item = Input> {
+pub fn damages(count: u64, seed: u64) -> impl Iterator<Item = Input> {
     let rules = VALUE_RULES.cycle().zip(0..count);
     rules.map(move |(rule, number)| Input {
         name: format!("damage {number} of seed {seed}, meant for rule {rule}"),

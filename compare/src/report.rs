@@ -142,7 +142,7 @@ impl<P: Fn(&[u8]) -> Verdict, J: Fn(&[u8]) -> Verdict> Comparison<P, J> {
 }
 
 /// Keeps an input with a difference.
-fn keep(folder: &Path, number: usize, input: &[u8]) {
+pub fn keep(folder: &Path, number: usize, input: &[u8]) {
     let file = folder.join(format!("differs-{number}.xml"));
     let kept = fs::create_dir_all(folder).and_then(|()| fs::write(&file, input));
     match kept {
