@@ -1,4 +1,4 @@
-//! The proved code, as the crate `trial` lends it: the only unsafe lines of this package.
+//! The inner calls of the proved code, as the crate `trial` lends them. Unsafe lines stand here and in boundary.rs only.
 
 use crate::location::Facts;
 use crate::translation::Region;
