@@ -47,14 +47,29 @@ impl Xmllint {
         let name = format!("target/compare/xmllint-{}-{count}", process::id());
         let folder = root.join(name);
         fs::create_dir_all(&folder).map_err(|error| failed(&folder, error))?;
-        Ok(Xmllint {
+        let xmllint = Xmllint {
             dtd: root.join("specimens/ST26SequenceListing_V1_2.dtd"),
             folder,
             waiting: Batch::default(),
             running: None,
             batches: 0,
             opinions: Opinions::default(),
-        })
+        };
+        xmllint.must_refuse("<ST26SequenceListing/>")?;
+        Ok(xmllint)
+    }
+
+    /// One that refuses nothing would be no opinion.
+    fn must_refuse(&self, text: &str) -> Result<(), String> {
+        let file = self.folder.join("refused.xml");
+        fs::write(&file, text).map_err(|error| failed(&file, error))?;
+        let listing = (String::new(), file);
+        let status = self.command(std::slice::from_ref(&listing)).status();
+        match status.map_err(missing)?.code() {
+            // xmllint's number for what isn't valid.
+            Some(3) => Ok(()),
+            other => Err(format!("xmllint doesn't validate: status {other:?}")),
+        }
     }
 
     /// Asks about a listing, now or later.
