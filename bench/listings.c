@@ -1,5 +1,6 @@
 /* Measures the proved check and layout reader beside libxml2 and expat: listings ROUNDS DTD FOLDER TRAP..
    FOLDER has what bench/run makes: MIX-SIZE.xml for each mix and size, and TRAP.xml of 16 MiB for each trap. */
+#include "../include/dreichnook.h"
 #include "expat_peer.h"
 #include "libxml2.h"
 #include "table.h"
@@ -15,12 +16,15 @@ typedef size_t reader(const uint8_t *listing, size_t length, size_t *place);
 /* The check, without its counts. */
 static size_t check(const uint8_t *listing, size_t length, size_t *place)
 {
-    size_t total = 0;
-    size_t skipped = 0;
-    size_t features = 0;
-    size_t judged = 0;
-    size_t unjudged = 0;
-    return trial_check(listing, length, place, &total, &skipped, &features, &judged, &unjudged);
+    uint64_t at = 0;
+    uint64_t total = 0;
+    uint64_t skipped = 0;
+    uint64_t features = 0;
+    uint64_t judged = 0;
+    uint64_t unjudged = 0;
+    uint32_t rule = dreichnook_check(listing, length, &at, &total, &skipped, &features, &judged, &unjudged);
+    *place = at;
+    return rule;
 }
 
 /* How many times as fast as libxml2 the check and the layout reader must be; 0 without a target. */

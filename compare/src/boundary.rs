@@ -1,6 +1,7 @@
 //! The public calls, as libdreichnook.a gives them to other programs.
 
 use crate::lookups::{Answer, Question, Room};
+use judge::{Counts, Refusal};
 
 extern "C" {
     fn dreichnook_check(
@@ -88,6 +89,52 @@ extern "C" {
 const UNSET: u64 = 0xdead_beef_dead_beef;
 const UNSET_BYTE: u8 = 0xee;
 
+/// The whole check by the proved reader, in the judge's form.
+/// Counts with a refusal, or a place without one, are told as a rule that the judge never gives.
+pub fn check(input: &[u8]) -> Result<Counts, Refusal> {
+    // A number that the call forgets to write is a difference.
+    let mut place = UNSET;
+    let mut counts = [UNSET; 5];
+    let [total, skipped, features, judged, unjudged] = &mut counts;
+    // SAFETY: the call reads `length` bytes from `listing` and writes one number through each pointer.
+    let rule = unsafe {
+        dreichnook_check(
+            input.as_ptr(),
+            input.len(),
+            &mut place,
+            total,
+            skipped,
+            features,
+            judged,
+            unjudged,
+        )
+    };
+    checked(rule, place, counts)
+}
+
+/// The numbers of a check in the judge's form.
+fn checked(rule: u32, place: u64, counts: [u64; 5]) -> Result<Counts, Refusal> {
+    let [total, skipped, features, judged, unjudged] = counts;
+    let at = usize::try_from(place).unwrap_or(usize::MAX);
+    match (rule, place, counts) {
+        (0, 0, _) => Ok(Counts {
+            total,
+            skipped,
+            features,
+            judged,
+            unjudged,
+        }),
+        (1.., _, [0, 0, 0, 0, 0]) => Err(Refusal {
+            rule,
+            place: at,
+        }),
+        _ => Err(Refusal {
+            rule: u32::MAX,
+            place: at,
+        }),
+    }
+}
+
 /// Asks the archive. What it writes into the room is seen there.
 pub fn ask(input: &[u8], question: Question, room: &mut Room) -> Answer {
     let (listing, length) = (input.as_ptr(), input.len());
@@ -149,5 +196,26 @@ pub fn ask(input: &[u8], question: Question, room: &mut Room) -> Answer {
         number,
         place,
         shown,
+    }
+}
+
+#[cfg(test)]
+mod tests {
+    use super::*;
+
+    #[test]
+    fn contradicting_numbers_are_no_verdict() {
+        let refused = |rule, place| Err(Refusal { rule, place });
+        let counts = Counts {
+            total: 1,
+            skipped: 2,
+            features: 3,
+            judged: 4,
+            unjudged: 5,
+        };
+        assert_eq!(checked(0, 0, [1, 2, 3, 4, 5]), Ok(counts));
+        assert_eq!(checked(18, 7, [0; 5]), refused(18, 7));
+        assert_eq!(checked(18, 7, [0, 0, 0, 0, 1]), refused(u32::MAX, 7));
+        assert_eq!(checked(0, 7, [1, 2, 3, 4, 5]), refused(u32::MAX, 7));
     }
 }

@@ -2,7 +2,7 @@
 
 use crate::report::{Comparison, Input, Verdict};
 use crate::xmllint::Xmllint;
-use crate::{large, layout, mutants, proved};
+use crate::{boundary, large, layout, mutants};
 use judge::generate::sized::TRAPS;
 use judge::generate::{one_damage, several_damages, Rng};
 use judge::{Counts, Listing};
@@ -17,7 +17,7 @@ const VALUE_RULES: RangeInclusive<u32> = 10..=29;
 pub fn run(count: u64, seed: u64, root: &Path) -> Result<bool, String> {
     let specimens = layout::specimens(&root.join("specimens"))?;
     let folder = root.join("target/compare");
-    let comparison = Comparison::new(proved::check, judged, Some(folder));
+    let comparison = Comparison::new(boundary::check, judged, Some(folder));
     let mut check = Check::new(comparison, root)?;
     check.kind("specimens", layout::specimen_inputs(specimens))?;
     check.kind("generated", layout::generated(count, seed))?;
@@ -237,7 +237,7 @@ mod tests {
 
     #[test]
     fn the_proved_check_agrees() {
-        let comparison = Comparison::new(proved::check, judged, None);
+        let comparison = Comparison::new(boundary::check, judged, None);
         let mut check = Check::new(comparison, layout::root()).unwrap();
         check.kind("generated", layout::generated(400, 1)).unwrap();
         check.kind("one damage", damages(400, 1)).unwrap();

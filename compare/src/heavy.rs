@@ -147,7 +147,7 @@ fn coding(location: &str, qualifiers: &str) -> String {
 #[cfg(test)]
 mod tests {
     use super::*;
-    use crate::proved;
+    use crate::boundary;
 
     const SIZE: usize = 60_000;
 
@@ -171,7 +171,7 @@ mod tests {
     }
 
     fn rule_of(bytes: &[u8]) -> u32 {
-        match proved::check(bytes) {
+        match boundary::check(bytes) {
             Ok(_) => 0,
             Err(refusal) => refusal.rule,
         }
