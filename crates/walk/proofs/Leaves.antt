@@ -65,7 +65,7 @@ close-ends {name} p q c o =
 -- ---- texts
 
 -- no text is written with `<` or `"`
-free-lt : (b : ℕ) → all (others 60) (spell b)
+pub free-lt : (b : ℕ) → all (others 60) (spell b)
 free-lt =
     spell-cases (λ (b : ℕ) (w : List ℕ). all (others 60) w)
     (refl, (refl, (refl, (refl, tt)))) (refl, (refl, (refl, (refl, tt)))) (refl, (refl, (refl, (refl, (refl, tt)))))

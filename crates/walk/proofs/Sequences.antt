@@ -9,11 +9,11 @@ use lib.ListN.{length, drop}
 use Rattle.paper.specs.Bytes.{bytes, isBlank, isPrinted}
 use Rattle.paper.specs.Form.{Form, these, lit, _·_, each, each⁺}
 use Rattle.paper.specs.Tree.{Text, Feature, Table, Sequence, qualifiersOf}
-use Rattle.paper.specs.Layout.{blanks, gap, text, tag, attribute, leaf, child, child?, holding, holding?, qualifier, quals, feature, table, otherIds, inner, sequence}
+use Rattle.paper.specs.Layout.{blanks, gap, text, tag, close, attribute, leaf, child, child?, holding, holding?, qualifier, quals, feature, table, otherIds, inner, sequence}
 use Rattle.scan.specs.Follow.{Not, Starts, Named, anything, closing}
 use Rattle.scan.specs.Texts.{Scanned}
 use Rattle.scan.proofs.Fronts.{Leads, leads-all, leads-seq, leads-less, leads-by, leads-sharp, whole, maybe-starts, each-starts, starts-sharp, named-sharp, gap-blank}
-use Rattle.walk.specs.Stands.{Stands, Past, There, others, Ends, Over, Finds, FindsMaybe, FindsQualifier, FindsFeature, entering, leaving, shutting, OpensSo, featureTail, FindsAttribute, FindsIds, FindsTable, FindsSequence, residuesNext, tableNext}
+use Rattle.walk.specs.Stands.{Stands, Past, There, others, Ends, Over, Finds, FindsMaybe, FindsQualifier, FindsFeature, entering, leaving, shutting, OpensSo, featureTail, FindsAttribute, FindsIds, FindsTable, FindsSequence, residuesNext, tableNext, tableClosing}
 use Rattle.walk.specs.declared.Found.{Found}
 use Rattle.walk.specs.declared.FoundMaybe.{FoundMaybe}
 use Rattle.walk.specs.declared.FoundQualifier.{FoundQualifier}
@@ -97,6 +97,12 @@ features-sharp l at w z d c =
 abbrev Tabled : Table ℕ → Form
 Tabled t = tag (bytes "INSDSeq_feature-table") · holding (bytes "INSDSeq_feature-table") (each⁺ (child feature) (t .features)) · blanks
 
+-- behind its features stands its end tag
+table-closes : {s : List ℕ} {at e : ℕ} → Stands (leaving (bytes "INSDSeq_feature-table")) s at e → Starts tableClosing (drop at s)
+table-closes d =
+    let k = bytes "</INSDSeq_feature-table" in
+    starts-at k (leads-seq k (close (bytes "INSDSeq_feature-table")) blanks (leads-seq k (these k · blanks) (lit ">") (leads-seq k (these k) blanks (leads-all k)))) d
+
 -- a table is an element at its place
 table-at : (t : Table ℕ) {s : List ℕ} {at e : ℕ} → Stands (child table t) s at e → (at ≡ t .place) × Stands (Tabled t) s at e
 table-at t d =
@@ -114,7 +120,7 @@ module _ {s : List ℕ} {at : ℕ} where
       record { table = rw (k .0) refl; next = k .1 }
 
   pub table-present : {q : Bool} {a b c n : ℕ} → q ≡ true → There (bytes "<INSDSeq_feature-table") s at q → Ends (tag (bytes "INSDSeq_feature-table")) anything s at a
-      → Ends entering (Not isBlank) s a b → Over (each (child feature)) (Starts closing) s b c → Ends (leaving (bytes "INSDSeq_feature-table")) (Not isBlank) s c n
+      → Ends entering (Not isBlank) s a b → Over (each (child feature)) (Starts tableClosing) s b c → Ends (leaving (bytes "INSDSeq_feature-table")) (Not isBlank) s c n
       → FindsTable s at (record { present = true; place = at; first = b; next = n })
   table-present h t p i f l o e d fol =
       let k = there-some (bytes "INSDSeq_feature-table") (child table) table-leads residuesNext (record { clash = refl; sharps = refl }) fol
@@ -125,7 +131,7 @@ module _ {s : List ℕ} {at : ℕ} where
       let g = wider (some-each (child feature) (x .features)) (u .children) in
       record {
         table = rw (k .1) (refl, record { is = y .0; stop = u .end; features = g; closes = u .closes });
-        next = l .is e (from (f .is (x .features) (u .end) g (u .closes)) (u .leaves)) (starts-sharp isBlank residuesNext refl (drop e s) fol);
+        next = l .is e (from (f .is (x .features) (u .end) g (table-closes (u .leaves))) (u .leaves)) (starts-sharp isBlank residuesNext refl (drop e s) fol);
       }
 
 -- ---- a sequence

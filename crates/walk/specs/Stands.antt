@@ -1,5 +1,5 @@
 -- Texts that are known to stand in a listing: what is promised of a walk along them.
-use Prim.Native.Nat.{ℕ, _+_, _≤_}
+use Prim.Native.Nat.{ℕ, _+_, _≤_, _<_}
 use mathlib.Core.Path.{_≡_}
 use mathlib.Core.Bool.{Bool, true, false, not}
 use mathlib.Core.List.{List, [], _∷_, _++_}
@@ -141,6 +141,34 @@ pub record IsFeature (s : List ℕ) (f : Feature ℕ) (e : ℕ) (r : FoundFeatur
 
 abbrev pub FindsFeature : List ℕ → ℕ → FoundFeature → Type 0
 FindsFeature s at r = (f : Feature ℕ) (e : ℕ) → Stands (child feature f) s at e → Not isBlank (drop e s) → IsFeature s f e r
+
+-- ---- the end of a feature table
+
+-- what follows its features
+abbrev pub tableClosing : List (List ℕ)
+tableClosing = bytes "</INSDSeq_feature-table" ∷ []
+
+-- `<`, and six bytes further `S`: so starts that end tag, and no tag inside the table
+abbrev pub EndingAt : List ℕ → ℕ → Type 0
+EndingAt s at = (getD s at 0 ≡ 60) × (getD s (at + 6) 0 ≡ 83)
+
+-- the test of the two bytes, as a number
+pub record Ending (a b r : ℕ) : Type 0 where
+  pub small : r ≤ 1
+  pub none : r ≡ 0 → a ≡ 60 → b ≡ 83 → ⊥
+  pub some : ¬ (r ≡ 0) → (a ≡ 60) × (b ≡ 83)
+
+-- from a place to another it starts nowhere
+abbrev pub NoEnding : List ℕ → ℕ → ℕ → Type 0
+NoEnding s from to = (k : ℕ) → from ≤ k → k < to → EndingAt s k → ⊥
+
+pub record Endings (s : List ℕ) (at r : ℕ) : Type 0 where
+  pub none : r ≡ 0 → NoEnding s at (at + 32)
+
+pub record FirstEnding (s : List ℕ) (at r : ℕ) : Type 0 where
+  pub onward : at ≤ r
+  pub each : NoEnding s at r
+  pub there : r + 6 < length s → EndingAt s r
 
 -- ---- sequences
 

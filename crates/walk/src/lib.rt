@@ -3,7 +3,7 @@
 // Relies on the paper, and in its proofs on the scan's laws of what may follow what.
 use scan::Step;
 ghost use mathlib.Core.Path.{_≡_};
-ghost use Prim.Native.Nat.{_≤_};
+ghost use Prim.Native.Nat.{_+_, _≤_};
 ghost use mathlib.Core.Bool.{false};
 ghost use lib.ListN.{length, getD};
 ghost use Rattle.paper.specs.Bytes.{bytes, isBlank};
@@ -11,7 +11,7 @@ ghost use Rattle.paper.specs.Layout as Form;
 ghost use Rattle.paper.specs.Form.{each};
 ghost use Rattle.scan.specs.Follow.{Not, Starts, anything, closing};
 ghost use Rattle.scan.specs.Texts.{allowedIn, isPlain, Scanned};
-ghost use Rattle.walk.specs.Stands.{Past, There, others, tagOf, Ends, Finds, FindsContent, FindsMaybe, entering, leaving, shutting, OpensSo, Over, FindsQualifier, FindsFeature, featureTail, FindsTable, FindsAttribute, FindsIds, FindsSequence};
+ghost use Rattle.walk.specs.Stands.{Past, There, others, tagOf, Ends, Finds, FindsContent, FindsMaybe, entering, leaving, shutting, OpensSo, Over, FindsQualifier, FindsFeature, featureTail, Ending, Endings, FirstEnding, tableClosing, FindsTable, FindsAttribute, FindsIds, FindsSequence};
 ghost use Rattle.walk.specs.Header.{FindsAttributeMaybe, FindsSpoken, FindsIdentification, FindsIdentificationMaybe, FindsHeading, FindsParty, FindsAttributes, FindsParties, line, FindsHeader};
 
 // A text of the listing, from its first byte to the one behind its last.
@@ -371,22 +371,64 @@ pub fn feature_over(s: &[u8], at: usize) -> usize
     feature_end(s, a, long)
 }
 
-// Past the features that stand here.
-fn features_over(s: &[u8], first: usize) -> usize
-    ensures { λ r. ⌜ Over (each (Form.child Form.feature)) (Starts closing) (now (s .entry)) first r ⌝ }
+// ---- the end of a feature table
+
+// 1 for `<` and, six bytes further, `S`: so starts `</INSDSeq_feature-table`, and no tag inside the table. As a number, to be summed without a branch.
+fn ending(a: u8, b: u8) -> u8
+    ensures { λ r. ⌜ Ending a b r ⌝ }
 {
-    let mut at = first;
-    loop {
-        if feature_here(s, at) {
-            let next = feature_over(s, at);
-            if next <= at {
-                return at;
-            }
-            at = next;
-        } else {
-            return at;
+    if a == b'<' {
+        if b == b'S' {
+            return 1;
         }
     }
+    0
+}
+
+// 0 only where the table ends at none of 32 places. A sum with no branch: it is compiled to vector code.
+fn endings(s: &[u8], at: usize) -> u8
+    requires { ⌜ at + 38 ≤ length (now s) ⌝ }
+    ensures { λ r. ⌜ Endings (now (s .entry)) at r ⌝ }
+{
+    let mut sum: u8 = 0;
+    let mut j: usize = 0;
+    while j < 32 {
+        sum += ending(s[at + j], s[at + j + 6]);
+        j += 1;
+    }
+    sum
+}
+
+// The first such place from here on, byte by byte.
+fn ending_from(s: &[u8], at: usize) -> usize
+    requires { ⌜ at ≤ length (now s) ⌝ }
+    ensures { λ r. ⌜ FirstEnding (now (s .entry)) at r ⌝ }
+{
+    let mut i = at;
+    while 6 < s.len() - i {
+        if ending(s[i], s[i + 6]) != 0 {
+            return i;
+        }
+        i += 1;
+    }
+    i
+}
+
+// Past the features that stand here: they aren't read, only their end is sought.
+fn table_end(s: &[u8], first: usize) -> usize
+    ensures { λ r. ⌜ Over (each (Form.child Form.feature)) (Starts tableClosing) (now (s .entry)) first r ⌝ }
+{
+    if s.len() < first {
+        return first;
+    }
+    let mut at = first;
+    while 38 <= s.len() - at {
+        if endings(s, at) != 0 {
+            return ending_from(s, at);
+        }
+        at += 32;
+    }
+    ending_from(s, at)
 }
 
 // ---- sequences
@@ -405,7 +447,7 @@ fn table(s: &[u8], at: usize) -> FoundTable
     if opens(s, at, b"INSDSeq_feature-table") {
         let a = tag(s, at, b"INSDSeq_feature-table");
         let first = enter(s, a);
-        let b = features_over(s, first);
+        let b = table_end(s, first);
         return FoundTable {
             present: true,
             place: at,

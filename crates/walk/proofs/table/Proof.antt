@@ -19,8 +19,8 @@ tag-requires c κs = search needs
 enter-requires : tie.Need-enter-requires
 enter-requires c κs = search needs
 
-features-over-requires : tie.Need-features-over-requires
-features-over-requires c κs = search needs
+table-end-requires : tie.Need-table-end-requires
+table-end-requires c κs = search needs
 
 slice-aggregate-leave : tie.Need-slice-aggregate-leave
 slice-aggregate-leave c = search needs
@@ -29,7 +29,7 @@ leave-requires : tie.Need-leave-requires
 leave-requires c κs = search needs
 
 returns : tie.Need-returns
-returns c = table-present (c .before .before .before .before .before .before .if1 .taken) (c .before .before .before .before .before .before .before .opens .ensures) (c .before .before .before .before .tag .ensures) (c .before .before .before .enter .ensures) (c .before .before .features-over .ensures) (c .leave .ensures)
+returns c = table-present (c .before .before .before .before .before .before .if1 .taken) (c .before .before .before .before .before .before .before .opens .ensures) (c .before .before .before .before .tag .ensures) (c .before .before .before .enter .ensures) (c .before .before .table-end .ensures) (c .leave .ensures)
 
 returns-2 : tie.Need-returns-2
 returns-2 c = table-absent (c .if1 .left) (c .before .opens .ensures)
@@ -43,7 +43,7 @@ table-spec =
     slice-aggregate-tag
     tag-requires
     enter-requires
-    features-over-requires
+    table-end-requires
     slice-aggregate-leave
     leave-requires
     returns
