@@ -96,9 +96,10 @@ module _ {s out : List ℕ} {known : Known} {g : FoundFeature} {p : Plan} (plans
               let d = coded plans z shr shl q f e k i keeps in
               let m = poured v d in
               let t = dropStop (lettersOf r start (d .location)) in
-              let o = line-once (Translates.translation (d .judged) (m .0)) l in
-              (omega (arith, m .1, ap length o, length-append t (bytes "\n")),
-              rw (add-one n) (take-suc-set mid n 10 h) ∙ ap (λ (a : List ℕ). take n a ++ bytes "\n") (m .2) ∙ ap (λ (a : List ℕ). a ++ bytes "\n") (take-at t (drop (length t) out) n (sym (m .1))) ∙ sym o);
+              let o = line-once (Translates.translation (d .judged) (m .0)) l in (
+                omega (arith, m .1, ap length o, length-append t (bytes "\n")),
+                rw (add-one n) (take-suc-set mid n 10 h) ∙ ap (λ (a : List ℕ). take n a ++ bytes "\n") (m .2) ∙ ap (λ (a : List ℕ). a ++ bytes "\n") (take-at t (drop (length t) out) n (sym (m .1))) ∙ sym o,
+              );
         }
 
     -- the line doesn't fit
@@ -207,9 +208,10 @@ module _ {s before out : List ℕ} {first at end : ℕ} {known : Known} {t : Boo
               let lx = length-append (u .0) (u .1) in
               let ex = ap length (u .2) in
               let a = was (keep-front l y keep) (u .0) (u .3) (omega (arith, lx, ex, fits, lb)) in
-              let b = put .says q y e k i (keep y (in-last l y)) (u .1) (u .4) (omega (arith, lx, ex, fits, lb, ll, a .0)) in
-              (omega (arith, a .0, b .0, lx, ex),
-              back-take out end ys (w .within) (put .kept) r (omega (arith, put .within, put .kept)) ∙ ap (λ (v : List ℕ). v ++ take r ys) (a .1) ∙ ap (_++_ (u .0)) (b .1) ∙ sym (u .2)));
+              let b = put .says q y e k i (keep y (in-last l y)) (u .1) (u .4) (omega (arith, lx, ex, fits, lb, ll, a .0)) in (
+                omega (arith, a .0, b .0, lx, ex),
+                back-take out end ys (w .within) (put .kept) r (omega (arith, put .within, put .kept)) ∙ ap (λ (v : List ℕ). v ++ take r ys) (a .1) ∙ ap (_++_ (u .0)) (b .1) ∙ sym (u .2),
+              ));
         }
 
     pub putting-stuck : n ≤ at → PutsLines s first known before out
