@@ -2,9 +2,9 @@
 use Prim.Native.Nat.{ℕ, _+_, _-_, _≤_, _<_}
 use Prim.Native.Char.{code}
 use native.Mathlib.Omega.{arith}
-use mathlib.Core.Path.{_≡_, refl, sym, ap, _∙_, subst}
+use mathlib.Core.Path.{_≡_, refl, sym, ap, _∙_}
 use mathlib.Core.Bool.{true}
-use mathlib.Core.List.{List, [], _∷_, _++_, append-assoc, append-nil}
+use mathlib.Core.List.{List, _∷_, _++_, append-assoc, append-nil}
 use lib.ListN.{length, take, drop, set, length-append}
 use lib.Seq.{length-take-le}
 use Rattle.paper.specs.Locations.{spans}
@@ -78,10 +78,11 @@ module _ {s loc : List ℕ} {L : ℕ} {from : Reading} {before : List ℕ} where
               let u = f .put .laid text t in
               let z = g .is (u .rest) (u .left) in
               let e : dropStop l ≡ take k l
-              = b .keep ∙ ap (λ (w : List ℕ). take k l ++ w) (ap dropStop (sym (u .others)) ∙ z .1) ∙ append-nil (take k l) in
-              (b .clear ∙ ap hasStopInside (sym (u .others)) ∙ z .0,
-              sym (ap length e ∙ length-take-le k l (u .all)),
-              u .holds ∙ ap (λ (w : List ℕ). front w before) (sym e));
+              = b .keep ∙ ap (λ (w : List ℕ). take k l ++ w) (ap dropStop (sym (u .others)) ∙ z .1) ∙ append-nil (take k l) in (
+                b .clear ∙ ap hasStopInside (sym (u .others)) ∙ z .0,
+                sym (ap length e ∙ length-take-le k l (u .all)),
+                u .holds ∙ ap (λ (w : List ℕ). front w before) (sym e),
+              );
         }
 
     pub pouring-stop : ((rest : List ℕ) → TextLeft s loc L x rest → hasStopInside (letters rest) ≡ true) → Tells s loc L from before size.Stop after

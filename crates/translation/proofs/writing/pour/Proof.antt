@@ -1,6 +1,5 @@
 -- Run by run. Invariant: the letters poured stand at the front and are no stop, and the others are left.
 use native.Mathlib.Omega.{arith}
-use mathlib.Core.Path.{refl}
 use lib.ListN.{length}
 use Rattle.translation.specs.Reading.{residuesLeft}
 use Rattle.translation.proofs.Readings.{letters-are, run-falls}
