@@ -1,8 +1,8 @@
 -- A feature's line at the front of lent bytes, and the lines of all features, each where the one before ended.
-use Prim.Native.Nat.{ℕ, suc, _+_, _-_, _≤_, _<_}
+use Prim.Native.Nat.{ℕ, _+_, _-_, _≤_, _<_}
 use native.Mathlib.Numerals.{add-one}
 use native.Mathlib.Omega.{arith}
-use mathlib.Core.Path.{_≡_, refl, sym, ap, _∙_, subst, subst₂}
+use mathlib.Core.Path.{_≡_, refl, sym, ap, _∙_, subst}
 use mathlib.Core.Bool.{Bool, true, false}
 use mathlib.Core.List.{List, [], _∷_, _++_}
 use lib.ListN.{length, take, drop, set, length-append, length-drop, length-set}
@@ -10,8 +10,8 @@ use lib.Seq.{take-all, take-at, take-append-le, take-append-add, take-suc-set, l
 use Rattle.paper.specs.Bytes.{bytes}
 use Rattle.paper.specs.Tree.{Sequence, Feature}
 use Rattle.paper.specs.Translation.{dropStop, hasStopInside}
-use Rattle.paper.specs.Answers.{front, Translates, Lines}
-use Rattle.walk.specs.Stands.{There, IsFeature, FindsFeature}
+use Rattle.paper.specs.Answers.{Translates, Lines}
+use Rattle.walk.specs.Stands.{There, FindsFeature}
 use Rattle.walk.specs.declared.FoundFeature.{FoundFeature}
 use Rattle.translation.specs.Translating.{lettersOf, Poured, Pours}
 use Rattle.translation.specs.declared.writing.Size.{Size}
@@ -19,7 +19,7 @@ use Rattle.translation.specs.declared.writing.Size.the-variants as size
 use Rattle.judging.specs.Known.{Shows, Knows}
 use Rattle.judging.specs.declared.Known.{Known}
 use Rattle.coding.proofs.Lists.{in-last}
-use Rattle.translating.specs.Plans.{Keeps, PlanIs, Plans}
+use Rattle.translating.specs.Plans.{PlanIs, Plans}
 use Rattle.translating.specs.Lines.{Line, PassesFeature, KeepAll, PutsDash, PutsLine, PutsLines}
 use Rattle.translating.specs.declared.Plan.{Plan}
 use Rattle.translating.specs.declared.Plan.the-variants.{NoCds, From}
