@@ -1,8 +1,8 @@
 -- A feature's line at the front of lent bytes, and the lines of all features, each where the one before ended.
-use Prim.Native.Nat.{ℕ, suc, _+_, _-_, _≤_, _<_}
+use Prim.Native.Nat.{ℕ, _+_, _-_, _≤_, _<_}
 use native.Mathlib.Numerals.{add-one}
 use native.Mathlib.Omega.{arith}
-use mathlib.Core.Path.{_≡_, refl, sym, ap, _∙_, subst, subst₂}
+use mathlib.Core.Path.{_≡_, refl, sym, ap, _∙_, subst}
 use mathlib.Core.Bool.{Bool, true, false}
 use mathlib.Core.List.{List, [], _∷_, _++_}
 use lib.ListN.{length, take, drop, set, length-append, length-drop, length-set}
@@ -10,8 +10,8 @@ use lib.Seq.{take-all, take-at, take-append-le, take-append-add, take-suc-set, l
 use Rattle.paper.specs.Bytes.{bytes}
 use Rattle.paper.specs.Tree.{Sequence, Feature}
 use Rattle.paper.specs.Translation.{dropStop, hasStopInside}
-use Rattle.paper.specs.Answers.{front, Translates, Lines}
-use Rattle.walk.specs.Stands.{There, IsFeature, FindsFeature}
+use Rattle.paper.specs.Answers.{Translates, Lines}
+use Rattle.walk.specs.Stands.{There, FindsFeature}
 use Rattle.walk.specs.declared.FoundFeature.{FoundFeature}
 use Rattle.translation.specs.Translating.{lettersOf, Poured, Pours}
 use Rattle.translation.specs.declared.writing.Size.{Size}
@@ -19,7 +19,7 @@ use Rattle.translation.specs.declared.writing.Size.the-variants as size
 use Rattle.judging.specs.Known.{Shows, Knows}
 use Rattle.judging.specs.declared.Known.{Known}
 use Rattle.coding.proofs.Lists.{in-last}
-use Rattle.translating.specs.Plans.{Keeps, PlanIs, Plans}
+use Rattle.translating.specs.Plans.{PlanIs, Plans}
 use Rattle.translating.specs.Lines.{Line, PassesFeature, KeepAll, PutsDash, PutsLine, PutsLines}
 use Rattle.translating.specs.declared.Plan.{Plan}
 use Rattle.translating.specs.declared.Plan.the-variants.{NoCds, From}
@@ -96,9 +96,10 @@ module _ {s out : List ℕ} {known : Known} {g : FoundFeature} {p : Plan} (plans
               let d = coded plans z shr shl q f e k i keeps in
               let m = poured v d in
               let t = dropStop (lettersOf r start (d .location)) in
-              let o = line-once (Translates.translation (d .judged) (m .0)) l in
-              (omega (arith, m .1, ap length o, length-append t (bytes "\n")),
-              rw (add-one n) (take-suc-set mid n 10 h) ∙ ap (λ (a : List ℕ). take n a ++ bytes "\n") (m .2) ∙ ap (λ (a : List ℕ). a ++ bytes "\n") (take-at t (drop (length t) out) n (sym (m .1))) ∙ sym o);
+              let o = line-once (Translates.translation (d .judged) (m .0)) l in (
+                omega (arith, m .1, ap length o, length-append t (bytes "\n")),
+                rw (add-one n) (take-suc-set mid n 10 h) ∙ ap (λ (a : List ℕ). take n a ++ bytes "\n") (m .2) ∙ ap (λ (a : List ℕ). a ++ bytes "\n") (take-at t (drop (length t) out) n (sym (m .1))) ∙ sym o,
+              );
         }
 
     -- the line doesn't fit
@@ -207,9 +208,10 @@ module _ {s before out : List ℕ} {first at end : ℕ} {known : Known} {t : Boo
               let lx = length-append (u .0) (u .1) in
               let ex = ap length (u .2) in
               let a = was (keep-front l y keep) (u .0) (u .3) (omega (arith, lx, ex, fits, lb)) in
-              let b = put .says q y e k i (keep y (in-last l y)) (u .1) (u .4) (omega (arith, lx, ex, fits, lb, ll, a .0)) in
-              (omega (arith, a .0, b .0, lx, ex),
-              back-take out end ys (w .within) (put .kept) r (omega (arith, put .within, put .kept)) ∙ ap (λ (v : List ℕ). v ++ take r ys) (a .1) ∙ ap (_++_ (u .0)) (b .1) ∙ sym (u .2)));
+              let b = put .says q y e k i (keep y (in-last l y)) (u .1) (u .4) (omega (arith, lx, ex, fits, lb, ll, a .0)) in (
+                omega (arith, a .0, b .0, lx, ex),
+                back-take out end ys (w .within) (put .kept) r (omega (arith, put .within, put .kept)) ∙ ap (λ (v : List ℕ). v ++ take r ys) (a .1) ∙ ap (_++_ (u .0)) (b .1) ∙ sym (u .2),
+              ));
         }
 
     pub putting-stuck : n ≤ at → PutsLines s first known before out

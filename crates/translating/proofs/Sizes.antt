@@ -4,15 +4,15 @@ use native.Mathlib.Omega.{arith}
 use mathlib.Core.Path.{_≡_, refl, subst}
 use mathlib.Core.Bool.{Bool, true, false}
 use mathlib.Core.List.{List, [], _++_}
-use lib.ListN.{length, length-append}
+use lib.ListN.{length-append}
 use Rattle.paper.specs.Bytes.{bytes}
 use Rattle.paper.specs.Tree.{Sequence, Feature}
-use Rattle.paper.specs.Translation.{dropStop}
+use Rattle.paper.specs.Translation.{dropStop, hasStopInside}
 use Rattle.paper.specs.Answers.{Translates}
 use Rattle.paper.specs.Answers as paper
 use Rattle.walk.specs.Stands.{There, FindsFeature}
 use Rattle.walk.specs.declared.FoundFeature.{FoundFeature}
-use Rattle.translation.specs.Translating.{lettersOf, Measures}
+use Rattle.translation.specs.Translating.{lettersOf, Measured, Measures}
 use Rattle.translation.specs.declared.writing.Size.{Size}
 use Rattle.translation.specs.declared.writing.Size.the-variants as size
 use Rattle.translation.proofs.Measuring.{measures-are}
@@ -54,45 +54,28 @@ module _ {s : List ℕ} {known : Known} {g : FoundFeature} {p : Plan} {room : �
 
   module _ {r loc : List ℕ} {start : ℕ} {y : Size} (z : p ≡ From start) (shr : Shows s (known .residues .from) (known .residues .to) r)
       (shl : Shows s (g .location .from) (g .location .to) loc) (w : Measures r loc (known .top) start room y) where
-    pub size-is : {n : ℕ} → y ≡ size.Is n → n < room → MeasuresLine s known g room (Is (n + 1))
-    size-is v h =
+    -- by its letters
+    size-by : {x : Lined} (v : Size) → y ≡ v → Within room x
+        → ((l : List ℕ) → Measured l room v → (hasStopInside l ≡ false) × SizeIs (dropStop l ++ bytes "\n") room x) → MeasuresLine s known g room x
+    size-by v u within by =
         record {
-          within = omega (arith, h);
+          within = within;
           says =
               λ q f e k i keeps.
               let d = coded plans z shr shl q f e k i keeps in
-              let m = measures-are w v .says (d .location) (d .codes) in
-              let x = dropStop (lettersOf r start (d .location)) in
-              record {
-                line = x ++ bytes "\n";
-                is = Line.translation (Translates.translation (d .judged) (m .0));
-                size = (omega (arith, m .1, length-append x (bytes "\n")), omega (arith, h));
-              };
+              let l = lettersOf r start (d .location) in
+              let m = by l (measures-are w u .says (d .location) (d .codes)) in
+              record { line = dropStop l ++ bytes "\n"; is = Line.translation (Translates.translation (d .judged) (m .0)); size = m .1 };
         }
+
+    pub size-is : {n : ℕ} → y ≡ size.Is n → n < room → MeasuresLine s known g room (Is (n + 1))
+    size-is {n} u h = size-by (size.Is n) u (omega (arith, h)) (λ l m. (m .0, (omega (arith, m .1, length-append (dropStop l) (bytes "\n")), omega (arith, h))))
 
     pub size-full : {n : ℕ} → y ≡ size.Is n → room ≤ n → MeasuresLine s known g room Short
-    size-full v h =
-        record {
-          within = tt;
-          says =
-              λ q f e k i keeps.
-              let d = coded plans z shr shl q f e k i keeps in
-              let m = measures-are w v .says (d .location) (d .codes) in
-              let x = dropStop (lettersOf r start (d .location)) in
-              record { line = x ++ bytes "\n"; is = Line.translation (Translates.translation (d .judged) (m .0)); size = omega (arith, h, m .1, length-append x (bytes "\n")) };
-        }
+    size-full {n} u h = size-by (size.Is n) u tt (λ l m. (m .0, omega (arith, h, m .1, length-append (dropStop l) (bytes "\n"))))
 
     pub size-short : y ≡ size.Short → MeasuresLine s known g room Short
-    size-short v =
-        record {
-          within = tt;
-          says =
-              λ q f e k i keeps.
-              let d = coded plans z shr shl q f e k i keeps in
-              let m = measures-are w v .says (d .location) (d .codes) in
-              let x = dropStop (lettersOf r start (d .location)) in
-              record { line = x ++ bytes "\n"; is = Line.translation (Translates.translation (d .judged) (m .0)); size = omega (arith, m .1, length-append x (bytes "\n")) };
-        }
+    size-short u = size-by size.Short u tt (λ l m. (m .0, omega (arith, m .1, length-append (dropStop l) (bytes "\n"))))
 
     pub size-stop : {x : Lined} → y ≡ size.Stop → Dashes room x → MeasuresLine s known g room x
     size-stop v dash =

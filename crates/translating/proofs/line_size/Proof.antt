@@ -1,5 +1,4 @@
 -- `translating::line_size` meets its contract.
-use native.Mathlib.Omega.{arith}
 use Rattle.translating.proofs.Sizes.{size-none, size-unjudged, size-is, size-full, size-short, size-stop}
 use borrow.Author.Needs.{needs}
 use Rattle.translating.proofs.line_size.Statement.{statement}
