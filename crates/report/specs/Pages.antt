@@ -16,7 +16,7 @@ pub record LineBehind (at : ℕ) (before word : List ℕ) (n end : ℕ) (after :
   pub stands : Behind at before (line word n) end after
   pub short : end ≤ at + length word + 22
 
--- the first bytes of the room are the verdict's page
+-- the first bytes of the room are the verdict's page, of at most 161 bytes whatever its numbers are
 pub record Shows (v : Verdict) (size : ℕ) (room : List ℕ) : Type 0 where
-  pub fits : size ≤ 256
+  pub fits : size ≤ 161
   pub holds : take size room ≡ page v

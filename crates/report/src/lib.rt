@@ -2,6 +2,7 @@
 use paper::Verdict;
 ghost use Prim.Native.Nat.{_+_, _≤_};
 ghost use lib.ListN.{length};
+ghost use Rattle.paper.specs.declared.Verdict.the-variants.{Accepted, Refused};
 ghost use Rattle.report.specs.Pages.{Behind, LineBehind, Shows};
 
 // A text behind the first `at` bytes: where it ends.
@@ -30,11 +31,38 @@ fn put_line(word: &[u8], n: usize, at: usize, out: &mut [u8]) -> usize
     put_text(b"\n", c, out)
 }
 
-// The program's lines for a verdict, at the front of lent room: how many bytes. They are at most 161, whatever the numbers are.
+fn put_accepted(
+    total: usize,
+    skipped: usize,
+    features: usize,
+    judged: usize,
+    unjudged: usize,
+    out: &mut [u8],
+) -> usize
+    requires { ⌜ 161 ≤ length (now out) ⌝ }
+    ensures { λ r. ⌜ Shows (Accepted total skipped features judged unjudged) r (now (out .exit)) ⌝ }
+{
+    let a = put_text(b"verdict accepted\n", 0, out);
+    let b = put_line(b"total", total, a, out);
+    let c = put_line(b"skipped", skipped, b, out);
+    let d = put_line(b"features", features, c, out);
+    let e = put_line(b"judged", judged, d, out);
+    put_line(b"unjudged", unjudged, e, out)
+}
+
+fn put_refused(rule: usize, place: usize, out: &mut [u8]) -> usize
+    requires { ⌜ 161 ≤ length (now out) ⌝ }
+    ensures { λ r. ⌜ Shows (Refused rule place) r (now (out .exit)) ⌝ }
+{
+    let a = put_text(b"verdict refused\n", 0, out);
+    let b = put_line(b"rule", rule, a, out);
+    put_line(b"place", place, b, out)
+}
+
+// The program's lines for a verdict, at the front of lent room: how many bytes.
 pub fn put_page(verdict: Verdict, out: &mut [u8; 256]) -> usize
     ensures { λ r. ⌜ Shows verdict r (now (out .exit)) ⌝ }
 {
-    let room: &mut [u8] = out;
     match verdict {
         Verdict::Accepted {
             total,
@@ -42,18 +70,7 @@ pub fn put_page(verdict: Verdict, out: &mut [u8; 256]) -> usize
             features,
             judged,
             unjudged,
-        } => {
-            let a = put_text(b"verdict accepted\n", 0, room);
-            let b = put_line(b"total", total, a, room);
-            let c = put_line(b"skipped", skipped, b, room);
-            let d = put_line(b"features", features, c, room);
-            let e = put_line(b"judged", judged, d, room);
-            put_line(b"unjudged", unjudged, e, room)
-        }
-        Verdict::Refused { rule, place } => {
-            let a = put_text(b"verdict refused\n", 0, room);
-            let b = put_line(b"rule", rule, a, room);
-            put_line(b"place", place, b, room)
-        }
+        } => put_accepted(total, skipped, features, judged, unjudged, out),
+        Verdict::Refused { rule, place } => put_refused(rule, place, out),
     }
 }

@@ -35,12 +35,11 @@ loop-less : tie.Need-loop-less Inv-loop μ-loop
 loop-less c = search needs
 
 loop-again : tie.Need-loop-again Inv-loop μ-loop
-loop-again c =
-    (
-      omega arith,
-      length-set (c .before .before .loop .out) (c .before .before .before .args .at + c .before .before .loop .i) _ ∙ c .before .before .loop .inv .1,
-      behind-byte (c .before .before .before .args .text .now) (omega arith) (omega arith) (c .before .before .loop .inv .2),
-    )
+loop-again c = (
+  omega arith,
+  length-set (c .before .before .loop .out) (c .before .before .before .args .at + c .before .before .loop .i) _ ∙ c .before .before .loop .inv .1,
+  behind-byte (c .before .before .before .args .text .now) (omega arith) (omega arith) (c .before .before .loop .inv .2),
+)
 
 add-result : tie.Need-add-result Inv-loop μ-loop
 add-result c = search needs
