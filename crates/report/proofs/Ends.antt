@@ -5,7 +5,7 @@ use native.Mathlib.Nat.{add-zero}
 use native.Mathlib.Omega.{arith}
 use mathlib.Core.Path.{_≡_, refl, sym, ap, _∙_}
 use mathlib.Core.List.{List, [], _∷_, _++_, append-assoc, append-nil}
-use lib.ListN.{length, take, getD, set, length-append, length-take}
+use lib.ListN.{length, take, getD, set, length-append}
 use lib.Seq.{take-suc, take-suc-set, length-take-le}
 use Rattle.report.specs.Pages.{Behind}
 

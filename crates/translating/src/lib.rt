@@ -62,14 +62,8 @@ pub fn translate(
     ensures { λ r. ⌜ TranslatesOne (now (s .entry)) known feature (now (out .entry)) r (now (out .exit)) ⌝ }
 {
     match plan_of(s, known, feature) {
-        Plan::NoCds => Written {
-            number: 35,
-            size: 0,
-        },
-        Plan::Unjudged => Written {
-            number: 36,
-            size: 0,
-        },
+        Plan::NoCds => Written { number: 35, size: 0 },
+        Plan::Unjudged => Written { number: 36, size: 0 },
         Plan::From(start) => {
             let r = bytes_of(s, known.residues.from, known.residues.to);
             let loc = bytes_of(s, feature.location.from, feature.location.to);

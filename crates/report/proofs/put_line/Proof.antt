@@ -2,19 +2,10 @@
 use Rattle.report.proofs.Ends.{behind-next}
 use Rattle.report.proofs.Numerals.{digits-decimal, few-digits}
 use mathlib.Core.Path.{_∙_}
-use mathlib.Core.Path.{_≡_, _∙_}
 use native.Mathlib.Omega.{arith}
-use Prim.Native.Nat.{_+_, _≤_}
-use lib.ListN.{length, take}
 use borrow.Author.Needs.{needs}
 use Rattle.report.proofs.put_line.Statement.{statement}
 use Rattle.report.proofs.put_line.Tie as tie
-
--- Word, space, digits and byte 10, one behind the other; the digits are at most 20.
-
--- Word, space, digits and byte 10, one behind the other; the digits are at most 20.
-
--- Word, space, digits and byte 10, one behind the other; the digits are at most 20.
 
 decimal-requires : tie.Need-decimal-requires
 decimal-requires c κs = search needs
