@@ -52,7 +52,7 @@ returns c =
     (behind-next (c .before .before .before .before .before .before .before .before .before .before .before .before .before .before .before .before .before .put-line2 .ensures .stands)
     (behind-next (c .before .before .before .before .before .before .before .before .before .before .before .before .put-line3 .ensures .stands) (behind-next (c .before .before .before .before .before .before .before .put-line4 .ensures .stands) (c .before .before .put-line5 .ensures .stands))))) in
     record {
-      fits = omega arith;
+      fits = omega (arith, c .before .before .before .before .before .before .before .before .before .before .before .before .before .before .before .before .before .before .before .before .before .before .before .before .before .before .before .put-text .ensures .ends, c .before .before .before .before .before .before .before .before .before .before .before .before .before .before .before .before .before .before .before .before .before .before .put-line .ensures .short);
       holds = stands .holds;
     }
 
