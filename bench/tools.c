@@ -55,6 +55,14 @@ struct bytes load(const char *path)
     return bytes;
 }
 
+struct bytes listing_of(const char *folder, const char *name)
+{
+    char *path = path_of(folder, name, "xml");
+    const struct bytes listing = load(path);
+    free(path);
+    return listing;
+}
+
 struct bytes text_of(void (*write)(FILE *text, size_t size), size_t size)
 {
     char *at = NULL;

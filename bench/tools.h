@@ -29,6 +29,9 @@ struct bytes {
 /* The whole of a file. */
 struct bytes load(const char *path);
 
+/* The whole of FOLDER/NAME.xml. */
+struct bytes listing_of(const char *folder, const char *name);
+
 /* What `write` writes, given `size`. */
 struct bytes text_of(void (*write)(FILE *text, size_t size), size_t size);
 

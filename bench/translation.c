@@ -1,5 +1,6 @@
 /* Measures the proved translation beside two peers, and compares its letters with theirs: translation ROUNDS FOLDER
-   Files for transeq are made in FOLDER. */
+   Files for transeq are made in FOLDER. Its rows go on with the table of listings.c. */
+#include "table.h"
 #include "table_loop.h"
 #include "tools.h"
 #include "transeq.h"
@@ -175,40 +176,31 @@ typedef double call(const struct region *region, struct bytes letters, struct by
 
 /* ---- measuring */
 
-static void keep_least(double *least, double time)
-{
-    *least = time < *least ? time : *least;
-}
-
-/* A proved call on a region, with its best time and the loop's. */
-struct row {
-    const char *what;
+/* A proved call on a region, with its row of the table. */
+struct question {
     call *proved;
     const struct region *region;
-    double best_proved;
-    double best_loop;
+    char words[48];
+    struct row row;
 };
 
-/* The loop and the proved call, one after the other, each with room that has no letters yet. */
-static void take_turns(struct row *row, struct bytes letters, struct bytes out)
+static void open_question(struct question *question, const char *what, call *proved, const struct region *region)
 {
-    memset(out.at, 0, out.length);
-    keep_least(&row->best_loop, write_loop(row->region, letters, out));
-    memset(out.at, 0, out.length);
-    keep_least(&row->best_proved, row->proved(row->region, letters, out));
+    question->proved = proved;
+    question->region = region;
+    snprintf(question->words, sizeof question->words, "%s, %s", what, region->words);
+    question->row = row_of(question->words, RESIDUES);
+    question->row.targets[TABLE_LOOP] = loop_target;
+    question->row.targets[TRANSEQ] = transeq_target;
 }
 
-/* True if both targets are met. The start-up is that of transeq. */
-static bool tell(const struct row *row, double start_up)
+/* The loop and the proved call, one after the other, each with room that has no letters yet. */
+static void take_turns(struct question *question, struct bytes letters, struct bytes out)
 {
-    const double millions = RESIDUES / 1e6;
-    const double transeq = row->region->transeq->best - start_up;
-    const double of_loop = row->best_loop / row->best_proved;
-    const double of_transeq = transeq / row->best_proved;
-    printf("%-9s %-24s %8.0f %11.0f %7.2f %-6s %9.0f %7.1f %s\n", row->what, row->region->words,
-           millions / row->best_proved, millions / row->best_loop, of_loop, of_loop >= loop_target ? "met" : "MISSED",
-           millions / transeq, of_transeq, of_transeq >= transeq_target ? "met" : "MISSED");
-    return of_loop >= loop_target && of_transeq >= transeq_target;
+    memset(out.at, 0, out.length);
+    keep_least(&question->row.peers[TABLE_LOOP], write_loop(question->region, letters, out));
+    memset(out.at, 0, out.length);
+    keep_least(&question->row.proved, question->proved(question->region, letters, out));
 }
 
 /* The letter of one codon by the proved translation: a stop alone is dropped. */
@@ -239,18 +231,18 @@ static void compare_codons(struct bytes codons, struct bytes letters)
 /* The three questions to transeq: its start-up, which is that of a short text, and the text on either strand. */
 enum { START_UP, FORWARD, BACKWARD, QUESTIONS };
 
-static void run_all(struct transeq *questions)
+static void run_all(struct transeq *peers)
 {
     for (int i = 0; i < QUESTIONS; i++) {
-        transeq_run(&questions[i]);
+        transeq_run(&peers[i]);
     }
 }
 
 /* transeq's letters of the text, the same on either strand, with the stop at the end. */
-static struct bytes letters_of(const struct transeq *questions)
+static struct bytes letters_of(const struct transeq *peers)
 {
-    const struct bytes letters = transeq_letters(&questions[FORWARD]);
-    const struct bytes others = transeq_letters(&questions[BACKWARD]);
+    const struct bytes letters = transeq_letters(&peers[FORWARD]);
+    const struct bytes others = transeq_letters(&peers[BACKWARD]);
     if (letters.length != LETTERS || others.length != LETTERS || memcmp(letters.at, others.at, LETTERS) != 0) {
         die("transeq", "not the letters of the text on either strand");
     }
@@ -258,61 +250,53 @@ static struct bytes letters_of(const struct transeq *questions)
     return letters;
 }
 
-/* A round has a turn of each row and of transeq, so that none alone has the bad times of a machine that others use. */
-static void take_rounds(struct row *rows, size_t count, struct transeq *questions, struct bytes letters, int rounds)
+/* A round has a turn of each question and of transeq, so that none alone has the bad times of a machine that others use. */
+static void take_rounds(struct question *questions, size_t count, struct transeq *peers, struct bytes letters, int rounds)
 {
     const struct bytes out = {room_for(letters.length), letters.length};
     for (int round = 0; round < rounds; round++) {
-        run_all(questions);
+        run_all(peers);
         for (size_t i = 0; i < count; i++) {
-            take_turns(&rows[i], letters, out);
+            take_turns(&questions[i], letters, out);
         }
     }
     free(out.at);
 }
 
-/* The table; true if every target is met. */
-static bool tell_all(const struct row *rows, size_t count, double start_up, int rounds)
-{
-    printf("Translation of %d residues: millions of them a second by processor time, best of %d rounds\n", RESIDUES,
-           rounds);
-    printf("The peers: the table loop in Rust, and transeq without its start-up of %.3f s. All letters are the same.\n",
-           start_up);
-    printf("%-34s %8s %11s %14s %9s %11s\n", "", "proved", "table loop", "share >= 0.5", "transeq", "times >= 40");
-    bool met = true;
-    for (size_t i = 0; i < count; i++) {
-        met = tell(&rows[i], start_up) && met;
-    }
-    return met;
-}
-
-/* Writes and compares the translation of three regions. */
+/* Writes and compares the translation of three regions. True if every target is met. */
 static bool measure(const char *folder, int rounds)
 {
     const struct bytes codons = text_of(write_plain_codons, 64);
     const struct bytes forward = text_of(write_residues, LETTERS);
     const struct bytes backward = reversed(forward);
-    struct transeq questions[QUESTIONS] = {
+    struct transeq peers[QUESTIONS] = {
         [START_UP] = transeq_open(folder, "codons", codons, "1"),
         [FORWARD] = transeq_open(folder, "forward", forward, "1"),
         [BACKWARD] = transeq_open(folder, "backward", backward, "-1"),
     };
-    struct transeq *ahead = &questions[FORWARD];
-    struct transeq *behind = &questions[BACKWARD];
+    struct transeq *ahead = &peers[FORWARD];
+    struct transeq *behind = &peers[BACKWARD];
     const struct region regions[] = {
         {"one span", forward, text_of(write_range, RESIDUES), false, RESIDUES, ahead},
-        {"one span, complemented", backward, text_of(write_complement, RESIDUES), true, RESIDUES, behind},
-        {"join of 5,550 members", forward, text_of(write_join, RESIDUES), false, MEMBER, ahead},
+        {"complement", backward, text_of(write_complement, RESIDUES), true, RESIDUES, behind},
+        {"join of 5,550", forward, text_of(write_join, RESIDUES), false, MEMBER, ahead},
     };
-    struct row rows[2 * COUNT(regions)];
+    struct question questions[2 * COUNT(regions)];
     for (size_t i = 0; i < COUNT(regions); i++) {
-        rows[i] = (struct row){"written", write_proved, &regions[i], 1e9, 1e9};
-        rows[COUNT(regions) + i] = (struct row){"compared", compare_proved, &regions[i], 1e9, 1e9};
+        open_question(&questions[i], "translation", write_proved, &regions[i]);
+        open_question(&questions[COUNT(regions) + i], "value compared", compare_proved, &regions[i]);
     }
-    run_all(questions);
-    compare_codons(codons, transeq_letters(&questions[START_UP]));
-    take_rounds(rows, COUNT(rows), questions, letters_of(questions), rounds);
-    return tell_all(rows, COUNT(rows), questions[START_UP].best, rounds);
+    run_all(peers);
+    compare_codons(codons, transeq_letters(&peers[START_UP]));
+    take_rounds(questions, COUNT(questions), peers, letters_of(peers), rounds);
+    bool met = true;
+    for (size_t i = 0; i < COUNT(questions); i++) {
+        struct row *row = &questions[i].row;
+        /* Without its start-up, in its favour. */
+        row->peers[TRANSEQ] = questions[i].region->transeq->best - peers[START_UP].best;
+        met = tell_row(row, "") && met;
+    }
+    return met;
 }
 
 int main(int argc, char **argv)

@@ -8,10 +8,6 @@
 /* 0, or the number of the broken rule, with its place. */
 size_t trial_layout(const uint8_t *listing, size_t length, size_t *place);
 
-/* 0 with the counts, or the number of the broken rule, with its place. */
-size_t trial_check(const uint8_t *listing, size_t length, size_t *place, size_t *total, size_t *skipped, size_t *features,
-                   size_t *judged, size_t *unjudged);
-
 /* 0 with the facts of a location in a sequence of `top` residues, or 24. */
 uint32_t trial_location(const uint8_t *part, size_t length, uint32_t top, uint32_t *operator, size_t *count,
                         uint32_t *wrong, uint32_t *complemented, uint32_t *unjudged);

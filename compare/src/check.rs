@@ -1,7 +1,8 @@
 //! `compare check`: the whole check; verdict, rule, place and the five counts.
 
 use crate::report::{Comparison, Input, Verdict};
-use crate::{large, layout, mutants, proved};
+use crate::xmllint::Xmllint;
+use crate::{boundary, large, layout, mutants};
 use judge::generate::sized::TRAPS;
 use judge::generate::{one_damage, several_damages, Rng};
 use judge::{Counts, Listing};
@@ -16,19 +17,20 @@ const VALUE_RULES: RangeInclusive<u32> = 10..=29;
 pub fn run(count: u64, seed: u64, root: &Path) -> Result<bool, String> {
     let specimens = layout::specimens(&root.join("specimens"))?;
     let folder = root.join("target/compare");
-    let mut check = Check::new(Comparison::new(proved::check, judged, Some(folder)));
-    check.kind("specimens", layout::specimen_inputs(specimens));
-    check.kind("generated", layout::generated(count, seed));
-    check.kind("one damage", damages(count, seed));
-    check.kind("several damages", combined(count / 2, seed));
+    let comparison = Comparison::new(boundary::check, judged, Some(folder));
+    let mut check = Check::new(comparison, root)?;
+    check.kind("specimens", layout::specimen_inputs(specimens))?;
+    check.kind("generated", layout::generated(count, seed))?;
+    check.kind("one damage", damages(count, seed))?;
+    check.kind("several damages", combined(count / 2, seed))?;
     let numbers = 0..count / 2;
     let layouts = numbers.clone().map(|number| mutants::mutant(seed, number));
-    check.kind("mutants of the layout", layouts);
+    check.kind("mutants of the layout", layouts)?;
     let values = numbers.map(|number| mutants::value_mutant(seed, number));
-    check.kind("mutants of values", values);
-    check.kind("about the greatest size", sizes());
-    check.kind("traps for a slow check", traps());
-    Ok(check.close())
+    check.kind("mutants of values", values)?;
+    check.kind("about the greatest size", sizes())?;
+    check.kind("traps for a slow check", traps())?;
+    check.close()
 }
 
 /// The judge's check.
@@ -37,7 +39,7 @@ fn judged(input: &[u8]) -> Verdict<Counts> {
 }
 
 /// Listings with one damage, each rule in turn.
-fn damages(count: u64, seed: u64) -> impl Iterator<Item = Input> {
+pub fn damages(count: u64, seed: u64) -> impl Iterator<Item = Input> {
     let rules = VALUE_RULES.cycle().zip(0..count);
     rules.map(move |(rule, number)| Input {
         name: format!("damage {number} of seed {seed}, meant for rule {rule}"),
@@ -73,31 +75,38 @@ fn traps() -> impl Iterator<Item = Input> {
     })
 }
 
-/// The comparison, and how often each verdict was the judge's: 0 stands for accepted.
+/// The comparison, what xmllint says, and how often each verdict was the judge's: 0 stands for accepted.
 struct Check<P, J> {
     comparison: Comparison<P, J>,
+    xmllint: Xmllint,
     verdicts: BTreeMap<u32, usize>,
 }
 
 impl<P: Fn(&[u8]) -> Verdict<Counts>, J: Fn(&[u8]) -> Verdict<Counts>> Check<P, J> {
-    fn new(comparison: Comparison<P, J>) -> Self {
-        Check {
+    fn new(comparison: Comparison<P, J>, root: &Path) -> Result<Self, String> {
+        Ok(Check {
             comparison,
+            xmllint: Xmllint::new(root)?,
             verdicts: BTreeMap::new(),
-        }
+        })
     }
 
-    /// Compares all inputs of one kind, and prints a line of their verdicts.
-    fn kind(&mut self, kind: &str, inputs: impl Iterator<Item = Input>) {
+    /// Compares all inputs of one kind, and prints a line of their verdicts. What is accepted goes to xmllint.
+    fn kind(&mut self, kind: &str, inputs: impl Iterator<Item = Input>) -> Result<(), String> {
         let mut verdicts = BTreeMap::new();
-        self.comparison.all(inputs, |_, verdict| {
-            let rule = verdict.err().map_or(0, |refusal| refusal.rule);
+        for input in inputs {
+            let (proved, judge) = self.comparison.one(&input);
+            if proved.is_ok() {
+                self.xmllint.add(&input)?;
+            }
+            let rule = judge.err().map_or(0, |refusal| refusal.rule);
             *verdicts.entry(rule).or_default() += 1;
-        });
+        }
         println!("{kind}: {}", line(&verdicts));
         for (rule, count) in verdicts {
             *self.verdicts.entry(rule).or_default() += count;
         }
+        Ok(())
     }
 
     /// The verdicts that were never met.
@@ -109,14 +118,15 @@ impl<P: Fn(&[u8]) -> Verdict<Counts>, J: Fn(&[u8]) -> Verdict<Counts>> Check<P, 
             .collect()
     }
 
-    /// Prints the last lines; true if nothing differs and every verdict was met.
-    fn close(&self) -> bool {
+    /// Prints the last lines; true if nothing differs, xmllint refuses nothing, and every verdict was met.
+    fn close(&mut self) -> Result<bool, String> {
         println!("in all: {}", line(&self.verdicts));
         let unmet = self.unmet();
         if !unmet.is_empty() {
             println!("NEVER THE VERDICT (0: accepted): {unmet:?}");
         }
-        self.comparison.count.close("check") && unmet.is_empty()
+        let is_valid = self.xmllint.close()?;
+        Ok(self.comparison.count.close("check") && is_valid && unmet.is_empty())
     }
 }
 
@@ -146,12 +156,26 @@ mod tests {
         inputs: impl Iterator<Item = Input>,
     ) -> (usize, Vec<u32>) {
         let proved = |input: &[u8]| wrong(input, judged(input));
-        let mut check = Check::new(Comparison::new(proved, judged, None));
-        check.kind("test", inputs);
+        let mut check = Check::new(Comparison::new(proved, judged, None), layout::root()).unwrap();
+        check.kind("test", inputs).unwrap();
         let differ = check.comparison.count.differ;
         let unmet = check.unmet();
-        assert_eq!(check.close(), differ == 0 && unmet.is_empty());
+        assert_eq!(check.close(), Ok(differ == 0 && unmet.is_empty()));
         (differ, unmet)
+    }
+
+    #[test]
+    fn what_is_wrongly_accepted_goes_to_xmllint() {
+        let accepts = |_: &[u8]| Ok(Counts::default());
+        // Both err in the same way, so that only xmllint can tell.
+        let comparison = Comparison::new(accepts, accepts, None);
+        let mut check = Check::new(comparison, layout::root()).unwrap();
+        check.verdicts.extend((1..30).map(|rule| (rule, 1)));
+        let mutants = (0..100).map(|number| mutants::mutant(1, number));
+        check.kind("test", mutants).unwrap();
+        assert_eq!(check.close(), Ok(false));
+        assert_eq!(check.comparison.count.differ, 0);
+        assert!(check.xmllint.opinions.refused > 30);
     }
 
     #[test]
@@ -213,10 +237,17 @@ mod tests {
 
     #[test]
     fn the_proved_check_agrees() {
-        let mut check = Check::new(Comparison::new(proved::check, judged, None));
-        check.kind("generated", layout::generated(400, 1));
-        check.kind("one damage", damages(400, 1));
+        let comparison = Comparison::new(boundary::check, judged, None);
+        let mut check = Check::new(comparison, layout::root()).unwrap();
+        check.kind("generated", layout::generated(400, 1)).unwrap();
+        check.kind("one damage", damages(400, 1)).unwrap();
         assert_eq!(check.comparison.count.differ, 0);
+        assert_eq!(check.xmllint.close(), Ok(true));
+        let opinions = check.xmllint.opinions;
+        assert!(
+            opinions.whole > 80 && opinions.replaced > 10,
+            "{opinions:?}"
+        );
     }
 
     #[test]

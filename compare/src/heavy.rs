@@ -83,7 +83,7 @@ pub const HEAVY: [(&str, Make); 11] = [
 /// A listing of nearly this size: so many of what `make` repeats. A count may have more digits than in the trial, so it may take fewer.
 fn filled(size: usize, make: impl Fn(usize) -> String) -> Vec<u8> {
     let (none, some) = (make(1).len(), make(1_001).len());
-    let each = (some - none) / 1_000 + 1;
+    let each = (some - none + 999) / 1_000;
     let mut count = 1 + size.saturating_sub(none) / each;
     while make(count).len() > size {
         count -= count / 100 + 1;
@@ -147,7 +147,7 @@ fn coding(location: &str, qualifiers: &str) -> String {
 #[cfg(test)]
 mod tests {
     use super::*;
-    use crate::proved;
+    use crate::boundary;
 
     const SIZE: usize = 60_000;
 
@@ -156,7 +156,7 @@ mod tests {
         for (name, make) in HEAVY {
             let bytes = make(SIZE);
             assert!(
-                bytes.len() <= SIZE && bytes.len() > SIZE / 2,
+                bytes.len() <= SIZE && bytes.len() > SIZE / 5 * 4,
                 "{name}: {}",
                 bytes.len()
             );
@@ -171,7 +171,7 @@ mod tests {
     }
 
     fn rule_of(bytes: &[u8]) -> u32 {
-        match proved::check(bytes) {
+        match boundary::check(bytes) {
             Ok(_) => 0,
             Err(refusal) => refusal.rule,
         }

@@ -76,14 +76,16 @@ pub fn specimens(folder: &Path) -> Result<Vec<(String, Vec<u8>)>, String> {
     Ok(found)
 }
 
+/// The repository.
+#[cfg(test)]
+pub fn root() -> &'static Path {
+    Path::new(concat!(env!("CARGO_MANIFEST_DIR"), "/.."))
+}
+
 #[cfg(test)]
 mod tests {
     use super::*;
     use judge::Refusal;
-
-    fn root() -> &'static Path {
-        Path::new(concat!(env!("CARGO_MANIFEST_DIR"), "/.."))
-    }
 
     #[test]
     fn mutants_fail_deep_inside() {

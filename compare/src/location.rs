@@ -2,7 +2,7 @@
 
 use crate::proved;
 use crate::report::Count;
-use judge::generate::{sentences, Rng, LOCATION_SIGNS};
+use judge::generate::{location_texts, Rng};
 use judge::{Location, Operator, Span};
 
 /// What is asked of a location text, for a sequence of some length.
@@ -27,8 +27,7 @@ const RESIDUES: u32 = 7;
 /// Compares all short texts and `count` generated ones; whether nothing differs.
 pub fn run(count: u64, seed: u64) -> Result<bool, String> {
     let mut tally = Tally::default();
-    let words = [&WORDS[..], &LOCATION_SIGNS].concat();
-    sentences(&words, LONGEST, &mut |text| {
+    location_texts(&WORDS, LONGEST, &mut |text| {
         tally.compare(text.as_bytes(), RESIDUES)
     });
     let short = tally.count.cases;

@@ -1,25 +1,13 @@
-//! The proved code, as the crate `trial` lends it: the only unsafe lines of this package.
+//! The inner calls of the proved code, as the crate `trial` lends them. Unsafe lines stand here and in boundary.rs only.
 
 use crate::location::Facts;
 use crate::translation::Region;
 use judge::generate::escape;
-use judge::{Counts, Refusal};
+use judge::Refusal;
 
 extern "C" {
     /// 0, or the number of the broken rule; `place` then holds its place, else 0.
     fn trial_layout(listing: *const u8, length: usize, place: *mut usize) -> usize;
-
-    /// 0 with the counts, or the number of the broken rule with its place; the other numbers are 0.
-    fn trial_check(
-        listing: *const u8,
-        length: usize,
-        place: *mut usize,
-        total: *mut usize,
-        skipped: *mut usize,
-        features: *mut usize,
-        judged: *mut usize,
-        unjudged: *mut usize,
-    ) -> usize;
 
     /// 0 with the facts of a location, or 24; each fact is 1 where it holds.
     fn trial_location(
@@ -180,51 +168,6 @@ pub fn layout(input: &[u8]) -> Result<(), Refusal> {
     }
 }
 
-/// The whole check by the proved reader, in the judge's form.
-/// Counts with a refusal, or a place without one, are told as a rule that the judge never gives.
-pub fn check(input: &[u8]) -> Result<Counts, Refusal> {
-    // A number that the call forgets to write is a difference.
-    let mut place = usize::MAX;
-    let mut counts = [usize::MAX; 5];
-    let [total, skipped, features, judged, unjudged] = &mut counts;
-    // SAFETY: the call reads `length` bytes from `listing` and writes one number through each pointer.
-    let rule = unsafe {
-        trial_check(
-            input.as_ptr(),
-            input.len(),
-            &mut place,
-            total,
-            skipped,
-            features,
-            judged,
-            unjudged,
-        )
-    };
-    checked(rule, place, counts)
-}
-
-/// The numbers of a check in the judge's form.
-fn checked(rule: usize, place: usize, counts: [usize; 5]) -> Result<Counts, Refusal> {
-    let [total, skipped, features, judged, unjudged] = counts.map(|count| count as u64);
-    match (rule, place, counts) {
-        (0, 0, _) => Ok(Counts {
-            total,
-            skipped,
-            features,
-            judged,
-            unjudged,
-        }),
-        (1.., _, [0, 0, 0, 0, 0]) => Err(Refusal {
-            rule: u32::try_from(rule).unwrap_or(u32::MAX),
-            place,
-        }),
-        _ => Err(Refusal {
-            rule: u32::MAX,
-            place,
-        }),
-    }
-}
-
 /// What the proved code says of a translation into lent room: the number, the length and the room afterwards.
 pub fn translation(region: &Region, mut room: Vec<u8>) -> (u32, usize, Vec<u8>) {
     // A length that the call forgets to write is a difference.
@@ -263,26 +206,5 @@ pub fn is_right(region: &Region, value: &[u8]) -> u32 {
             value.as_ptr(),
             value.len(),
         )
-    }
-}
-
-#[cfg(test)]
-mod tests {
-    use super::*;
-
-    #[test]
-    fn contradicting_numbers_are_no_verdict() {
-        let refused = |rule, place| Err(Refusal { rule, place });
-        let counts = Counts {
-            total: 1,
-            skipped: 2,
-            features: 3,
-            judged: 4,
-            unjudged: 5,
-        };
-        assert_eq!(checked(0, 0, [1, 2, 3, 4, 5]), Ok(counts));
-        assert_eq!(checked(18, 7, [0; 5]), refused(18, 7));
-        assert_eq!(checked(18, 7, [0, 0, 0, 0, 1]), refused(u32::MAX, 7));
-        assert_eq!(checked(0, 7, [1, 2, 3, 4, 5]), refused(u32::MAX, 7));
     }
 }

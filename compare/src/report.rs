@@ -105,19 +105,8 @@ where
         }
     }
 
-    /// Compares all inputs; `add` is given each with the judge's verdict.
-    pub fn all(
-        &mut self,
-        inputs: impl Iterator<Item = Input>,
-        mut add: impl FnMut(&[u8], Verdict<T>),
-    ) {
-        for input in inputs {
-            add(&input.bytes, self.one(&input));
-        }
-    }
-
-    /// Compares one input; the answer is the judge's.
-    fn one(&mut self, input: &Input) -> Verdict<T> {
+    /// Compares one input; the answers are the proved reader's and the judge's.
+    pub fn one(&mut self, input: &Input) -> (Verdict<T>, Verdict<T>) {
         let (proved, judge) = ((self.proved)(&input.bytes), (self.judge)(&input.bytes));
         let folder = self.folder.as_deref();
         self.count.case(proved == judge, |number| {
@@ -128,7 +117,7 @@ where
                 keep(folder, number, &input.bytes);
             }
         });
-        judge
+        (proved, judge)
     }
 }
 
@@ -136,7 +125,10 @@ impl<P: Fn(&[u8]) -> Verdict, J: Fn(&[u8]) -> Verdict> Comparison<P, J> {
     /// Compares all inputs of one kind, and prints a line of their verdicts.
     pub fn kind(&mut self, kind: &str, inputs: impl Iterator<Item = Input>) -> Tally {
         let mut tally = Tally::default();
-        self.all(inputs, |input, verdict| tally.add(input, verdict));
+        for input in inputs {
+            let (_, judge) = self.one(&input);
+            tally.add(&input.bytes, judge);
+        }
         println!(
             "{kind}: {} cases; {} laid out, {} too long, {} wrong in the header, {} wrong later",
             tally.cases(),
@@ -150,7 +142,7 @@ impl<P: Fn(&[u8]) -> Verdict, J: Fn(&[u8]) -> Verdict> Comparison<P, J> {
 }
 
 /// Keeps an input with a difference.
-fn keep(folder: &Path, number: usize, input: &[u8]) {
+pub fn keep(folder: &Path, number: usize, input: &[u8]) {
     let file = folder.join(format!("differs-{number}.xml"));
     let kept = fs::create_dir_all(folder).and_then(|()| fs::write(&file, input));
     match kept {

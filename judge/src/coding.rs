@@ -1,6 +1,7 @@
 //! Translation of coding residues by genetic code 1.
 
-use crate::location::{Span, COMPLEMENT};
+use crate::location::{Span, COMPLEMENT, SITE};
+use std::ops::RangeInclusive;
 
 /// The letters of code 1 "for bases in order t, c, a, g, first base slowest".
 const CODE_1: &[u8; 64] = b"FFLLSSSSYY**CC*WLLLLPPPPHHQQRRRRIIIMTTTTNNKKSSRRVVVVAAAADDEEGGGG";
@@ -111,7 +112,10 @@ impl<'a> Coding<'a> {
     pub fn new(residues: &'a [u8], spans: Vec<Span>, codon_start: usize) -> Coding<'a> {
         let residue_count: u64 = spans
             .iter()
-            .map(|span| u64::from(span.last) + 1 - u64::from(span.first))
+            .map(|&span| {
+                let positions = positions(span);
+                u64::from(*positions.end()) + 1 - u64::from(*positions.start())
+            })
             .sum();
         Coding {
             residues,
@@ -153,9 +157,18 @@ impl<'a> Coding<'a> {
     }
 }
 
+/// The positions of one span. A site stands between two residues, `L^1` between the last and the first, and has none.
+fn positions(span: Span) -> RangeInclusive<u32> {
+    if span.marks & SITE == 0 {
+        span.first..=span.last
+    } else {
+        1..=0
+    }
+}
+
 /// The residues of one span, backwards and complemented if its mark says so.
 fn residues_of(residues: &[u8], span: Span) -> impl Iterator<Item = u8> + '_ {
-    (span.first..=span.last).map(move |position| {
+    positions(span).map(move |position| {
         if span.marks & COMPLEMENT == 0 {
             residues[position as usize - 1]
         } else {

@@ -4,8 +4,6 @@ use mathlib.Core.Path.{_≡_}
 use mathlib.Core.Bool.{Bool}
 use mathlib.Core.List.{List}
 use Rattle.paper.specs.Locations.{mark}
-use Rattle.paper.specs.Answers.{CheckSays}
-use Rattle.paper.specs.declared.Verdict.the-variants as verdict
 use Rattle.layout.specs.Says.{Lays, Refuses}
 use Rattle.location.specs.Judging.{Judges}
 use Rattle.location.specs.Room.{Answers}
@@ -73,7 +71,3 @@ pub record RightNumbers (s loc : List ℕ) (L start : ℕ) (value : List ℕ) (n
   pub says : Bool
   pub compares : Compares s loc L start value says
   pub number-is : number ≡ mark says 1
-
-pub data CheckNumbers (w : List ℕ) : (number place total skipped features judged unjudged : ℕ) → Type 0 where
-  accepted : {t s f j u : ℕ} → CheckSays w (verdict.Accepted t s f j u) → CheckNumbers w 0 0 t s f j u
-  refused : {n p : ℕ} → CheckSays w (verdict.Refused n p) → CheckNumbers w n p 0 0 0 0 0

@@ -6,7 +6,7 @@ use location::room::Answer;
 use translation::writing::Size;
 ghost use mathlib.Core.Path.{_≡_};
 ghost use Rattle.paper.specs.Locations.{mark};
-ghost use Rattle.trial.specs.Numbers.{LayoutNumbers, LocationNumbers, SpansNumbers, TranslationNumbers, RightNumbers, CheckNumbers};
+ghost use Rattle.trial.specs.Numbers.{LayoutNumbers, LocationNumbers, SpansNumbers, TranslationNumbers, RightNumbers};
 
 // 0, or the number of the broken rule with its place.
 #[no_mangle]
@@ -144,45 +144,4 @@ pub extern "C" fn trial_is_right(r: &[u8], loc: &[u8], top: u32, frame: usize, v
     let table = codon::letter_table();
     let right = translation::comparing::is_right(r, loc, top, frame, value, &sets, &turns, &table);
     flag(right, 1)
-}
-
-// 0 with the counts, or the number of the broken rule with its place.
-#[no_mangle]
-pub extern "C" fn trial_check(
-    listing: &[u8],
-    place: &mut usize,
-    total: &mut usize,
-    skipped: &mut usize,
-    features: &mut usize,
-    judged: &mut usize,
-    unjudged: &mut usize,
-) -> usize
-    ensures { λ r. ⌜ CheckNumbers (now (listing .entry)) r (now (place .exit)) (now (total .exit)) (now (skipped .exit)) (now (features .exit)) (now (judged .exit)) (now (unjudged .exit)) ⌝ }
-{
-    match checking::check(listing) {
-        paper::Verdict::Accepted {
-            total: t,
-            skipped: s,
-            features: f,
-            judged: j,
-            unjudged: u,
-        } => {
-            *place = 0;
-            *total = t;
-            *skipped = s;
-            *features = f;
-            *judged = j;
-            *unjudged = u;
-            0
-        }
-        paper::Verdict::Refused { rule, place: p } => {
-            *place = p;
-            *total = 0;
-            *skipped = 0;
-            *features = 0;
-            *judged = 0;
-            *unjudged = 0;
-            rule
-        }
-    }
 }

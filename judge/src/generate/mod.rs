@@ -13,7 +13,7 @@ use crate::{Broken, Counts, Refusal};
 use damage::{Breaks, Damage, DAMAGES};
 pub use model::Model;
 pub use rng::Rng;
-pub use sentences::{sentences, LOCATION_SIGNS};
+pub use sentences::{location_texts, sentences};
 pub use write::{escape, Written};
 
 /// A listing, and what the check must say about it, where that is known.

@@ -1,7 +1,7 @@
 //! All short texts of some words.
 
 /// The signs that document 01's locations are made of, besides numbers.
-pub const LOCATION_SIGNS: [&str; 9] = [
+const LOCATION_SIGNS: [&str; 9] = [
     "..",
     "^",
     "<",
@@ -12,6 +12,11 @@ pub const LOCATION_SIGNS: [&str; 9] = [
     "order(",
     "complement(",
 ];
+
+/// Calls `each` with every text of at most `longest` of these words and the signs of locations.
+pub fn location_texts(words: &[&str], longest: usize, each: &mut dyn FnMut(&str)) {
+    sentences(&[words, &LOCATION_SIGNS].concat(), longest, each);
+}
 
 /// Calls `each` with every text of at most `longest` of the words.
 pub fn sentences(words: &[&str], longest: usize, each: &mut dyn FnMut(&str)) {

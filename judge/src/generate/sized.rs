@@ -17,47 +17,46 @@ pub enum Mix {
 /// All mixes.
 pub const MIXES: [Mix; 3] = [Mix::Features, Mix::Sequences, Mix::Residues];
 
+/// Below this size a listing has one skipped sequence only.
+pub const SMALLEST: usize = 1500;
+
 /// A listing of exactly this size, at least 600; it is valid unless too long.
 pub fn sized(mix: Mix, size: usize, seed: u64) -> Case {
     let rng = &mut Rng::new(seed);
     let mut counts = Counts::default();
-    // Room for the frame, one sequence and one item more.
-    let filling = size.saturating_sub(3000);
-    let mut sequences = Vec::new();
-    match mix {
-        _ if filling == 0 => {
+    // What the mix may fill beside these sequences.
+    let room = |sequences: &[String]| size - listing("", sequences).len();
+    let sequences = match mix {
+        _ if size < SMALLEST => {
             counts.skipped = 1;
-            sequences.push(skipped_sequence());
+            vec![skipped_sequence()]
         }
         Mix::Features => {
-            let residues = open_frame(rng, 1000);
+            let residues = open_frame(rng, (size / 16).min(1000));
             let mut table = source("DNA", residues.len());
             counts.features = 1;
-            while table.len() < filling.saturating_sub(residues.len()) {
-                table += &any_feature(rng, &mut counts);
-            }
-            sequences.push(sequence("DNA", &table, &residues));
+            let room = room(&[sequence("DNA", &table, &residues)]);
+            table += &filled(room, 0, &mut counts, |counts| any_feature(rng, counts)).concat();
+            vec![sequence("DNA", &table, &residues)]
         }
         Mix::Sequences => {
-            let mut filled = 0;
-            while filled < filling {
-                let next = any_sequence(rng, &mut counts);
-                // The tags of SequenceData come on top.
-                filled += next.len() + 60;
-                sequences.push(next);
-            }
+            // The digits of their count come on top.
+            let room = room(&[]) - 10;
+            filled(room, TAGS, &mut counts, |counts| any_sequence(rng, counts))
         }
         Mix::Residues => {
-            let residues = open_frame(rng, filling);
-            let mut table = source("DNA", residues.len());
-            table += &any_feature(rng, &mut counts);
+            let feature = any_feature(rng, &mut counts);
             counts.features += 1;
-            sequences.push(sequence("DNA", &table, &residues));
+            let table = |length| source("DNA", length) + &feature;
+            // The number of residues has no more digits than the size, in the source and as INSDSeq_length.
+            let digits = size.to_string().len();
+            let length = room(&[sequence("DNA", &table(size), "")]) - digits;
+            let residues = open_frame(rng, length);
+            vec![sequence("DNA", &table(length), &residues)]
         }
-    }
+    };
     counts.total = sequences.len() as u64;
-    let bare_size = listing("", &sequences).len();
-    let title = "t".repeat(size - bare_size);
+    let title = "t".repeat(room(&sequences));
     let expectation = if size > LONGEST {
         refused(1, 0)
     } else {
@@ -68,6 +67,30 @@ pub fn sized(mix: Mix, size: usize, seed: u64) -> Case {
         listing(&title, &sequences),
         expectation,
     )
+}
+
+/// The tags of SequenceData, with a number of up to six digits.
+const TAGS: usize = 60;
+
+/// As many items as have room, each with so many bytes about it, and their counts.
+fn filled(
+    room: usize,
+    about: usize,
+    counts: &mut Counts,
+    mut make: impl FnMut(&mut Counts) -> String,
+) -> Vec<String> {
+    let mut items = Vec::new();
+    let mut left = room;
+    loop {
+        let mut with_next = *counts;
+        let next = make(&mut with_next);
+        left = match left.checked_sub(next.len() + about) {
+            Some(left) => left,
+            None => return items,
+        };
+        *counts = with_next;
+        items.push(next);
+    }
 }
 
 /// Every trap: valid or invalid listings of nearly the greatest size.

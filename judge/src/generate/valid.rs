@@ -100,6 +100,7 @@ fn header(rng: &mut Rng, count: usize, percent: usize) -> Header {
     let application = optional(rng, percent, |rng| identification(rng, percent));
     let reference_percent = if application.is_some() { percent } else { 100 };
     let title_count = rng.between(1, 3);
+    let high = if rng.chance(70) { utf_8 } else { any_high_byte };
     Header {
         dtd_version: "1_2".into(),
         file_name: optional(rng, percent, text),
@@ -109,9 +110,9 @@ fn header(rng: &mut Rng, count: usize, percent: usize) -> Header {
         file_reference: optional(rng, reference_percent, text),
         application,
         priority: optional(rng, percent, |rng| identification(rng, percent)),
-        applicant: optional(rng, percent, |rng| name(rng, percent)),
-        inventor: optional(rng, percent, |rng| name(rng, percent)),
-        titles: (0..title_count).map(|_| worded(rng)).collect(),
+        applicant: optional(rng, percent, |rng| name(rng, percent, high)),
+        inventor: optional(rng, percent, |rng| name(rng, percent, high)),
+        titles: (0..title_count).map(|_| worded(rng, high)).collect(),
         total: count.to_string(),
     }
 }
@@ -129,21 +130,41 @@ fn identification(rng: &mut Rng, percent: usize) -> Identification {
     }
 }
 
-fn name(rng: &mut Rng, percent: usize) -> Name {
+fn name(rng: &mut Rng, percent: usize, high: High) -> Name {
     Name {
-        name: worded(rng),
+        name: worded(rng, high),
         latin: optional(rng, percent, text),
     }
 }
 
-fn worded(rng: &mut Rng) -> Worded {
+/// Makes the high bytes of a name or title: any, or in most listings those of UTF-8, as an XML reader wants them.
+type High = fn(&mut Rng) -> Vec<u8>;
+
+fn any_high_byte(rng: &mut Rng) -> Vec<u8> {
+    vec![rng.between(128, 255) as u8]
+}
+
+/// A character of two, three or four bytes that XML has.
+fn utf_8(rng: &mut Rng) -> Vec<u8> {
+    let (first, last) = *rng.pick(&[
+        ('\u{80}', '\u{7ff}'),
+        ('\u{800}', '\u{d7ff}'),
+        ('\u{e000}', '\u{fffd}'),
+        ('\u{10000}', '\u{10ffff}'),
+    ]);
+    let code = rng.between(first as usize, last as usize) as u32;
+    let character = char::from_u32(code).unwrap_or(first);
+    character.to_string().into_bytes()
+}
+
+fn worded(rng: &mut Rng, high: High) -> Worded {
     let size = rng.below(12);
     Worded {
         language: letters(rng, b'a', 2),
         text: (0..size)
-            .map(|_| match rng.below(3) {
-                0 => rng.between(128, 255) as u8,
-                _ => character(rng),
+            .flat_map(|_| match rng.below(3) {
+                0 => high(rng),
+                _ => vec![character(rng)],
             })
             .collect(),
     }

@@ -2,23 +2,17 @@
 
 use crate::report::Report;
 use judge::automaton::Automaton;
-use judge::generate::{sentences, LOCATION_SIGNS};
+use judge::generate::{location_texts, sentences};
 use judge::location::{BEFORE, BEYOND, COMPLEMENT, SITE};
 use judge::regex::{choice, literal, one, optional, plus, sequence, star, Regex};
 use judge::{location, Operator, Span};
 
 pub fn all(report: &mut Report) {
     let grammar = Automaton::new(&grammar());
-    let all = [&["1", "2", "0"][..], &LOCATION_SIGNS].concat();
-    for (words, longest) in [
-        (&all[..], 5),
-        (&["1", ",", ")", "join(", "complement("], 8),
-        (&["12", "..", "^", "<", ">", "0", "x"], 6),
-    ] {
-        sentences(words, longest, &mut |sentence| {
-            is_of_grammar(report, &grammar, sentence)
-        });
-    }
+    let mut each = |text: &str| is_of_grammar(report, &grammar, text);
+    location_texts(&["1", "2", "0"], 5, &mut each);
+    sentences(&["1", ",", ")", "join(", "complement("], 8, &mut each);
+    sentences(&["12", "..", "^", "<", ">", "0", "x"], 6, &mut each);
     near_misses(report, &grammar);
     for residue_count in 1..=3 {
         small_locations(report, residue_count);

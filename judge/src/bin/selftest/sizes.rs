@@ -2,7 +2,7 @@
 
 use crate::generated::expect;
 use crate::report::Report;
-use judge::generate::sized::{sized, MIXES, TRAPS};
+use judge::generate::sized::{sized, MIXES, SMALLEST, TRAPS};
 use judge::generate::Case;
 use judge::layout::LONGEST;
 use judge::{layout, Listing, Refusal};
@@ -14,7 +14,8 @@ const MOST_SECONDS: f64 = 5.0;
 /// Exact sizes in each mix, and long inputs that aren't listings.
 pub fn sizes(report: &mut Report) {
     for mix in MIXES {
-        let small = (600..640).chain([1000, 3000, 3001, 4000, 60_000, 65_536, 65_537]);
+        let small = (600..640).chain(SMALLEST - 1..SMALLEST + 1000);
+        let small = small.chain([4096, 60_000, 65_536, 65_537]);
         let large = [LONGEST - 1, LONGEST, LONGEST + 1, LONGEST + 2];
         for size in small.chain(large) {
             let case = sized(mix, size, size as u64);

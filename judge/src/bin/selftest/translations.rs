@@ -1,9 +1,10 @@
 //! Codon letters and coding texts, against tables that are turned the other way.
 
 use crate::report::Report;
-use judge::coding::complement;
+use judge::coding::{complement, Coding};
 use judge::generate::valid::CODONS;
-use judge::{codon_letter, translate, StopInside};
+use judge::location::{COMPLEMENT, SITE};
+use judge::{codon_letter, translate, Span, StopInside};
 
 const SYMBOLS: &[u8] = b"acgtmrwsykvhdbn";
 
@@ -80,6 +81,26 @@ pub fn all(report: &mut Report) {
         }
     }
     coding_texts(report);
+    sites(report);
+}
+
+/// A site has no residues, whichever way round its positions stand.
+fn sites(report: &mut Report) {
+    let residues = b"atgaaatgctaa";
+    let span = |first, last, marks| Span { first, last, marks };
+    for marks in [SITE, SITE | COMPLEMENT] {
+        for (first, last) in [(12, 1), (3, 4), (1, 1)] {
+            let site = span(first, last, marks);
+            let between = vec![span(1, 3, 0), site, span(4, 12, 0)];
+            for (spans, wanted) in [(vec![site], ""), (between, "MKC")] {
+                let letters: Result<Vec<u8>, _> =
+                    Coding::new(residues, spans, 1).letters().collect();
+                report.equal(letters, Ok(wanted.into()), || {
+                    format!("site {first}^{last}, {wanted:?}")
+                });
+            }
+        }
+    }
 }
 
 fn coding_texts(report: &mut Report) {

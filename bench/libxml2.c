@@ -1,5 +1,5 @@
 /* The peer: libxml2, which reads a listing into a tree and validates it against the DTD. */
-#include "peer.h"
+#include "libxml2.h"
 
 #include <limits.h>
 #include <malloc.h>
@@ -18,7 +18,7 @@ static void quiet(void *context, const char *message, ...)
     (void)message;
 }
 
-bool peer_open(const char *dtd_file)
+bool libxml2_open(const char *dtd_file)
 {
     LIBXML_TEST_VERSION
     /* Memory that a tree gave back is kept for the next one: asking the system for it each time would cost the peer up
@@ -30,7 +30,7 @@ bool peer_open(const char *dtd_file)
     return dtd != NULL;
 }
 
-bool peer_read(const char *listing, size_t length)
+bool libxml2_read(const char *listing, size_t length)
 {
     /* HUGE: a text of more than 10,000,000 bytes is refused otherwise. COMPACT: short texts stand inside their node,
        which is faster. NOERROR and NOWARNING: no messages. The DTD that the listing names is not fetched. */
@@ -53,20 +53,20 @@ bool peer_read(const char *listing, size_t length)
     return valid == 1;
 }
 
-void peer_forget(void)
+void libxml2_forget(void)
 {
     xmlFreeDoc(tree);
     tree = NULL;
 }
 
-void peer_close(void)
+void libxml2_close(void)
 {
     xmlFreeDtd(dtd);
     dtd = NULL;
     xmlCleanupParser();
 }
 
-const char *peer_version(void)
+const char *libxml2_version(void)
 {
     return LIBXML_DOTTED_VERSION;
 }

@@ -1,0 +1,85 @@
+//! A refusal, as lines, in words, or as JSON.
+
+use crate::json::{Fields, Json};
+use crate::place::{marked, position, stretch, Position};
+use dreichnook::Refusal;
+use std::io::{self, Write};
+
+/// A refusal of the listing that it came from.
+pub struct Refused<'a> {
+    pub listing: &'a [u8],
+    pub refusal: Refusal,
+}
+
+impl Refused<'_> {
+    /// What document 01's program prints; a question of an accepted listing that has no answer is told apart.
+    pub fn write(&self, out: &mut impl Write) -> io::Result<()> {
+        let Refusal { number, place } = self.refusal;
+        writeln!(out, "{} refused\nrule {number}\nplace {place}", self.what())
+    }
+
+    /// One line in words, in the way of compilers, which editors can follow.
+    pub fn write_words(&self, name: &str, out: &mut impl Write) -> io::Result<()> {
+        let Refusal { number, .. } = self.refusal;
+        let words = self.refusal.words();
+        match self.position() {
+            Some(Position { line, column }) => {
+                writeln!(out, "{name}:{line}:{column}: rule {number}: {words}")
+            }
+            None => writeln!(out, "{name}: rule {number}: {words}"),
+        }
+    }
+
+    /// The page of `show` for a refused listing: the rule in words, and the line with a mark.
+    pub fn write_page(&self, name: &str, out: &mut impl Write) -> io::Result<()> {
+        let Refusal { number, place } = self.refusal;
+        writeln!(out, "{name}: refused")?;
+        writeln!(out, "rule {number}: {}", self.refusal.words())?;
+        if let Some(Position { line, column }) = self.position() {
+            writeln!(out, "byte {place}, line {line}, column {column}:\n")?;
+            let [line, mark] = marked(self.listing, place as usize);
+            writeln!(out, "    {line}\n    {mark}")?;
+            if place as usize == self.listing.len() {
+                writeln!(out, "\nThe listing ends there, too soon.")?;
+            } else if number == Refusal::NOT_THE_LAYOUT {
+                writeln!(
+                    out,
+                    "\nAll before that byte begins a listing; with it, nothing does."
+                )?;
+            }
+        }
+        Ok(())
+    }
+
+    pub fn json(&self) -> Fields {
+        let Refusal { number, place } = self.refusal;
+        let mut fields = vec![
+            (self.what(), Json::from("refused")),
+            ("rule", u64::from(number).into()),
+            ("place", place.into()),
+            ("words", self.refusal.words().into()),
+        ];
+        if let Some(Position { line, column }) = self.position() {
+            fields.push(("line", line.into()));
+            fields.push(("column", column.into()));
+            let stretch = stretch(self.listing, place as usize);
+            fields.push(("stretch", Json::Text(stretch)));
+        }
+        fields
+    }
+
+    fn what(&self) -> &'static str {
+        if self.refusal.is_of_listing() {
+            "verdict"
+        } else {
+            "answer"
+        }
+    }
+
+    /// Where the fault stands; a listing that is too long has it nowhere, and neither has a question.
+    fn position(&self) -> Option<Position> {
+        let Refusal { number, place } = self.refusal;
+        let somewhere = self.refusal.is_of_listing() && number != Refusal::TOO_LONG;
+        somewhere.then(|| position(self.listing, place as usize))
+    }
+}
