@@ -1,5 +1,5 @@
 -- Texts put one behind another.
-use Prim.Native.Nat.{ℕ, suc, _+_, _<_}
+use Prim.Native.Nat.{ℕ, suc, _+_, _≤_, _<_}
 use native.Mathlib.Numerals.{add-one}
 use native.Mathlib.Nat.{add-zero}
 use native.Mathlib.Omega.{arith}
@@ -7,7 +7,11 @@ use mathlib.Core.Path.{_≡_, refl, sym, ap, _∙_}
 use mathlib.Core.List.{List, [], _∷_, _++_, append-assoc, append-nil}
 use lib.ListN.{length, take, getD, set, length-append}
 use lib.Seq.{take-suc, take-suc-set, length-take-le}
+use Rattle.io.specs.Counts.{Counts}
 use Rattle.report.specs.Pages.{Behind}
+
+pub counted : (n : ℕ) (l : List ℕ) → n ≤ length l → Counts n l
+counted n l h = (h, sym (length-take-le n l h))
 
 pub behind-nothing : (at : ℕ) (out : List ℕ) → Behind at out [] (at + 0) out
 behind-nothing at out = record { ends = refl; holds = rw (add-zero at) (sym (append-nil (take at out))) }

@@ -3,6 +3,7 @@ use Prim.Native.Nat.{ℕ, _+_, _≤_}
 use mathlib.Core.Path.{_≡_}
 use mathlib.Core.List.{List, _++_}
 use lib.ListN.{length, take}
+use Rattle.io.specs.Counts.{Counts}
 use Rattle.paper.specs.Answers.{line, page}
 use Rattle.paper.specs.declared.Verdict.{Verdict}
 
@@ -19,4 +20,5 @@ pub record LineBehind (at : ℕ) (before word : List ℕ) (n end : ℕ) (after :
 -- the first bytes of the room are the verdict's page, of at most 161 bytes whatever its numbers are
 pub record Shows (v : Verdict) (size : ℕ) (room : List ℕ) : Type 0 where
   pub fits : size ≤ 161
+  pub counts : Counts size room
   pub holds : take size room ≡ page v

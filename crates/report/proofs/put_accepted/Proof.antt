@@ -1,5 +1,6 @@
 -- Six lines, one behind the other.
-use Rattle.report.proofs.Ends.{behind-next}
+use Rattle.report.proofs.Ends.{counted, behind-next}
+use Prim.Native.Nat.{_≤_}
 use native.Mathlib.Omega.{arith}
 use borrow.Author.Needs.{needs}
 use Rattle.report.proofs.put_accepted.Statement.{statement}
@@ -51,8 +52,10 @@ returns c =
     (behind-next (c .before .before .before .before .before .before .before .before .before .before .before .before .before .before .before .before .before .before .before .before .before .before .put-line .ensures .stands)
     (behind-next (c .before .before .before .before .before .before .before .before .before .before .before .before .before .before .before .before .before .put-line2 .ensures .stands)
     (behind-next (c .before .before .before .before .before .before .before .before .before .before .before .before .put-line3 .ensures .stands) (behind-next (c .before .before .before .before .before .before .before .put-line4 .ensures .stands) (c .before .before .put-line5 .ensures .stands))))) in
+    let fits : c .before .before .put-line5 .result ≤ 161 = omega (arith, c .before .before .before .before .before .before .before .before .before .before .before .before .before .before .before .before .before .before .before .before .before .before .before .before .before .before .before .put-text .ensures .ends, c .before .before .before .before .before .before .before .before .before .before .before .before .before .before .before .before .before .before .before .before .before .before .put-line .ensures .short) in
     record {
-      fits = omega (arith, c .before .before .before .before .before .before .before .before .before .before .before .before .before .before .before .before .before .before .before .before .before .before .before .before .before .before .before .put-text .ensures .ends, c .before .before .before .before .before .before .before .before .before .before .before .before .before .before .before .before .before .before .before .before .before .before .put-line .ensures .short);
+      fits = fits;
+      counts = counted _ _ (omega (arith, c .before .before .before .before .before .before .before .before .before .before .before .before .before .before .before .before .before .before .before .before .before .before .before .before .before .before .before .before .before .before .before .pre, c .before .before .before .before .before .before .before .before .before .before .before .before .before .before .before .before .before .before .before .before .before .before .before .before .before .before .before .put-text .kept, c .before .before .before .before .before .before .before .before .before .before .before .before .before .before .before .before .before .before .before .before .before .before .put-line .kept));
       holds = stands .holds;
     }
 

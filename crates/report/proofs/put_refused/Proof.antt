@@ -1,5 +1,5 @@
 -- Three lines, one behind the other.
-use Rattle.report.proofs.Ends.{behind-next}
+use Rattle.report.proofs.Ends.{counted, behind-next}
 use native.Mathlib.Omega.{arith}
 use borrow.Author.Needs.{needs}
 use Rattle.report.proofs.put_refused.Statement.{statement}
@@ -29,7 +29,7 @@ same-length c = search needs
 returns : tie.Need-returns
 returns c =
     let stands = behind-next (c .before .before .before .before .before .before .before .before .before .before .before .before .put-text .ensures) (behind-next (c .before .before .before .before .before .before .before .put-line .ensures .stands) (c .before .before .put-line2 .ensures .stands)) in
-    record { fits = omega arith; holds = stands .holds }
+    record { fits = omega arith; counts = counted _ _ (omega (arith, c .before .before .before .before .before .before .before .before .before .before .before .before .before .before .before .before .pre)); holds = stands .holds }
 
 pub put-refused-spec : {M : Type 1} → statement M
 put-refused-spec =
