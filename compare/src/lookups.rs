@@ -250,6 +250,7 @@ pub fn run(count: u64, seed: u64, root: &Path) -> Result<bool, String> {
     let specimens = layout::specimens(&root.join("specimens"))?;
     let mut lookups = Lookups::new(boundary::ask, Some(root.join("target/compare")));
     lookups.kind("specimens", layout::specimen_inputs(specimens));
+    lookups.kind("hand-made", layout::hand_made());
     lookups.kind("generated", layout::generated(count, seed));
     lookups.kind("one damage", check::damages(count / 5, seed));
     let numbers = 0..count / 5;
