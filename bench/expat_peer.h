@@ -1,4 +1,5 @@
-/* The peer expat: it reads a listing and calls back for each tag and text; no tree, no DTD. */
+/* The peer expat: it reads a listing and calls back for each tag and text; no tree, no DTD.
+   The file isn't called expat.h, which is the library's own header. */
 #ifndef EXPAT_PEER_H
 #define EXPAT_PEER_H
 

@@ -20,6 +20,7 @@ pub fn run(count: u64, seed: u64, root: &Path) -> Result<bool, String> {
     let comparison = Comparison::new(boundary::check, judged, Some(folder));
     let mut check = Check::new(comparison, root)?;
     check.kind("specimens", layout::specimen_inputs(specimens))?;
+    check.kind("hand-made", layout::hand_made())?;
     check.kind("generated", layout::generated(count, seed))?;
     check.kind("one damage", damages(count, seed))?;
     check.kind("several damages", combined(count / 2, seed))?;

@@ -43,6 +43,16 @@ pub fn generated(count: u64, seed: u64) -> impl Iterator<Item = Input> {
     })
 }
 
+/// The judge's hand-made listings, 01's sample sheet among them.
+pub fn hand_made() -> impl Iterator<Item = Input> {
+    judge::hand::listings()
+        .into_iter()
+        .map(|(name, bytes)| Input {
+            name: format!("judge::hand::listings(), {name}"),
+            bytes,
+        })
+}
+
 /// The specimens as inputs.
 pub fn specimen_inputs(specimens: Vec<(String, Vec<u8>)>) -> impl Iterator<Item = Input> {
     specimens.into_iter().map(|(name, bytes)| Input {

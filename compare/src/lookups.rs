@@ -149,7 +149,7 @@ const HUGE: [u64; 2] = [(1 << 32) + 1, u64::MAX];
 /// The numbers to ask for among so many items; without a count the question is refused whatever the number.
 fn asked_numbers(count: Option<u64>, all: bool) -> Vec<u64> {
     match count {
-        None => vec![0, 1],
+        None => vec![0, 1, u64::MAX],
         Some(count) if all => (0..=count + 1).chain(HUGE).collect(),
         Some(count) => vec![count.max(1), count + 1],
     }
@@ -250,6 +250,7 @@ pub fn run(count: u64, seed: u64, root: &Path) -> Result<bool, String> {
     let specimens = layout::specimens(&root.join("specimens"))?;
     let mut lookups = Lookups::new(boundary::ask, Some(root.join("target/compare")));
     lookups.kind("specimens", layout::specimen_inputs(specimens));
+    lookups.kind("hand-made", layout::hand_made());
     lookups.kind("generated", layout::generated(count, seed));
     lookups.kind("one damage", check::damages(count / 5, seed));
     let numbers = 0..count / 5;

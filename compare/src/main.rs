@@ -15,6 +15,7 @@ mod xmllint;
 
 use std::path::Path;
 use std::process::ExitCode;
+use std::time::Instant;
 
 const USAGE: &str = "\
 compare layout COUNT [SEED]      rules 1 and 2 on COUNT generated listings, COUNT mutants, and more
@@ -46,17 +47,20 @@ fn main() -> ExitCode {
     }
 }
 
-/// Runs one comparison; whether nothing differs.
+/// Runs one comparison, and prints how long it took; whether nothing differs.
 fn compare(what: &str, count: &str, seed: &str, root: &Path) -> Result<bool, String> {
     let (count, seed) = (number(count)?, number(seed)?);
-    match what {
+    let start = Instant::now();
+    let outcome = match what {
         "layout" => layout::run(count, seed, root),
         "location" => location::run(count, seed),
         "translation" => translation::run(count, seed),
         "check" => check::run(count, seed, root),
         "lookups" => lookups::run(count, seed, root),
         _ => Err(usage()),
-    }
+    }?;
+    println!("{:.0} seconds", start.elapsed().as_secs_f64());
+    Ok(outcome)
 }
 
 fn usage() -> String {

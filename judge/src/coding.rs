@@ -1,7 +1,7 @@
 //! Translation of coding residues by genetic code 1.
 
 use crate::location::{Span, COMPLEMENT, SITE};
-use std::ops::RangeInclusive;
+use std::ops::Range;
 
 /// The letters of code 1 "for bases in order t, c, a, g, first base slowest".
 const CODE_1: &[u8; 64] = b"FFLLSSSSYY**CC*WLLLLPPPPHHQQRRRRIIIMTTTTNNKKSSRRVVVVAAAADDEEGGGG";
@@ -110,13 +110,7 @@ pub struct Coding<'a> {
 impl<'a> Coding<'a> {
     /// The residues of these spans, to be read from `codon_start` (1, 2 or 3) on.
     pub fn new(residues: &'a [u8], spans: Vec<Span>, codon_start: usize) -> Coding<'a> {
-        let residue_count: u64 = spans
-            .iter()
-            .map(|&span| {
-                let positions = positions(span);
-                u64::from(*positions.end()) + 1 - u64::from(*positions.start())
-            })
-            .sum();
+        let residue_count: u64 = spans.iter().map(|&span| indices(span).len() as u64).sum();
         Coding {
             residues,
             spans,
@@ -157,23 +151,23 @@ impl<'a> Coding<'a> {
     }
 }
 
-/// The positions of one span. A site stands between two residues, `L^1` between the last and the first, and has none.
-fn positions(span: Span) -> RangeInclusive<u32> {
+/// Where the residues of one span stand. A site lies between two of them, `L^1` between the last and the first, and has none.
+fn indices(span: Span) -> Range<usize> {
     if span.marks & SITE == 0 {
-        span.first..=span.last
+        span.first as usize - 1..span.last as usize
     } else {
-        1..=0
+        0..0
     }
 }
 
 /// The residues of one span, backwards and complemented if its mark says so.
 fn residues_of(residues: &[u8], span: Span) -> impl Iterator<Item = u8> + '_ {
-    positions(span).map(move |position| {
+    let Range { start, end } = indices(span);
+    (start..end).map(move |index| {
         if span.marks & COMPLEMENT == 0 {
-            residues[position as usize - 1]
+            residues[index]
         } else {
-            let mirrored = span.first + (span.last - position);
-            complement(residues[mirrored as usize - 1])
+            complement(residues[start + (end - 1 - index)])
         }
     })
 }

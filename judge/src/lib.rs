@@ -5,6 +5,7 @@ pub mod automaton;
 mod cds;
 pub mod coding;
 pub mod generate;
+pub mod hand;
 pub mod layout;
 mod listing;
 pub mod location;

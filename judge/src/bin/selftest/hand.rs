@@ -1,9 +1,9 @@
 //! Runs the hand-made cases.
 
-use crate::base::{bytes, edited, BASE, BASE_COUNTS, SHORTEST};
-use crate::hand_layout::{ACCEPTED, REFUSED};
-use crate::hand_values::{Case, Outcome, FEATURES, HEADER, SAMPLES, SEQUENCES};
 use crate::report::Report;
+use judge::hand::base::{bytes, edited, BASE, BASE_COUNTS, SHORTEST};
+use judge::hand::layouts::{ACCEPTED, REFUSED};
+use judge::hand::values::{Case, Outcome, FEATURES, HEADER, SAMPLES, SEQUENCES};
 use judge::text::characters;
 use judge::{broken, layout, verdict_lines, Broken, Counts, Listing, Refusal};
 
@@ -77,20 +77,8 @@ pub fn values(report: &mut Report) {
     let wanted = b"a<>&\"'lt; \xff".to_vec();
     report.equal(read, wanted, || "entities as read".into());
     for case in [SAMPLES, HEADER, SEQUENCES, FEATURES].into_iter().flatten() {
-        value(report, case);
-    }
-}
-
-/// Runs the case, with each of its family's values if it has a family.
-fn value(report: &mut Report, case: &Case) {
-    match case.family {
-        None => outcome(report, case, "", &edited(case.edits)),
-        Some(((stretch, new), values)) => {
-            for value in values {
-                let new = new.replace('@', value);
-                let edits = [case.edits, &[(stretch, &new)]].concat();
-                outcome(report, case, value, &edited(&edits));
-            }
+        for (value, text) in case.listings() {
+            outcome(report, case, value, &text);
         }
     }
 }

@@ -1,10 +1,10 @@
 //! Every question of document 01: by hand, and against what the generator knows.
 
-use crate::base::{edited, BASE};
-use crate::hand_values::SAMPLES;
 use crate::report::Report;
 use judge::generate::model::{Coding, Feature, Field, Sequence};
 use judge::generate::{Model, Written};
+use judge::hand::base::{edited, BASE};
+use judge::hand::values::SAMPLES;
 use judge::{
     FeatureAnswer, Kind, Listing, Operator, Part, QualifierAnswer, Refusal, SequenceAnswer,
     SpansAnswer,

@@ -1,10 +1,7 @@
 //! The judge's self-test; its last line is `N passed, 0 failed`.
 
-mod base;
 mod generated;
 mod hand;
-mod hand_layout;
-mod hand_values;
 mod locations;
 mod lookups;
 mod places;

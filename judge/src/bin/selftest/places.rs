@@ -1,9 +1,9 @@
 //! Rule 2's place against a slow matcher, on beginnings and on mutants.
 
-use crate::base::{BASE, SHORTEST};
 use crate::report::Report;
 use judge::automaton::Automaton;
 use judge::generate::{case, valid_listing, Rng};
+use judge::hand::base::{BASE, SHORTEST};
 use judge::layout::grammar;
 use judge::regex::Regex;
 use judge::{broken, layout, Broken, Listing, Refusal};

@@ -1,6 +1,6 @@
 //! Hand-made cases for rules 10 to 29: each with every rule that it breaks, or with its counts.
 
-use super::base::Edit;
+use super::base::{edited, Edit};
 
 /// A rule, its place, and what stands at that place; `@` is the family's value.
 pub type Broken = (u32, usize, &'static str);
@@ -85,6 +85,20 @@ const fn accepted(name: &'static str, edits: &'static [Edit], counts: [u64; 5]) 
 }
 
 impl Case {
+    /// The listing of this case; if it has a family, the one of each value, with that value.
+    pub fn listings(&self) -> Vec<(&'static str, Vec<u8>)> {
+        match self.family {
+            None => vec![("", edited(self.edits))],
+            Some(((stretch, new), values)) => {
+                let listing = |&value: &&'static str| {
+                    let new = new.replace('@', value);
+                    (value, edited(&[self.edits, &[(stretch, &new)]].concat()))
+                };
+                values.iter().map(listing).collect()
+            }
+        }
+    }
+
     /// The same with each of these values in place of the `@` of one more edit.
     const fn each(mut self, edit: Edit, values: &'static [&'static str]) -> Case {
         self.family = Some((edit, values));
