@@ -1,6 +1,7 @@
 // The program: a listing of at most 65,536 bytes from standard input, its verdict as lines on standard output.
 // Relies on the check, on the report's lines and on the kit's reading and writing.
-use libc::{STDIN_FILENO, STDOUT_FILENO};
+use libc::STDIN_FILENO;
+use libc::STDOUT_FILENO;
 
 // One byte more than a listing may have is asked for, to see that there are more.
 fn main() {
