@@ -154,7 +154,6 @@ EndingAt s at = (getD s at 0 ≡ 60) × (getD s (at + 6) 0 ≡ 83)
 
 -- the test of the two bytes, as a number
 pub record Ending (a b r : ℕ) : Type 0 where
-  pub small : r ≤ 1
   pub none : r ≡ 0 → a ≡ 60 → b ≡ 83 → ⊥
   pub some : ¬ (r ≡ 0) → (a ≡ 60) × (b ≡ 83)
 

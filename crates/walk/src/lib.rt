@@ -373,7 +373,7 @@ pub fn feature_over(s: &[u8], at: usize) -> usize
 
 // ---- the end of a feature table
 
-// 1 for `<` and, six bytes further, `S`: so starts `</INSDSeq_feature-table`, and no tag inside the table. As a number, to be summed without a branch.
+// 1 for `<` and, six bytes further, `S`: so starts `</INSDSeq_feature-table`, and no tag inside the table. As a number, to be joined without a branch.
 fn ending(a: u8, b: u8) -> u8
     ensures { λ r. ⌜ Ending a b r ⌝ }
 {
@@ -385,18 +385,18 @@ fn ending(a: u8, b: u8) -> u8
     0
 }
 
-// 0 only where the table ends at none of 32 places. A sum with no branch: it is compiled to vector code.
+// 0 only where the table ends at none of 32 places. With no branch, and no sum: so it is compiled to plain vector code.
 fn endings(s: &[u8], at: usize) -> u8
     requires { ⌜ at + 38 ≤ length (now s) ⌝ }
     ensures { λ r. ⌜ Endings (now (s .entry)) at r ⌝ }
 {
-    let mut sum: u8 = 0;
+    let mut any: u8 = 0;
     let mut j: usize = 0;
     while j < 32 {
-        sum += ending(s[at + j], s[at + j + 6]);
+        any = any | ending(s[at + j], s[at + j + 6]);
         j += 1;
     }
-    sum
+    any
 }
 
 // The first such place from here on, byte by byte.

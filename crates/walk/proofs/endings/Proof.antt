@@ -1,6 +1,7 @@
--- `walk::endings` meets its contract. The loop's invariant: the sum is at most 1 for each place passed, and where it is 0 no end starts there. The measure is what is left of the 32 places.
+-- `walk::endings` meets its contract. The loop's invariant: where the tests joined are 0 no end starts at a place passed. The measure is what is left of the 32 places.
 use Rattle.walk.proofs.Quiet.{ending-more}
 use Rattle.walk.specs.Stands.{NoEnding}
+use lib.Bits.{bitOr, and-le-l, and-le-r, or-add-and}
 use mathlib.Core.Path.{_≡_, subst}
 use native.Mathlib.Omega.{arith}
 use Prim.Native.Nat.{ℕ, _+_, _-_, _≤_}
@@ -8,14 +9,18 @@ use borrow.Author.Needs.{needs}
 use Rattle.walk.proofs.endings.Statement.{statement}
 use Rattle.walk.proofs.endings.Tie as tie
 
+-- where neither of two numbers has a bit both are 0
+or-none : (a b : ℕ) → bitOr a b ≡ 0 → (a ≡ 0) × (b ≡ 0)
+or-none a b h = (omega (arith, h, or-add-and a b, and-le-l a b, and-le-r a b), omega (arith, h, or-add-and a b, and-le-l a b, and-le-r a b))
+
 abbrev Inv-loop : tie.InvT-loop
-Inv-loop s at sum₀ j₀ sum j = (j ≤ 32) × (sum ≤ j) × (sum ≡ 0 → NoEnding s at (at + j))
+Inv-loop s at any₀ j₀ any j = (j ≤ 32) × (any ≡ 0 → NoEnding s at (at + j))
 
 abbrev μ-loop : tie.MeasureT-loop
-μ-loop s at sum₀ j₀ sum j = 32 - j
+μ-loop s at any₀ j₀ any j = 32 - j
 
 loop-holds : tie.Need-loop-holds Inv-loop μ-loop
-loop-holds c = (omega arith, omega arith, λ h k i j. absurd (omega arith))
+loop-holds c = (omega arith, λ h k i j. absurd (omega arith))
 
 add-ending : tie.Need-add-ending Inv-loop μ-loop
 add-ending c = search needs
@@ -35,9 +40,6 @@ shared-slice-read-ending-2 c = search needs
 ending-requires : tie.Need-ending-requires Inv-loop μ-loop
 ending-requires c κs = search needs
 
-add-sum : tie.Need-add-sum Inv-loop μ-loop
-add-sum c = omega (arith, c .ending .ensures .small)
-
 add-j : tie.Need-add-j Inv-loop μ-loop
 add-j c = search needs
 
@@ -48,12 +50,13 @@ loop-again : tie.Need-loop-again Inv-loop μ-loop
 loop-again c =
     let l = c .before .before .before .before .loop in
     let a = c .before .before .before .before .before .before .args in
-    let o = c .ending .ensures in
+    let o = c .ending in
     let q : a .at + l .j + 1 ≡ a .at + (l .j + 1) = omega arith in (
       omega arith,
-      omega (arith, o .small),
-      λ h. subst (NoEnding (a .s .now) (a .at)) q
-          (ending-more (a .s .now) (a .at) (a .at + l .j) (l .inv .2 (omega arith)) (λ x. o .none (omega arith) (x .0) (x .1))),
+      λ h.
+          let b = or-none (l .any) (o .result) h in
+          subst (NoEnding (a .s .now) (a .at)) q
+          (ending-more (a .s .now) (a .at) (a .at + l .j) (l .inv .1 (b .0)) (λ x. o .ensures .none (b .1) (x .0) (x .1))),
     )
 
 returns : tie.Need-returns Inv-loop μ-loop
@@ -61,7 +64,7 @@ returns c =
     let l = c .before .loop in
     let a = c .before .before .before .args in
     let q : l .j ≡ 32 = omega arith in
-    record { none = λ h. subst (λ (k : ℕ). NoEnding (a .s .now) (a .at) (a .at + k)) q (l .inv .2 h) }
+    record { none = λ h. subst (λ (k : ℕ). NoEnding (a .s .now) (a .at) (a .at + k)) q (l .inv .1 h) }
 
 pub endings-spec : {M : Type 1} → statement M
 endings-spec =
@@ -76,7 +79,6 @@ endings-spec =
     add-ending-3
     shared-slice-read-ending-2
     ending-requires
-    add-sum
     add-j
     loop-less
     loop-again
