@@ -5,7 +5,6 @@ use paper::Verdict;
 use walk::FoundFeature;
 use walk::FoundQualifier;
 use walk::FoundSequence;
-use walk::FoundTable;
 ghost use Rattle.paper.specs.Bytes.{isBlank};
 ghost use Rattle.scan.specs.Follow.{Not};
 ghost use Rattle.walk.specs.Stands.{There, tagOf, Over};

@@ -111,7 +111,7 @@ total-more l q {k = k} {a} {r} {x} ad ek y t bt bf bj bu =
 
 -- ---- the loop
 
-sequence-leads : (q : Sequence ℕ) → Leads (bytes "<SequenceData") (child sequence q)
+pub sequence-leads : (q : Sequence ℕ) → Leads (bytes "<SequenceData") (child sequence q)
 sequence-leads q =
     leads-seq (bytes "<SequenceData") (sequence q) blanks
     (leads-seq (bytes "<SequenceData") (tag (bytes "SequenceData") · attribute (bytes "sequenceIDNumber") (q .number)) (holding (bytes "SequenceData") (child inner q))

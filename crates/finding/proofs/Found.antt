@@ -1,0 +1,140 @@
+-- What was found in an accepted listing, from where its items stand; and the refusals 30 to 33.
+use Prim.Native.Nat.{ℕ}
+use mathlib.Core.Path.{_≡_, refl, sym, ap, _∙_, subst}
+use mathlib.Core.Bool.{Bool, true, false, not, true≢false}
+use mathlib.Core.List.{List}
+use mathlib.Core.Option.{Option, none, some}
+use Rattle.paper.specs.Lists.{Numbered}
+use Rattle.paper.specs.Form.{Form}
+use Rattle.paper.specs.Tree.{Feature, Table, Listing, featuresIn, qualifiersOf}
+use Rattle.paper.specs.Layout.{LaidOut, child}
+use Rattle.paper.specs.Layout as layout
+use Rattle.paper.specs.Rules.{Skipped}
+use Rattle.paper.specs.Answers.{refuse, give, Checked, CheckSays, FindsSequence, FindsFeature}
+use Rattle.paper.specs.Answers as paper
+use Rattle.paper.specs.declared.Verdict.the-variants.{Accepted}
+use Rattle.value.specs.Reading.{Tells}
+use Rattle.value.proofs.Tests.{tells-true, tells-false}
+use Rattle.walk.specs.Stands.{IsSequence, TableIs}
+use Rattle.walk.specs.Stands as walk
+use Rattle.walk.specs.declared.FoundSequence.{FoundSequence}
+use Rattle.walk.specs.declared.FoundFeature.{FoundFeature}
+use Rattle.walk.specs.declared.FoundQualifier.{FoundQualifier}
+use Rattle.walk.specs.declared.FoundTable.{FoundTable}
+use Rattle.header.specs.Headers.{JudgesHeader}
+use Rattle.header.specs.declared.Headed.{Headed}
+use Rattle.texts.specs.Texts.{TellsSkipped}
+use Rattle.finding.specs.Items.{Here, PlaceIs, SeeksIn}
+use Rattle.finding.specs.Finds.{FirstIs, SequenceIs, FeatureFound, FeatureIs, FeatureAsked, QualifierFound, QualifierAsked}
+use Rattle.finding.specs.declared.Place.{Place}
+use Rattle.finding.specs.declared.Place.the-variants.{Missing, At}
+use Rattle.finding.specs.declared.FeatureAt.{FeatureAt}
+use Rattle.finding.specs.declared.FeatureAt.the-variants as feature
+use Rattle.finding.specs.declared.QualifierAt.{QualifierAt}
+use Rattle.finding.specs.declared.QualifierAt.the-variants as qualifier
+
+laid-out : {w : List ℕ} {l : Listing ℕ} → Checked w (give l) → LaidOut l w
+laid-out (paper.accepted short laid clean) = laid
+
+pub first-found : {w : List ℕ} {t s f j u : ℕ} {h : Headed} → CheckSays w (Accepted t s f j u) → JudgesHeader w h → FirstIs w (h .first)
+first-found c j =
+    let y = j .says (c .0) (laid-out (c .1)) in
+    record { listing = c .0; accepted = c .1; end = y .end; sequences = y .sequences; closes = y .closes }
+
+-- what is promised of a place, of the variant that a match told
+pub placed : {A : Type 0} {F : A → Form} {s : List ℕ} {first k : ℕ} {r p : Place} → r ≡ p → SeeksIn F s first k r → SeeksIn F s first k p
+placed {F = F} {s} {first} {k} h x = subst (SeeksIn F s first k) h x
+
+-- ---- a sequence
+
+module _ {w : List ℕ} {first k : ℕ} (f : FirstIs w first) where
+  sought : {r : Place} → SeeksIn (child layout.sequence) w first k r → PlaceIs (child layout.sequence) w (f .listing .sequences) k r
+  sought n = n .says (f .listing .sequences) (f .end) (f .sequences) (f .closes)
+
+  pub no-sequence : SeeksIn (child layout.sequence) w first k Missing → FindsSequence w k (refuse 30 0)
+  no-sequence n = paper.no-sequence (f .accepted) (sought n)
+
+  module _ {at : ℕ} {r : FoundSequence} {b : Bool} (n : SeeksIn (child layout.sequence) w first k (At at)) (found : walk.FindsSequence w at r)
+      (tells : TellsSkipped w (r .residues) b) where
+    here : Here (child layout.sequence) w (f .listing .sequences) k at
+    here = sought n
+
+    is : IsSequence w (here .item) (here .end) r
+    is = found (here .item) (here .end) (here .stands) (here .follows)
+
+    skips : Tells b (Skipped (here .item))
+    skips = tells .says (here .item) (is .residues)
+
+    pub skipped-so : b ≡ true → FindsSequence w k (refuse 31 0)
+    skipped-so h = paper.skipped (here .item) (f .accepted) (here .numbered) (tells-true b h skips)
+
+    pub sequence-so : b ≡ false → SequenceIs w k r
+    sequence-so h =
+        record { asked = here .item; finds = paper.sequence (f .accepted) (here .numbered) (tells-false b h skips); end = here .end; is = is }
+
+-- ---- a feature
+
+module _ {w : List ℕ} {j : ℕ} where
+  sought-in : (t : FoundTable) → not (t .present) ≡ false → {p : Place} → SeeksIn (child layout.feature) w (t .first) j p → (o : Option (Table ℕ)) → TableIs w o t
+      → PlaceIs (child layout.feature) w (featuresIn o) j p
+  sought-in t h n none i = absurd (true≢false (sym (ap not i) ∙ h))
+  sought-in t h n (some x) i = n .says (x .features) (i .1 .stop) (i .1 .features) (i .1 .closes)
+
+  module _ {r : FoundSequence} where
+    pub no-table : not (r .table .present) ≡ true → FeatureFound w r j (feature.Refused 32 0)
+    no-table h = record { says = λ q e x. (refl, refl, none-in (q .table) (x .table)) }
+      where
+        none-in : (o : Option (Table ℕ)) → TableIs w o (r .table) → (f : Feature ℕ) → ¬ Numbered (featuresIn o) j f
+        none-in none i f y = y .2
+        none-in (some x) i f y = true≢false (sym h ∙ ap not (i .0))
+
+    pub no-feature : not (r .table .present) ≡ false → SeeksIn (child layout.feature) w (r .table .first) j Missing → FeatureFound w r j (feature.Refused 32 0)
+    no-feature h n = record { says = λ q e x. (refl, refl, sought-in (r .table) h n (q .table) (x .table)) }
+
+    pub feature-so : {at : ℕ} {f : FoundFeature} → not (r .table .present) ≡ false → SeeksIn (child layout.feature) w (r .table .first) j (At at)
+        → walk.FindsFeature w at f → FeatureFound w r j (feature.Found r f)
+    feature-so h n found =
+        record {
+          says =
+              λ q e x.
+              let y = sought-in (r .table) h n (q .table) (x .table) in
+              (refl, record { asked = y .item; numbered = y .numbered; end = y .end; is = found (y .item) (y .end) (y .stands) (y .follows) });
+        }
+
+pub feature-asked : {w : List ℕ} {k j : ℕ} {r : FoundSequence} → SequenceIs w k r → (y : FeatureAt) → FeatureFound w r j y → FeatureAsked w k j y
+feature-asked x (feature.Refused n p) f =
+    let z = f .says (x .asked) (x .end) (x .is) in
+    rw (z .0, z .1) (paper.no-feature (x .finds) (z .2))
+feature-asked x (feature.Found s g) f =
+    let z = f .says (x .asked) (x .end) (x .is) in
+    rw (z .0) (record { sequence = x; feature = z .1 })
+
+-- the sequence and the feature that are found are those that the paper says
+pub feature-given : {w : List ℕ} {k j : ℕ} {s : FoundSequence} {f : FoundFeature} (x : FeatureIs w k j s f)
+    → FindsFeature w k j (give (x .sequence .asked, x .feature .asked))
+feature-given x = paper.feature (x .sequence .finds) (x .feature .numbered)
+
+-- ---- a qualifier
+
+module _ {w : List ℕ} {g : FoundFeature} {i : ℕ} where
+  pub no-qualifier : SeeksIn (child layout.qualifier) w (g .quals) i Missing → QualifierFound w g i (qualifier.Refused 33 0)
+  no-qualifier n = record { says = λ f e x. (refl, refl, n .says (qualifiersOf f) (x .stop) (x .quals) (x .closes)) }
+
+  pub qualifier-so : {at : ℕ} {r : FoundQualifier} → SeeksIn (child layout.qualifier) w (g .quals) i (At at) → walk.FindsQualifier w at r
+      → QualifierFound w g i (qualifier.Found r)
+  qualifier-so n found =
+      record {
+        says =
+            λ f e x.
+            let y = n .says (qualifiersOf f) (x .stop) (x .quals) (x .closes) in
+            record { asked = y .item; numbered = y .numbered; end = y .end; is = found (y .item) (y .end) (y .stands) (y .follows) };
+      }
+
+pub qualifier-asked : {w : List ℕ} {k j i : ℕ} {s : FoundSequence} {g : FoundFeature} → FeatureIs w k j s g → (y : QualifierAt) → QualifierFound w g i y
+    → QualifierAsked w k j i y
+qualifier-asked x (qualifier.Refused n p) f =
+    let z = f .says (x .feature .asked) (x .feature .end) (x .feature .is) in
+    rw (z .0, z .1) (paper.no-qualifier (feature-given x) (z .2))
+qualifier-asked x (qualifier.Found r) f =
+    let z = f .says (x .feature .asked) (x .feature .end) (x .feature .is) in
+    record { asked = z .asked; finds = paper.qualifier (feature-given x) (z .numbered); end = z .end; is = z .is }
