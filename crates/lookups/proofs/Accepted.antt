@@ -1,22 +1,22 @@
 -- A sequence that is found is one of an accepted listing: no rule is broken on its texts or on its features.
 use Prim.Native.Nat.{ℕ, _≤_}
-use mathlib.Core.Path.{_≡_, refl, sym, subst}
-use mathlib.Core.Bool.{Bool, true, false}
+use mathlib.Core.Path.{_≡_, refl}
 use mathlib.Core.Logic.{inr}
 use mathlib.Core.List.{List}
 use lib.ListN.{length}
-use Rattle.paper.specs.Lists.{_∈_, Numbered}
+use Rattle.paper.specs.Lists.{_∈_}
 use Rattle.paper.specs.Tree.{Sequence, Feature, featuresOf}
 use Rattle.paper.specs.Rules.{dna, rna, aa, IsKind}
 use Rattle.paper.specs.Rules as Rules
 use Rattle.paper.specs.Answers.{limit, give, kindNumber, FindsSequence}
 use Rattle.paper.specs.Answers as paper
-use Rattle.value.specs.Reading.{KindIs, Names}
+use Rattle.value.specs.Reading.{KindIs}
 use Rattle.value.specs.declared.Kind.{Kind}
 use Rattle.value.specs.declared.Kind.the-variants.{Dna, Rna, Aa, Other}
 use Rattle.judging.specs.Sets.{InTexts, InFeature}
 use Rattle.judging.specs.Sets as part
 use Rattle.judging.proofs.Whole.{listing-to}
+use Rattle.translating.specs.Plans.{Keeps}
 use Rattle.lookups.specs.Shows.{kindIs}
 
 pub record Accepts (w : List ℕ) (q : Sequence ℕ) : Type 0 where
@@ -31,6 +31,9 @@ accepts {k = k} {q} (paper.sequence {l} (paper.accepted short laid clean) i s) =
       texts = λ n p h. clean n p (listing-to l n p (inr (inr (k, q, i, part.texts s h))));
       features = λ f m n p h. clean n p (listing-to l n p (inr (inr (k, q, i, part.table s (part.feature f m h)))));
     }
+
+pub keeps-feature : {w : List ℕ} {q : Sequence ℕ} → Accepts w q → (f : Feature ℕ) → f ∈ featuresOf q → Keeps q f
+keeps-feature a f m = record { texts = a .texts; feature = a .features f m }
 
 -- the kind that its moltype names (rule 16)
 pub record KindOf (q : Sequence ℕ) (c : Kind) : Type 0 where

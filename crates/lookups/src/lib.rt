@@ -1,13 +1,22 @@
 // The calls of document 01 that show a piece of an accepted listing: each is the check, a walk to the item, and its answer.
 // Any bytes, any numbers and any room may be given; nobody need check anything first.
 // Relies on the crates finding and translating, and on the parts of the judge for the kind and L.
+use finding::FeatureAt;
+use finding::QualifierAt;
+use finding::SequenceAt;
+use finding::find_feature;
+use finding::find_qualifier;
+use finding::find_sequence;
 use judging::Known;
+use judging::bytes_of;
+use location::room::Answer;
 use value::Kind;
 use walk::FoundSequence;
 use walk::Maybe;
 use walk::Part;
 ghost use mathlib.Core.Path.{_≡_};
-ghost use Rattle.lookups.specs.Shows.{noStretch, StretchOf, IsPresent, ValueOf, kindIs, KnowsSequence, noSpans, PointsAt};
+ghost use Rattle.paper.specs.Answers.{SequenceSays, FeatureSays, QualifierSays, SpansSays};
+ghost use Rattle.lookups.specs.Shows.{noStretch, partIs, Lies, StretchOf, IsPresent, ValueOf, kindIs, KnowsSequence, noSpans, PointsAt, ShowsSequence, ShowsFeature, ShowsQualifier};
 
 // A stretch of the listing.
 pub struct Stretch {
@@ -56,6 +65,30 @@ pub struct SequenceAnswer {
     pub residues: Stretch,
 }
 
+pub fn locate_sequence(listing: &[u8], k: usize) -> SequenceAnswer
+    ensures { λ r. ⌜ SequenceSays (now (listing .entry)) k (r .number) (r .place) (r .kind) (partIs (r .residues)) ⌝ }
+    ensures { λ r. ⌜ Lies (now (listing .entry)) (r .residues) ⌝ }
+{
+    match find_sequence(listing, k) {
+        SequenceAt::Refused { rule, place } => SequenceAnswer {
+            number: rule,
+            place,
+            kind: 0,
+            residues: no_stretch(),
+        },
+        SequenceAt::Found(found) => {
+            let moltype = found.moltype;
+            let kind = value::kind_of(bytes_of(listing, moltype.from, moltype.to));
+            SequenceAnswer {
+                number: 0,
+                place: 0,
+                kind: kind_number(kind),
+                residues: stretch_of(found.residues),
+            }
+        }
+    }
+}
+
 // A stretch of the lent slice itself.
 fn shown<'l>(listing: &'l [u8], x: Stretch) -> &'l [u8]
     ensures { λ r. ⌜ PointsAt (now (listing .entry)) (listing .entry .ptr) x (now r) (r .ptr) ⌝ }
@@ -72,6 +105,29 @@ fn shown<'l>(listing: &'l [u8], x: Stretch) -> &'l [u8]
 }
 
 // "its kind, and its residues as the part of the lent listing"
+pub fn sequence<'l>(
+    listing: &'l [u8],
+    k: usize,
+    number: &mut usize,
+    place: &mut usize,
+    kind: &mut u8,
+) -> &'l [u8]
+    ensures { λ r. ⌜ ShowsSequence (now (listing .entry)) (listing .entry .ptr) k (now (number .exit)) (now (place .exit)) (now (kind .exit)) (now r) (r .ptr) ⌝ }
+{
+    let SequenceAnswer {
+        number: n,
+        place: p,
+        kind: d,
+        residues,
+    } = locate_sequence(listing, k);
+    *number = n;
+    *place = p;
+    *kind = d;
+    shown(listing, residues)
+}
+
+// ---- a feature
+
 // Where its key and its location stand; or the number of a refusal and its place.
 pub struct FeatureAnswer {
     pub number: usize,
@@ -80,7 +136,54 @@ pub struct FeatureAnswer {
     pub location: Stretch,
 }
 
+pub fn locate_feature(listing: &[u8], k: usize, j: usize) -> FeatureAnswer
+    ensures { λ r. ⌜ FeatureSays (now (listing .entry)) k j (r .number) (r .place) (partIs (r .key)) (partIs (r .location)) ⌝ }
+    ensures { λ r. ⌜ Lies (now (listing .entry)) (r .key) × Lies (now (listing .entry)) (r .location) ⌝ }
+{
+    match find_feature(listing, k, j) {
+        FeatureAt::Refused { rule, place } => FeatureAnswer {
+            number: rule,
+            place,
+            key: no_stretch(),
+            location: no_stretch(),
+        },
+        FeatureAt::Found {
+            sequence: _,
+            feature,
+        } => FeatureAnswer {
+            number: 0,
+            place: 0,
+            key: stretch_of(feature.key),
+            location: stretch_of(feature.location),
+        },
+    }
+}
+
 // "its key and location parts": the location is returned, the key goes to the lent place.
+pub fn feature<'l, 'k>(
+    listing: &'l [u8],
+    k: usize,
+    j: usize,
+    number: &mut usize,
+    place: &mut usize,
+    key: &'k mut &'l [u8],
+) -> &'l [u8]
+    ensures { λ r. ⌜ ShowsFeature (now (listing .entry)) (listing .entry .ptr) k j (now (number .exit)) (now (place .exit)) (now (now (key .exit))) (now (key .exit) .ptr) (now r) (r .ptr) ⌝ }
+{
+    let FeatureAnswer {
+        number: n,
+        place: p,
+        key: name,
+        location,
+    } = locate_feature(listing, k, j);
+    *number = n;
+    *place = p;
+    *key = shown(listing, name);
+    shown(listing, location)
+}
+
+// ---- a qualifier
+
 // Where its name and its value stand, and whether it has a value; or the number of a refusal and its place.
 pub struct QualifierAnswer {
     pub number: usize,
@@ -108,7 +211,60 @@ fn value_stretch(value: Maybe) -> Stretch
     }
 }
 
+pub fn locate_qualifier(listing: &[u8], k: usize, j: usize, i: usize) -> QualifierAnswer
+    ensures { λ r. ⌜ QualifierSays (now (listing .entry)) k j i (r .number) (r .place) (partIs (r .name)) (r .present) (partIs (r .value)) ⌝ }
+    ensures { λ r. ⌜ Lies (now (listing .entry)) (r .name) × Lies (now (listing .entry)) (r .value) ⌝ }
+{
+    match find_qualifier(listing, k, j, i) {
+        QualifierAt::Refused { rule, place } => QualifierAnswer {
+            number: rule,
+            place,
+            name: no_stretch(),
+            present: false,
+            value: no_stretch(),
+        },
+        QualifierAt::Found(found) => {
+            let value = found.value;
+            QualifierAnswer {
+                number: 0,
+                place: 0,
+                name: stretch_of(found.name),
+                present: is_present(value),
+                value: value_stretch(value),
+            }
+        }
+    }
+}
+
 // "its name part, whether a value is present, and its part": the value is returned, the name goes to the lent place.
+pub fn qualifier<'l, 'k>(
+    listing: &'l [u8],
+    k: usize,
+    j: usize,
+    i: usize,
+    number: &mut usize,
+    place: &mut usize,
+    present: &mut bool,
+    name: &'k mut &'l [u8],
+) -> &'l [u8]
+    ensures { λ r. ⌜ ShowsQualifier (now (listing .entry)) (listing .entry .ptr) k j i (now (number .exit)) (now (place .exit)) (now (now (name .exit))) (now (name .exit) .ptr) (now (present .exit)) (now r) (r .ptr) ⌝ }
+{
+    let QualifierAnswer {
+        number: n,
+        place: p,
+        name: word,
+        present: has,
+        value,
+    } = locate_qualifier(listing, k, j, i);
+    *number = n;
+    *place = p;
+    *present = has;
+    *name = shown(listing, word);
+    shown(listing, value)
+}
+
+// ---- spans
+
 // What is known of a sequence that was found.
 fn known_of(listing: &[u8], sequence: FoundSequence) -> Known
     ensures { λ r. ⌜ KnowsSequence (now (listing .entry)) sequence r ⌝ }
@@ -137,6 +293,32 @@ fn no_spans(number: usize, place: usize) -> SpansAnswer
 }
 
 // The spans of a feature, three numbers of each at the front of out; or nothing is written.
+pub fn spans(listing: &[u8], k: usize, j: usize, out: &mut [u32]) -> SpansAnswer
+    ensures { λ r. ⌜ SpansSays (now (listing .entry)) k j (now (out .entry)) (r .number) (r .place) (r .operator) (r .count) (now (out .exit)) ⌝ }
+{
+    match find_feature(listing, k, j) {
+        FeatureAt::Refused { rule, place } => no_spans(rule, place),
+        FeatureAt::Found { sequence, feature } => {
+            let known = known_of(listing, sequence);
+            let location = feature.location;
+            let loc = bytes_of(listing, location.from, location.to);
+            match location::room::spans(loc, known.top, out) {
+                Answer::Are(operator, count) => SpansAnswer {
+                    number: 0,
+                    place: 0,
+                    operator,
+                    count,
+                },
+                Answer::Short => no_spans(34, 0),
+                Answer::Bad => no_spans(24, 0),
+                Answer::Wrong => no_spans(25, 0),
+            }
+        }
+    }
+}
+
+// ---- translations
+
 // The length of what is written; or the number of a refusal and its place.
 pub struct TranslationAnswer {
     pub number: usize,
