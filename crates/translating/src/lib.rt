@@ -8,11 +8,13 @@ use judging::bytes_of;
 use location::judging::judge_location;
 use translation::writing::Size;
 use translation::writing::measure;
+use translation::writing::pour;
 use translation::writing::write;
 use walk::FoundFeature;
+use walk::FoundTable;
 ghost use Rattle.codon.specs.Tables.{SetTable, TurnTable, LetterTable};
 ghost use Rattle.translating.specs.Plans.{Plans};
-ghost use Rattle.translating.specs.Lines.{TranslatesOne, Dashes, MeasuresLine, PassesFeature, Adds, MeasuresLines, PutsDash};
+ghost use Rattle.translating.specs.Lines.{TranslatesOne, Dashes, MeasuresLine, PassesFeature, Adds, MeasuresLines, PutsDash, PutsLine, PutsLines, TranslatesAll};
 
 // How a feature is translated.
 pub enum Plan {
@@ -62,8 +64,14 @@ pub fn translate(
     ensures { λ r. ⌜ TranslatesOne (now (s .entry)) known feature (now (out .entry)) r (now (out .exit)) ⌝ }
 {
     match plan_of(s, known, feature) {
-        Plan::NoCds => Written { number: 35, size: 0 },
-        Plan::Unjudged => Written { number: 36, size: 0 },
+        Plan::NoCds => Written {
+            number: 35,
+            size: 0,
+        },
+        Plan::Unjudged => Written {
+            number: 36,
+            size: 0,
+        },
         Plan::From(start) => {
             let r = bytes_of(s, known.residues.from, known.residues.to);
             let loc = bytes_of(s, feature.location.from, feature.location.to);
@@ -205,4 +213,103 @@ fn put_dash(out: &mut [u8]) -> usize
     out[0] = b'-';
     out[1] = b'\n';
     2
+}
+
+// A feature's line at the front of out, where it fits: how many bytes. Behind it out may hold letters before a stop.
+fn put_line(
+    s: &[u8],
+    known: Known,
+    feature: FoundFeature,
+    sets: &[u8; 256],
+    turns: &[u8; 256],
+    table: &[u8; 4096],
+    out: &mut [u8],
+) -> usize
+    requires { ⌜ SetTable (now sets) ⌝ }
+    requires { ⌜ TurnTable (now turns) ⌝ }
+    requires { ⌜ LetterTable (now table) ⌝ }
+    ensures { λ r. ⌜ PutsLine (now (s .entry)) known feature (now (out .entry)) r (now (out .exit)) ⌝ }
+{
+    match plan_of(s, known, feature) {
+        Plan::NoCds => 0,
+        Plan::Unjudged => put_dash(out),
+        Plan::From(start) => {
+            let r = bytes_of(s, known.residues.from, known.residues.to);
+            let loc = bytes_of(s, feature.location.from, feature.location.to);
+            match pour(r, loc, known.top, start, sets, turns, table, out) {
+                Size::Is(n) => {
+                    if n < out.len() {
+                        out[n] = b'\n';
+                        return n + 1;
+                    }
+                    n
+                }
+                Size::Short => put_dash(out),
+                Size::Stop => put_dash(out),
+            }
+        }
+    }
+}
+
+// The lines of all features that stand from here on. They fill out: what stands behind a line for a moment is written over by the next.
+fn put_lines(
+    s: &[u8],
+    first: usize,
+    known: Known,
+    sets: &[u8; 256],
+    turns: &[u8; 256],
+    table: &[u8; 4096],
+    out: &mut [u8],
+)
+    requires { ⌜ SetTable (now sets) ⌝ }
+    requires { ⌜ TurnTable (now turns) ⌝ }
+    requires { ⌜ LetterTable (now table) ⌝ }
+    ensures { λ _. ⌜ PutsLines (now (s .entry)) first known (now (out .entry)) (now (out .exit)) ⌝ }
+{
+    let mut at = first;
+    let mut end: usize = 0;
+    loop {
+        if walk::feature_here(s, at) {
+            let feature = walk::feature(s, at);
+            let next = past(s, feature);
+            if next <= at {
+                return;
+            }
+            let n = put_line(s, known, feature, sets, turns, table, &mut out[end..]);
+            end += n;
+            at = next;
+        } else {
+            return;
+        }
+    }
+}
+
+// All translations of a sequence at the front of out; or nothing is written.
+pub fn translate_all(
+    s: &[u8],
+    known: Known,
+    found: FoundTable,
+    sets: &[u8; 256],
+    turns: &[u8; 256],
+    table: &[u8; 4096],
+    out: &mut [u8],
+) -> Written
+    requires { ⌜ SetTable (now sets) ⌝ }
+    requires { ⌜ TurnTable (now turns) ⌝ }
+    requires { ⌜ LetterTable (now table) ⌝ }
+    ensures { λ r. ⌜ TranslatesAll (now (s .entry)) known found (now (out .entry)) r (now (out .exit)) ⌝ }
+{
+    if !found.present {
+        return Written { number: 0, size: 0 };
+    }
+    match lines_size(s, found.first, known, out.len(), sets, turns, table) {
+        Lined::Short => Written {
+            number: 34,
+            size: 0,
+        },
+        Lined::Is(n) => {
+            put_lines(s, found.first, known, sets, turns, table, &mut out[..n]);
+            Written { number: 0, size: n }
+        }
+    }
 }

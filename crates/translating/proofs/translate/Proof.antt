@@ -1,83 +1,62 @@
+-- `translating::translate` meets its contract.
+use Rattle.translating.proofs.Ones.{one-none, one-unjudged, one-is, one-short, one-stop}
 use borrow.Author.Needs.{needs}
 use Rattle.translating.proofs.translate.Statement.{statement}
 use Rattle.translating.proofs.translate.Tie as tie
-use Rattle.translating.proofs.translate.Reads as reads
-use Rattle.translating.proofs.translate.Lts as lts
-use Rattle.judging.proofs.bytes_of.Reads as bytes-of-reads
-use Rattle.translating.proofs.plan_of.Reads as plan-of-reads
-use Rattle.translation.proofs.writing.write.Reads as write-reads
 
--- src/lib.rt:64:11
 plan-of-requires : tie.Need-plan-of-requires
 plan-of-requires c κs = search needs
 
--- src/lib.rt:65:24
 enum-told : tie.Need-enum-told
 enum-told c = search needs
 
--- src/lib.rt:66:27
 enum-told-2 : tie.Need-enum-told-2
 enum-told-2 c = search needs
 
--- src/lib.rt:67:20
 enum-known-start : tie.Need-enum-known-start
 enum-known-start c = search needs
 
--- src/lib.rt:68:17
 bytes-of-requires : tie.Need-bytes-of-requires
 bytes-of-requires c κs = search needs
 
--- src/lib.rt:69:17
 bytes-of-requires-2 : tie.Need-bytes-of-requires-2
 bytes-of-requires-2 c κs = search needs
 
--- src/lib.rt:70:19
 write-requires : tie.Need-write-requires
 write-requires c κs = search needs
 
--- src/lib.rt:71:26
 enum-known-n : tie.Need-enum-known-n
 enum-known-n c = search needs
 
--- src/lib.rt:72:32
 enum-told-3 : tie.Need-enum-told-3
 enum-told-3 c = search needs
 
--- src/lib.rt:76:31
 enum-told-4 : tie.Need-enum-told-4
 enum-told-4 c = search needs
 
--- src/lib.rt:50:1
 returns : tie.Need-returns
-returns c = search needs
+returns c = one-none (c .before .before .plan-of .ensures) (c .enum-told .given .1)
 
--- src/lib.rt:50:1
 returns-2 : tie.Need-returns-2
-returns-2 c = search needs
+returns-2 c = one-unjudged (c .before .before .plan-of .ensures) (c .enum-told2 .given .1)
 
--- src/lib.rt:50:1
 same-length : tie.Need-same-length
 same-length c = search needs
 
--- src/lib.rt:50:1
 returns-3 : tie.Need-returns-3
-returns-3 c = search needs
+returns-3 c = one-is (c .before .before .before .before .before .before .before .before .before .before .before .before .plan-of .ensures) (c .before .before .before .before .before .before .before .before .before .before .start .given .1) (c .before .before .before .before .before .before .before .before .bytes-of .ensures) (c .before .before .before .before .before .before .before .bytes-of2 .ensures) (c .before .before .before .before .before .write .ensures) (c .before .n .given .1)
 
--- src/lib.rt:50:1
 same-length-2 : tie.Need-same-length-2
 same-length-2 c = search needs
 
--- src/lib.rt:50:1
 returns-4 : tie.Need-returns-4
-returns-4 c = search needs
+returns-4 c = one-short (c .before .before .before .before .before .before .before .before .before .before .before .plan-of .ensures) (c .before .before .before .before .before .before .before .before .before .start .given .1) (c .before .before .before .before .before .before .before .bytes-of .ensures) (c .before .before .before .before .before .before .bytes-of2 .ensures) (c .before .before .before .before .write .ensures) (c .enum-told3 .given .1)
 
--- src/lib.rt:50:1
 same-length-3 : tie.Need-same-length-3
 same-length-3 c = search needs
 
--- src/lib.rt:50:1
 returns-5 : tie.Need-returns-5
-returns-5 c = search needs
+returns-5 c = one-stop (c .before .before .before .before .before .before .before .before .before .before .before .plan-of .ensures) (c .before .before .before .before .before .before .before .before .before .start .given .1) (c .before .before .before .before .before .before .before .bytes-of .ensures) (c .before .before .before .before .before .before .bytes-of2 .ensures) (c .before .before .before .before .write .ensures) (c .enum-told4 .given .1)
 
 pub translate-spec : {M : Type 1} → statement M
 translate-spec =

@@ -1,0 +1,54 @@
+-- `translating::translate_all` meets its contract.
+use mathlib.Core.Path.{sym}
+use borrow.Author.Tests.{not-true, not-false}
+use denote.Ref.{now}
+use lib.Seq.{length-take-le}
+use Rattle.translating.proofs.Alls.{size-within, all-none, all-short, all-is}
+use borrow.Author.Needs.{needs}
+use Rattle.translating.proofs.translate_all.Statement.{statement}
+use Rattle.translating.proofs.translate_all.Tie as tie
+
+returns : tie.Need-returns
+returns c = all-none (not-true _ (c .if1 .taken))
+
+lines-size-requires : tie.Need-lines-size-requires
+lines-size-requires c κs = search needs
+
+enum-told : tie.Need-enum-told
+enum-told c = search needs
+
+enum-known-n : tie.Need-enum-known-n
+enum-known-n c = search needs
+
+slice-relend-prefix-put-lines : tie.Need-slice-relend-prefix-put-lines
+slice-relend-prefix-put-lines c = size-within (c .before .before .before .lines-size .ensures) (c .before .n .given .1)
+
+slice-aggregate-put-lines : tie.Need-slice-aggregate-put-lines
+slice-aggregate-put-lines c = sym (length-take-le (c .before .before .n .given .0 .0) (now (c .before .before .before .before .before .before .before .before .before .args .out)) (size-within (c .before .before .before .before .lines-size .ensures) (c .before .before .n .given .1)))
+
+put-lines-requires : tie.Need-put-lines-requires
+put-lines-requires c κs = search needs
+
+returns-2 : tie.Need-returns-2
+returns-2 c = all-short (not-false _ (c .before .before .before .if1 .left)) (c .before .before .lines-size .ensures) (c .enum-told .given .1)
+
+same-length : tie.Need-same-length
+same-length c = search needs
+
+returns-3 : tie.Need-returns-3
+returns-3 c = all-is (not-false _ (c .before .before .before .before .before .before .before .before .if1 .left)) (c .before .before .before .before .before .before .before .lines-size .ensures) (c .before .before .before .before .before .n .given .1) (c .before .before .put-lines .ensures)
+
+pub translate-all-spec : {M : Type 1} → statement M
+translate-all-spec =
+    tie.close
+    (tie.spec
+    returns
+    lines-size-requires
+    enum-told
+    enum-known-n
+    slice-relend-prefix-put-lines
+    slice-aggregate-put-lines
+    put-lines-requires
+    returns-2
+    same-length
+    returns-3)
