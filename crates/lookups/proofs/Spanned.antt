@@ -1,11 +1,12 @@
 -- The spans of a feature that was found: its location is one, and keeps rule 25.
-use Prim.Native.Nat.{ℕ}
+use Prim.Native.Nat.{ℕ, _≤_}
 use mathlib.Core.Path.{_≡_, sym, subst}
 use mathlib.Core.Bool.{true}
 use mathlib.Core.Logic.{inl}
 use mathlib.Core.List.{List}
-use Rattle.paper.specs.Locations.{breaks25}
-use Rattle.paper.specs.Answers.{refuse, give, FindsFeature, SpansSays}
+use lib.ListN.{length}
+use Rattle.paper.specs.Locations.{Location, spans, operatorNumber, breaks25}
+use Rattle.paper.specs.Answers.{refuse, give, triples, front, FindsFeature, FindsLocation, SpansSays}
 use Rattle.paper.specs.Answers as paper
 use Rattle.walk.specs.declared.FoundSequence.{FoundSequence}
 use Rattle.walk.specs.declared.FoundFeature.{FoundFeature}
@@ -30,6 +31,10 @@ pub spans-refused : {w : List ℕ} {k j n p : ℕ} {out : List ℕ} {r : SpansAn
     → SpansSays w k j out (r .number) (r .place) (r .operator) (r .count) out
 spans-refused {w} {k} {j} {out = out} h e = subst (SaysSpans w k j out out) (sym e) (paper.refused (paper.earlier h))
 
+spans-are : {w out after : List ℕ} {k j o c : ℕ} {t : Location} → FindsLocation w k j (give t) → o ≡ operatorNumber t → c ≡ length (spans t)
+    → length (triples (spans t)) ≤ length out → after ≡ front (triples (spans t)) out → SpansSays w k j out 0 0 o c after
+spans-are h e n l z = rw (e, n, z) (paper.found h l)
+
 module _ {w : List ℕ} {k j : ℕ} {s : FoundSequence} {f : FoundFeature} (i : FeatureIs w k j s f) where
   pub feature-found : FindsFeature w k j (give (i .sequence .asked, i .feature .asked))
   feature-found = paper.feature (i .sequence .finds) (i .feature .numbered)
@@ -45,7 +50,7 @@ module _ {w : List ℕ} {k j : ℕ} {s : FoundSequence} {f : FoundFeature} (i : 
     pub spans-found : {o c : ℕ} → r ≡ answer.Are o c → SpansSays w k j out 0 0 o c after
     spans-found e =
         let z = subst (λ (r : Answer). Answers x (known .top) out r after) e a (i .feature .asked .location .read) (part-shows (i .feature .is .location) y) in
-        rw (z .2, z .3, z .5) (paper.found (paper.location feature-found (z .1 .located)) (z .4))
+        spans-are (paper.location feature-found (z .1 .located)) (z .2) (z .3) (z .4) (z .5)
 
     pub spans-short : {v : SpansAnswer} → r ≡ answer.Short → v ≡ noSpans 34 0 → SpansSays w k j out (v .number) (v .place) (v .operator) (v .count) after
     spans-short e n =
@@ -54,15 +59,17 @@ module _ {w : List ℕ} {k j : ℕ} {s : FoundSequence} {f : FoundFeature} (i : 
         subst (SaysSpans w k j out after) (sym n) (rw (b .0) (paper.short (paper.location feature-found (z .1 .located)) (z .2)))
 
     -- rule 24 isn't broken, nor is rule 25
-    pub spans-none : r ≡ answer.Bad → ⊥
+    pub spans-none : {n p o c : ℕ} → r ≡ answer.Bad → SpansSays w k j out n p o c after
     spans-none e =
         let b = subst (λ (r : Answer). Answers x (known .top) out r after) e a in
-        feature-keeps .feature 24 (i .feature .asked .location .place)
-        (inl (rule-24 (λ t l. b .1 (i .feature .asked .location .read) (part-shows (i .feature .is .location) y) t l)))
+        absurd
+        (feature-keeps .feature 24 (i .feature .asked .location .place)
+        (inl (rule-24 (λ t l. b .1 (i .feature .asked .location .read) (part-shows (i .feature .is .location) y) t l))))
 
-    pub spans-wrong : r ≡ answer.Wrong → ⊥
+    pub spans-wrong : {n p o c : ℕ} → r ≡ answer.Wrong → SpansSays w k j out n p o c after
     spans-wrong e =
         let b = subst (λ (r : Answer). Answers x (known .top) out r after) e a in
         let z = b .1 (i .feature .asked .location .read) (part-shows (i .feature .is .location) y) in
-        feature-keeps .feature 25 (i .feature .asked .location .place)
-        (inl (rule-25 (z .0) (z .1) (subst (λ (n : ℕ). breaks25 n (z .0) ≡ true) (found-knows h .size) (z .2))))
+        absurd
+        (feature-keeps .feature 25 (i .feature .asked .location .place)
+        (inl (rule-25 (z .0) (z .1) (subst (λ (n : ℕ). breaks25 n (z .0) ≡ true) (found-knows h .size) (z .2)))))

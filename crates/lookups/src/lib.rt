@@ -10,12 +10,13 @@ use finding::find_sequence;
 use judging::Known;
 use judging::bytes_of;
 use location::room::Answer;
+use translating::Written;
 use value::Kind;
 use walk::FoundSequence;
 use walk::Maybe;
 use walk::Part;
 ghost use mathlib.Core.Path.{_≡_};
-ghost use Rattle.paper.specs.Answers.{SequenceSays, FeatureSays, QualifierSays, SpansSays};
+ghost use Rattle.paper.specs.Answers.{SequenceSays, FeatureSays, QualifierSays, SpansSays, TranslationSays, TranslationsSays};
 ghost use Rattle.lookups.specs.Shows.{noStretch, partIs, Lies, StretchOf, IsPresent, ValueOf, kindIs, KnowsSequence, noSpans, PointsAt, ShowsSequence, ShowsFeature, ShowsQualifier};
 
 // A stretch of the listing.
@@ -327,4 +328,52 @@ pub struct TranslationAnswer {
 }
 
 // One translation at the front of out; or nothing is written.
+pub fn translation(listing: &[u8], k: usize, j: usize, out: &mut [u8]) -> TranslationAnswer
+    ensures { λ r. ⌜ TranslationSays (now (listing .entry)) k j (now (out .entry)) (r .number) (r .place) (r .size) (now (out .exit)) ⌝ }
+{
+    match find_feature(listing, k, j) {
+        FeatureAt::Refused { rule, place } => TranslationAnswer {
+            number: rule,
+            place,
+            size: 0,
+        },
+        FeatureAt::Found { sequence, feature } => {
+            let known = known_of(listing, sequence);
+            let sets = codon::set_table();
+            let turns = codon::turn_table();
+            let letters = codon::letter_table();
+            let Written { number, size } = translating::translate(listing, known, feature, &sets, &turns, &letters, out);
+            TranslationAnswer {
+                number,
+                place: 0,
+                size,
+            }
+        }
+    }
+}
+
 // All translations of a sequence at the front of out, each closed by byte 10; or nothing is written.
+pub fn translations(listing: &[u8], k: usize, out: &mut [u8]) -> TranslationAnswer
+    ensures { λ r. ⌜ TranslationsSays (now (listing .entry)) k (now (out .entry)) (r .number) (r .place) (r .size) (now (out .exit)) ⌝ }
+{
+    match find_sequence(listing, k) {
+        SequenceAt::Refused { rule, place } => TranslationAnswer {
+            number: rule,
+            place,
+            size: 0,
+        },
+        SequenceAt::Found(sequence) => {
+            let known = known_of(listing, sequence);
+            let table = sequence.table;
+            let sets = codon::set_table();
+            let turns = codon::turn_table();
+            let letters = codon::letter_table();
+            let Written { number, size } = translating::translate_all(listing, known, table, &sets, &turns, &letters, out);
+            TranslationAnswer {
+                number,
+                place: 0,
+                size,
+            }
+        }
+    }
+}
