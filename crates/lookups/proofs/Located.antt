@@ -1,6 +1,6 @@
 -- What is located: the answers of the calls in stretches of the listing.
 use Prim.Native.Nat.{ℕ}
-use mathlib.Core.Path.{_≡_, refl, sym, ap, _∙_, subst, subst₂}
+use mathlib.Core.Path.{_≡_, sym, _∙_, subst, subst₂}
 use mathlib.Core.Bool.{Bool, false}
 use mathlib.Core.List.{List}
 use Rattle.paper.specs.Answers.{refuse, isPresent, FindsSequence, FindsFeature, FindsQualifier, SequenceSays, FeatureSays, QualifierSays}
@@ -45,8 +45,7 @@ module _ {w : List ℕ} {k : ℕ} where
     feature-located i a b =
         let f = i .feature in
         let u = a .says w (f .asked .key) (f .is .key) in
-        let v = b .says w (f .asked .location) (f .is .location) in
-        (
+        let v = b .says w (f .asked .location) (f .is .location) in (
           subst₂ (FeatureSays w k j 0 0) (sym (u .0)) (sym (v .0)) (paper.found (paper.feature (i .sequence .finds) (f .numbered))),
           (u .1, v .1),
         )
@@ -66,9 +65,8 @@ module _ {w : List ℕ} {k : ℕ} where
           let q = f .asked in
           let x = a .says w (q .name) (f .is .name) in
           let y = v .says w (q .value) (f .is .value) in
-          let e = t .says w (q .value) (f .is .value) in
-          (
+          let e = t .says w (q .value) (f .is .value) in (
             subst (λ (b : Bool). QualifierSays w k j i 0 0 (partIs a') b (partIs v')) (sym e)
-            (subst₂ (λ (x y : paper.Part). QualifierSays w k j i 0 0 x (isPresent (q .value)) y) (sym (x .0)) (sym (y .0)) (paper.found (f .finds))),
+                (subst₂ (λ (x y : paper.Part). QualifierSays w k j i 0 0 x (isPresent (q .value)) y) (sym (x .0)) (sym (y .0)) (paper.found (f .finds))),
             (x .1, y .1),
           )

@@ -1,14 +1,12 @@
 -- One answer only: two results that a call's promise allows are equal, the parts that are shown by their bytes and where they stand.
-use Prim.Native.Nat.{ℕ}
+use Prim.Native.Nat.{ℕ, _+_}
 use mathlib.Core.Path.{_≡_, ap, sym, _∙_}
 use mathlib.Core.Bool.{Bool}
 use mathlib.Core.List.{List}
-use Rattle.paper.specs.Answers.{Part, SequenceSays, FeatureSays, QualifierSays, SpansSays, TranslationSays, TranslationsSays}
+use Rattle.paper.specs.Answers.{shown, Part, SequenceSays, FeatureSays, QualifierSays, SpansSays, TranslationSays, TranslationsSays}
 use Rattle.paper.proofs.Once as once
 use Rattle.layout.proofs.Wholes.{laid-once}
 use Rattle.lookups.specs.Shows.{Points, ShowsSequence, ShowsFeature, ShowsQualifier}
-use Rattle.paper.specs.Answers.{shown}
-use Prim.Native.Nat.{_+_}
 
 -- ---- the numbers and the places
 

@@ -9,9 +9,8 @@ use lib.ListN.{length, take, drop, length-append, length-drop}
 use Rattle.paper.specs.Bytes.{raw}
 use Rattle.paper.specs.Tree.{Text}
 use Rattle.paper.specs.Answers.{isPresent, valuePart, SequenceSays, FeatureSays, QualifierSays}
-use Rattle.walk.specs.Stands.{IsPart, MaybeIs}
+use Rattle.walk.specs.Stands.{MaybeIs}
 use Rattle.walk.specs.declared.Part.{Part}
-use Rattle.walk.specs.declared.Maybe.{Maybe}
 use Rattle.walk.specs.declared.Maybe.the-variants.{Absent, Present}
 use Rattle.lookups.specs.Shows.{noStretch, partIs, Lies, StretchOf, IsPresent, ValueOf, PointsAt, ShowsSequence, ShowsFeature, ShowsQualifier}
 use Rattle.lookups.specs.declared.Stretch.{Stretch}
@@ -25,8 +24,7 @@ stretch-so {p} h =
       says =
           λ s x i.
           let n : p .to - p .from ≡ length (raw (x .read)) = omega (arith, i .first, i .behind) in
-          let e = i .first in
-          (
+          let e = i .first in (
             λ j. record { start = e j; size = n j },
             omega (arith, n, i .inside, length-drop (p .from) s, ap length (i .here), length-append (raw (x .read)) (drop (p .to) s)),
           );

@@ -342,7 +342,15 @@ pub fn translation(listing: &[u8], k: usize, j: usize, out: &mut [u8]) -> Transl
             let sets = codon::set_table();
             let turns = codon::turn_table();
             let letters = codon::letter_table();
-            let Written { number, size } = translating::translate(listing, known, feature, &sets, &turns, &letters, out);
+            let Written { number, size } = translating::translate(
+                listing,
+                known,
+                feature,
+                &sets,
+                &turns,
+                &letters,
+                out,
+            );
             TranslationAnswer {
                 number,
                 place: 0,
@@ -368,7 +376,15 @@ pub fn translations(listing: &[u8], k: usize, out: &mut [u8]) -> TranslationAnsw
             let sets = codon::set_table();
             let turns = codon::turn_table();
             let letters = codon::letter_table();
-            let Written { number, size } = translating::translate_all(listing, known, table, &sets, &turns, &letters, out);
+            let Written { number, size } = translating::translate_all(
+                listing,
+                known,
+                table,
+                &sets,
+                &turns,
+                &letters,
+                out,
+            );
             TranslationAnswer {
                 number,
                 place: 0,
