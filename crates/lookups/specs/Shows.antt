@@ -1,7 +1,7 @@
 -- A part that is shown: where it stands, and that it is a stretch of the lent listing itself.
 use Prim.Native.Nat.{ℕ, _+_, _≤_}
 use mathlib.Core.Path.{_≡_}
-use mathlib.Core.Bool.{Bool, true, false}
+use mathlib.Core.Bool.{Bool}
 use mathlib.Core.List.{List}
 use mathlib.Core.Option.{Option}
 use lib.ListN.{length}
@@ -26,15 +26,19 @@ noStretch = record { start = 0; size = 0 }
 abbrev pub partIs : Stretch → paper.Part
 partIs x = record { start = x .start; size = x .size }
 
+-- it lies within the listing
+abbrev pub Lies : List ℕ → Stretch → Type 0
+Lies w x = x .start + x .size ≤ length w
+
 -- whichever text is found there, this is its part
 pub record StretchOf (p : Part) (r : Stretch) : Type 0 where
-  pub says : (s : List ℕ) (x : Text ℕ) → IsPart s x p → partIs r ≡ partOf x
+  pub says : (s : List ℕ) (x : Text ℕ) → IsPart s x p → (partIs r ≡ partOf x) × Lies s r
 
 pub record IsPresent (p : Maybe) (r : Bool) : Type 0 where
   pub says : (s : List ℕ) (o : Option (Text ℕ)) → MaybeIs s o p → r ≡ isPresent o
 
 pub record ValueOf (p : Maybe) (r : Stretch) : Type 0 where
-  pub says : (s : List ℕ) (o : Option (Text ℕ)) → MaybeIs s o p → partIs r ≡ valuePart o
+  pub says : (s : List ℕ) (o : Option (Text ℕ)) → MaybeIs s o p → (partIs r ≡ valuePart o) × Lies s r
 
 abbrev pub kindIs : Kind → ℕ
 kindIs Dna = 1
@@ -58,7 +62,7 @@ pub record Points (w : List ℕ) (at : ℕ × ℕ) (x : paper.Part) (r : List �
 
 -- where the stretch lies within the listing
 pub record PointsAt (w : List ℕ) (at : ℕ × ℕ) (x : Stretch) (r : List ℕ) (p : ℕ × ℕ) : Type 0 where
-  pub says : x .start + x .size ≤ length w → Points w at (partIs x) r p
+  pub says : Lies w x → Points w at (partIs x) r p
 
 pub record ShowsSequence (w : List ℕ) (at : ℕ × ℕ) (k number place kind : ℕ) (r : List ℕ) (p : ℕ × ℕ) : Type 0 where
   pub residues : paper.Part

@@ -17,7 +17,7 @@ use walk::Maybe;
 use walk::Part;
 ghost use mathlib.Core.Path.{_≡_};
 ghost use Rattle.paper.specs.Answers.{SequenceSays, FeatureSays, QualifierSays, SpansSays, TranslationSays, TranslationsSays};
-ghost use Rattle.lookups.specs.Shows.{noStretch, partIs, StretchOf, IsPresent, ValueOf, kindIs, KnowsSequence, noSpans, PointsAt, ShowsSequence, ShowsFeature, ShowsQualifier};
+ghost use Rattle.lookups.specs.Shows.{noStretch, partIs, Lies, StretchOf, IsPresent, ValueOf, kindIs, KnowsSequence, noSpans, PointsAt, ShowsSequence, ShowsFeature, ShowsQualifier};
 
 // A stretch of the listing.
 pub struct Stretch {
@@ -32,7 +32,7 @@ fn no_stretch() -> Stretch
 }
 
 // The stretch of a part.
-fn stretch(part: Part) -> Stretch
+fn stretch_of(part: Part) -> Stretch
     ensures { λ r. ⌜ StretchOf part r ⌝ }
 {
     if part.to < part.from {
@@ -68,6 +68,7 @@ pub struct SequenceAnswer {
 
 pub fn locate_sequence(listing: &[u8], k: usize) -> SequenceAnswer
     ensures { λ r. ⌜ SequenceSays (now (listing .entry)) k (r .number) (r .place) (r .kind) (partIs (r .residues)) ⌝ }
+    ensures { λ r. ⌜ Lies (now (listing .entry)) (r .residues) ⌝ }
 {
     match find_sequence(listing, k) {
         SequenceAt::Refused { rule, place } => SequenceAnswer {
@@ -83,7 +84,7 @@ pub fn locate_sequence(listing: &[u8], k: usize) -> SequenceAnswer
                 number: 0,
                 place: 0,
                 kind: kind_number(kind),
-                residues: stretch(found.residues),
+                residues: stretch_of(found.residues),
             }
         }
     }
@@ -93,12 +94,15 @@ pub fn locate_sequence(listing: &[u8], k: usize) -> SequenceAnswer
 fn shown<'l>(listing: &'l [u8], x: Stretch) -> &'l [u8]
     ensures { λ r. ⌜ PointsAt (now (listing .entry)) (listing .entry .ptr) x (now r) (r .ptr) ⌝ }
 {
-    if x.start <= listing.len() {
-        if x.size <= listing.len() - x.start {
-            return &listing[x.start..x.start + x.size];
-        }
+    let from = x.start;
+    let size = x.size;
+    if listing.len() < from {
+        return &listing[0..0];
     }
-    &listing[0..0]
+    if listing.len() - from < size {
+        return &listing[0..0];
+    }
+    &listing[from..from + size]
 }
 
 // "its kind, and its residues as the part of the lent listing"
@@ -135,6 +139,7 @@ pub struct FeatureAnswer {
 
 pub fn locate_feature(listing: &[u8], k: usize, j: usize) -> FeatureAnswer
     ensures { λ r. ⌜ FeatureSays (now (listing .entry)) k j (r .number) (r .place) (partIs (r .key)) (partIs (r .location)) ⌝ }
+    ensures { λ r. ⌜ Lies (now (listing .entry)) (r .key) × Lies (now (listing .entry)) (r .location) ⌝ }
 {
     match find_feature(listing, k, j) {
         FeatureAt::Refused { rule, place } => FeatureAnswer {
@@ -149,8 +154,8 @@ pub fn locate_feature(listing: &[u8], k: usize, j: usize) -> FeatureAnswer
         } => FeatureAnswer {
             number: 0,
             place: 0,
-            key: stretch(feature.key),
-            location: stretch(feature.location),
+            key: stretch_of(feature.key),
+            location: stretch_of(feature.location),
         },
     }
 }
@@ -203,12 +208,13 @@ fn value_stretch(value: Maybe) -> Stretch
 {
     match value {
         Maybe::Absent => no_stretch(),
-        Maybe::Present(part) => stretch(part),
+        Maybe::Present(part) => stretch_of(part),
     }
 }
 
 pub fn locate_qualifier(listing: &[u8], k: usize, j: usize, i: usize) -> QualifierAnswer
     ensures { λ r. ⌜ QualifierSays (now (listing .entry)) k j i (r .number) (r .place) (partIs (r .name)) (r .present) (partIs (r .value)) ⌝ }
+    ensures { λ r. ⌜ Lies (now (listing .entry)) (r .name) × Lies (now (listing .entry)) (r .value) ⌝ }
 {
     match find_qualifier(listing, k, j, i) {
         QualifierAt::Refused { rule, place } => QualifierAnswer {
@@ -223,7 +229,7 @@ pub fn locate_qualifier(listing: &[u8], k: usize, j: usize, i: usize) -> Qualifi
             QualifierAnswer {
                 number: 0,
                 place: 0,
-                name: stretch(found.name),
+                name: stretch_of(found.name),
                 present: is_present(value),
                 value: value_stretch(value),
             }
@@ -336,7 +342,15 @@ pub fn translation(listing: &[u8], k: usize, j: usize, out: &mut [u8]) -> Transl
             let sets = codon::set_table();
             let turns = codon::turn_table();
             let letters = codon::letter_table();
-            let Written { number, size } = translating::translate(listing, known, feature, &sets, &turns, &letters, out);
+            let Written { number, size } = translating::translate(
+                listing,
+                known,
+                feature,
+                &sets,
+                &turns,
+                &letters,
+                out,
+            );
             TranslationAnswer {
                 number,
                 place: 0,
@@ -362,7 +376,15 @@ pub fn translations(listing: &[u8], k: usize, out: &mut [u8]) -> TranslationAnsw
             let sets = codon::set_table();
             let turns = codon::turn_table();
             let letters = codon::letter_table();
-            let Written { number, size } = translating::translate_all(listing, known, table, &sets, &turns, &letters, out);
+            let Written { number, size } = translating::translate_all(
+                listing,
+                known,
+                table,
+                &sets,
+                &turns,
+                &letters,
+                out,
+            );
             TranslationAnswer {
                 number,
                 place: 0,

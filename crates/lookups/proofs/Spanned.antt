@@ -1,0 +1,75 @@
+-- The spans of a feature that was found: its location is one, and keeps rule 25.
+use Prim.Native.Nat.{ℕ, _≤_}
+use mathlib.Core.Path.{_≡_, sym, subst}
+use mathlib.Core.Bool.{true}
+use mathlib.Core.Logic.{inl}
+use mathlib.Core.List.{List}
+use lib.ListN.{length}
+use Rattle.paper.specs.Locations.{Location, spans, operatorNumber, breaks25}
+use Rattle.paper.specs.Answers.{refuse, give, triples, front, FindsFeature, FindsLocation, SpansSays}
+use Rattle.paper.specs.Answers as paper
+use Rattle.walk.specs.declared.FoundSequence.{FoundSequence}
+use Rattle.walk.specs.declared.FoundFeature.{FoundFeature}
+use Rattle.judging.specs.Sets.{rule-24, rule-25}
+use Rattle.judging.specs.Known.{Shows, Knows}
+use Rattle.judging.specs.declared.Known.{Known}
+use Rattle.judging.proofs.Bytes.{part-shows}
+use Rattle.location.specs.Room.{Answers}
+use Rattle.location.specs.declared.room.Answer.{Answer}
+use Rattle.location.specs.declared.room.Answer.the-variants as answer
+use Rattle.translating.specs.Plans.{Keeps}
+use Rattle.finding.specs.Finds.{FeatureIs}
+use Rattle.lookups.specs.Shows.{KnowsSequence, noSpans}
+use Rattle.lookups.specs.declared.SpansAnswer.{SpansAnswer}
+use Rattle.lookups.proofs.Accepted.{accepts, keeps-feature}
+
+-- a refusal leaves the lent numbers as they are
+abbrev SaysSpans : List ℕ → ℕ → ℕ → List ℕ → List ℕ → SpansAnswer → Type 0
+SaysSpans w k j out after r = SpansSays w k j out (r .number) (r .place) (r .operator) (r .count) after
+
+pub spans-refused : {w : List ℕ} {k j n p : ℕ} {out : List ℕ} {r : SpansAnswer} → FindsFeature w k j (refuse n p) → r ≡ noSpans n p
+    → SpansSays w k j out (r .number) (r .place) (r .operator) (r .count) out
+spans-refused {w} {k} {j} {out = out} h e = subst (SaysSpans w k j out out) (sym e) (paper.refused (paper.earlier h))
+
+spans-are : {w out after : List ℕ} {k j o c : ℕ} {t : Location} → FindsLocation w k j (give t) → o ≡ operatorNumber t → c ≡ length (spans t)
+    → length (triples (spans t)) ≤ length out → after ≡ front (triples (spans t)) out → SpansSays w k j out 0 0 o c after
+spans-are h e n l z = rw (e, n, z) (paper.found h l)
+
+module _ {w : List ℕ} {k j : ℕ} {s : FoundSequence} {f : FoundFeature} (i : FeatureIs w k j s f) where
+  pub feature-found : FindsFeature w k j (give (i .sequence .asked, i .feature .asked))
+  feature-found = paper.feature (i .sequence .finds) (i .feature .numbered)
+
+  pub found-knows : {known : Known} → KnowsSequence w s known → Knows w (i .sequence .asked) known
+  found-knows h = h .says (i .sequence .asked) (i .sequence .end) (accepts (i .sequence .finds) .short) (i .sequence .is)
+
+  pub feature-keeps : Keeps (i .sequence .asked) (i .feature .asked)
+  feature-keeps = keeps-feature (accepts (i .sequence .finds)) (i .feature .asked) (i .feature .numbered .0, i .feature .numbered .2)
+
+  module _ {known : Known} {x : List ℕ} (h : KnowsSequence w s known) (y : Shows w (f .location .from) (f .location .to) x) {r : Answer} {out after : List ℕ}
+      (a : Answers x (known .top) out r after) where
+    pub spans-found : {o c : ℕ} → r ≡ answer.Are o c → SpansSays w k j out 0 0 o c after
+    spans-found e =
+        let z = subst (λ (r : Answer). Answers x (known .top) out r after) e a (i .feature .asked .location .read) (part-shows (i .feature .is .location) y) in
+        spans-are (paper.location feature-found (z .1 .located)) (z .2) (z .3) (z .4) (z .5)
+
+    pub spans-short : {v : SpansAnswer} → r ≡ answer.Short → v ≡ noSpans 34 0 → SpansSays w k j out (v .number) (v .place) (v .operator) (v .count) after
+    spans-short e n =
+        let b = subst (λ (r : Answer). Answers x (known .top) out r after) e a in
+        let z = b .1 (i .feature .asked .location .read) (part-shows (i .feature .is .location) y) in
+        subst (SaysSpans w k j out after) (sym n) (rw (b .0) (paper.short (paper.location feature-found (z .1 .located)) (z .2)))
+
+    -- rule 24 isn't broken, nor is rule 25
+    pub spans-none : {n p o c : ℕ} → r ≡ answer.Bad → SpansSays w k j out n p o c after
+    spans-none e =
+        let b = subst (λ (r : Answer). Answers x (known .top) out r after) e a in
+        absurd
+        (feature-keeps .feature 24 (i .feature .asked .location .place)
+        (inl (rule-24 (λ t l. b .1 (i .feature .asked .location .read) (part-shows (i .feature .is .location) y) t l))))
+
+    pub spans-wrong : {n p o c : ℕ} → r ≡ answer.Wrong → SpansSays w k j out n p o c after
+    spans-wrong e =
+        let b = subst (λ (r : Answer). Answers x (known .top) out r after) e a in
+        let z = b .1 (i .feature .asked .location .read) (part-shows (i .feature .is .location) y) in
+        absurd
+        (feature-keeps .feature 25 (i .feature .asked .location .place)
+        (inl (rule-25 (z .0) (z .1) (subst (λ (n : ℕ). breaks25 n (z .0) ≡ true) (found-knows h .size) (z .2)))))
