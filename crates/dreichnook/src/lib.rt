@@ -81,12 +81,12 @@ pub extern "C" fn dreichnook_feature(
     sequence: usize,
     feature: usize,
     place: &mut usize,
-    key_start: &mut usize,
-    key_size: &mut usize,
-    location_start: &mut usize,
-    location_size: &mut usize,
+    keystart: &mut usize,
+    keysize: &mut usize,
+    locationstart: &mut usize,
+    locationsize: &mut usize,
 ) -> u32
-    ensures { λ r. ⌜ FeatureSays (now (listing .entry)) sequence feature r (now (place .exit)) (part (now (key_start .exit)) (now (key_size .exit))) (part (now (location_start .exit)) (now (location_size .exit))) ⌝ }
+    ensures { λ r. ⌜ FeatureSays (now (listing .entry)) sequence feature r (now (place .exit)) (part (now (keystart .exit)) (now (keysize .exit))) (part (now (locationstart .exit)) (now (locationsize .exit))) ⌝ }
 {
     let FeatureAnswer {
         number,
@@ -95,10 +95,10 @@ pub extern "C" fn dreichnook_feature(
         location,
     } = lookups::locate_feature(listing, sequence, feature);
     *place = p;
-    *key_start = key.start;
-    *key_size = key.size;
-    *location_start = location.start;
-    *location_size = location.size;
+    *keystart = key.start;
+    *keysize = key.size;
+    *locationstart = location.start;
+    *locationsize = location.size;
     number as u32
 }
 
@@ -118,13 +118,13 @@ pub extern "C" fn dreichnook_qualifier(
     feature: usize,
     qualifier: usize,
     place: &mut usize,
-    name_start: &mut usize,
-    name_size: &mut usize,
+    namestart: &mut usize,
+    namesize: &mut usize,
     present: &mut u8,
-    value_start: &mut usize,
-    value_size: &mut usize,
+    valuestart: &mut usize,
+    valuesize: &mut usize,
 ) -> u32
-    ensures { λ r. ⌜ QualifierNumbers (now (listing .entry)) sequence feature qualifier r (now (place .exit)) (part (now (name_start .exit)) (now (name_size .exit))) (now (present .exit)) (part (now (value_start .exit)) (now (value_size .exit))) ⌝ }
+    ensures { λ r. ⌜ QualifierNumbers (now (listing .entry)) sequence feature qualifier r (now (place .exit)) (part (now (namestart .exit)) (now (namesize .exit))) (now (present .exit)) (part (now (valuestart .exit)) (now (valuesize .exit))) ⌝ }
 {
     let QualifierAnswer {
         number,
@@ -134,11 +134,11 @@ pub extern "C" fn dreichnook_qualifier(
         value,
     } = lookups::locate_qualifier(listing, sequence, feature, qualifier);
     *place = p;
-    *name_start = name.start;
-    *name_size = name.size;
+    *namestart = name.start;
+    *namesize = name.size;
     *present = flag(has);
-    *value_start = value.start;
-    *value_size = value.size;
+    *valuestart = value.start;
+    *valuesize = value.size;
     number as u32
 }
 
