@@ -1,5 +1,6 @@
 pub mod Lists
 pub mod Tables
+pub mod Bits
 pub mod Firsts
 pub mod Texts
 pub mod Decimal

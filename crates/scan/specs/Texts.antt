@@ -57,7 +57,6 @@ pub record Equal (a b r : ℕ) : Type 0 where
   pub none : r ≡ 0 → a ≡ b → ⊥
 
 pub record Odd (b r : ℕ) : Type 0 where
-  pub small : r ≤ 7
   pub none : r ≡ 0 → isPlain false b ≡ true
 
 pub record Block (s : List ℕ) (at r : ℕ) : Type 0 where

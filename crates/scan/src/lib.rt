@@ -246,7 +246,7 @@ pub fn odd(b: u8) -> u8
         + equal(b, b'\'')
 }
 
-// 0 only where each of the 32 bytes stands for itself. A sum with no branch: it is compiled to vector code.
+// 0 only where each of the 32 bytes stands for itself. Joined with no branch, and not summed: it is compiled to vector code.
 pub fn block(s: &[u8], at: usize) -> u8
     requires { ⌜ at + 32 ≤ length (now s) ⌝ }
     ensures { λ r. ⌜ Block (now (s .entry)) at r ⌝ }
@@ -254,7 +254,7 @@ pub fn block(s: &[u8], at: usize) -> u8
     let mut bad: u8 = 0;
     let mut j: usize = 0;
     while j < 32 {
-        bad += odd(s[at + j]);
+        bad = bad | odd(s[at + j]);
         j += 1;
     }
     bad

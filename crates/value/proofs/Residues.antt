@@ -7,7 +7,7 @@ use mathlib.Core.Bool.{true, false, true≢false}
 use mathlib.Core.List.{List}
 use lib.ListN.{length, getD}
 use lib.Dec.{eqb}
-use lib.Bits.{bitAnd, and-le-r}
+use lib.Bits.{bitAnd}
 use borrow.Author.Tests.{le-leb, eq-eqb, ne-eqb}
 use Rattle.paper.specs.Bytes.{all, raw}
 use Rattle.paper.specs.Rules.{dna, rna, aa, isSymbol}
@@ -44,7 +44,6 @@ pub base-among : {b d e f g h r : ℕ} → Differs b 97 d → Differs b 99 e →
     → r ≡ bitAnd (bitAnd (bitAnd (bitAnd d e) f) g) h → Strange b 1 r
 base-among {b} {d} {e} {f} {g} {h} {r} x y z u v is =
     record {
-      small = omega (arith, is, v .small, and-le-r (bitAnd (bitAnd (bitAnd d e) f) g) h);
       none = λ o. by-cases o (ℕ-discrete b 97) (ℕ-discrete b 99) (ℕ-discrete b 103) (ℕ-discrete b 116) (ℕ-discrete b 110);
     }
   where

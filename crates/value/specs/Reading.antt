@@ -59,7 +59,6 @@ pub record FirstForeign (k : Rules.Kind) (w : List ℕ) (r : ℕ) : Type 0 where
 
 -- the test of a byte, as a number
 pub record Differs (a b r : ℕ) : Type 0 where
-  pub small : r ≤ 1
   pub one : ¬ (a ≡ b) → r ≡ 1
 
 -- b is a symbol of each kind of the class
@@ -67,7 +66,6 @@ abbrev pub OfClass : ℕ → ℕ → Type 0
 OfClass class b = (k : Rules.Kind) → class ≡ symbolClass k → isSymbol k b ≡ true
 
 pub record Strange (b class r : ℕ) : Type 0 where
-  pub small : r ≤ 1
   pub none : r ≡ 0 → OfClass class b
 
 -- each byte from a place to another is

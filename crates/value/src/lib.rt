@@ -286,7 +286,7 @@ pub fn characters(w: &[u8]) -> usize
     n
 }
 
-// 1 where two bytes differ. As a number, so that many tests are combined without a branch.
+// 1 where two bytes differ. As a number, so that many tests are joined without a branch.
 fn differs(a: u8, b: u8) -> u8
     ensures { λ r. ⌜ Differs a b r ⌝ }
 {
@@ -323,7 +323,7 @@ fn strange(b: u8, class: u8) -> u8
     1
 }
 
-// 0 only where 32 bytes are symbols of the class. A sum with no branch: it is compiled to vector code.
+// 0 only where 32 bytes are symbols of the class. Joined with no branch, and not summed: it is compiled to vector code.
 fn block(w: &[u8], at: usize, class: u8) -> u8
     requires { ⌜ at + 32 ≤ length (now w) ⌝ }
     ensures { λ r. ⌜ Block (now (w .entry)) class at r ⌝ }
@@ -331,7 +331,7 @@ fn block(w: &[u8], at: usize, class: u8) -> u8
     let mut bad: u8 = 0;
     let mut j: usize = 0;
     while j < 32 {
-        bad += strange(w[at + j], class);
+        bad = bad | strange(w[at + j], class);
         j += 1;
     }
     bad

@@ -1,8 +1,9 @@
--- `scan::block` meets its contract. The loop's invariant: the sum is at most 7 for each byte passed, and where it is 0 each of them stands for itself. The measure is what is left of the 32 bytes.
-use Prim.Native.Nat.{ℕ, _+_, _*_, _-_, _≤_}
+-- `scan::block` meets its contract. The loop's invariant: where the tests joined are 0 each byte passed stands for itself. The measure is what is left of the 32 bytes.
+use Prim.Native.Nat.{ℕ, _+_, _-_, _≤_}
 use native.Mathlib.Omega.{arith}
 use mathlib.Core.Path.{_≡_, subst}
 use mathlib.Core.Bool.{false}
+use Rattle.paper.proofs.Bits.{or-none}
 use Rattle.scan.specs.Texts.{isPlain, Upto}
 use Rattle.scan.proofs.Scans.{upto-more}
 use borrow.Author.Needs.{needs}
@@ -10,13 +11,13 @@ use Rattle.scan.proofs.block.Statement.{statement}
 use Rattle.scan.proofs.block.Tie as tie
 
 abbrev Inv-loop : tie.InvT-loop
-Inv-loop s at bad₀ j₀ bad j = (j ≤ 32) × (bad ≤ 7 * j) × (bad ≡ 0 → Upto (isPlain false) s at (at + j))
+Inv-loop s at bad₀ j₀ bad j = (j ≤ 32) × (bad ≡ 0 → Upto (isPlain false) s at (at + j))
 
 abbrev μ-loop : tie.MeasureT-loop
 μ-loop s at bad₀ j₀ bad j = 32 - j
 
 loop-holds : tie.Need-loop-holds Inv-loop μ-loop
-loop-holds c = (omega arith, omega arith, λ h k i j. absurd (omega arith))
+loop-holds c = (omega arith, λ h k i j. absurd (omega arith))
 
 add-odd : tie.Need-add-odd Inv-loop μ-loop
 add-odd c = search needs
@@ -26,9 +27,6 @@ shared-slice-read-odd c = search needs
 
 odd-requires : tie.Need-odd-requires Inv-loop μ-loop
 odd-requires c κs = search needs
-
-add-bad : tie.Need-add-bad Inv-loop μ-loop
-add-bad c = omega (arith, c .odd .ensures .small)
 
 add-j : tie.Need-add-j Inv-loop μ-loop
 add-j c = search needs
@@ -40,13 +38,13 @@ loop-again : tie.Need-loop-again Inv-loop μ-loop
 loop-again c =
     let l = c .before .before .before .loop in
     let a = c .before .before .before .before .before .args in
-    let o = c .odd .ensures in
+    let o = c .odd in
     let q : a .at + l .j + 1 ≡ a .at + (l .j + 1) = omega arith in (
       omega arith,
-      omega (arith, o .small),
       λ h.
+          let b = or-none (l .bad) (o .result) h in
           subst (Upto (isPlain false) (a .s .now) (a .at)) q
-          (upto-more (isPlain false) (a .s .now) (a .at) (a .at + l .j) (l .inv .2 (omega arith)) (omega arith) (o .none (omega arith))),
+          (upto-more (isPlain false) (a .s .now) (a .at) (a .at + l .j) (l .inv .1 (b .0)) (omega arith) (o .ensures .none (b .1))),
     )
 
 returns : tie.Need-returns Inv-loop μ-loop
@@ -54,7 +52,7 @@ returns c =
     let l = c .before .loop in
     let a = c .before .before .before .args in
     let q : l .j ≡ 32 = omega arith in
-    record { none = λ h. subst (λ (k : ℕ). Upto (isPlain false) (a .s .now) (a .at) (a .at + k)) q (l .inv .2 h) }
+    record { none = λ h. subst (λ (k : ℕ). Upto (isPlain false) (a .s .now) (a .at) (a .at + k)) q (l .inv .1 h) }
 
 pub block-spec : {M : Type 1} → statement M
 block-spec =
@@ -66,7 +64,6 @@ block-spec =
     add-odd
     shared-slice-read-odd
     odd-requires
-    add-bad
     add-j
     loop-less
     loop-again

@@ -54,7 +54,6 @@ returns c =
     let i = c .before .equal4 .ensures in
     let j = c .equal5 .ensures in
     record {
-      small = omega arith;
       none =
           λ h.
           simp (

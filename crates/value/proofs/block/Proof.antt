@@ -1,5 +1,6 @@
--- `value::block` meets its contract. The loop's invariant: the sum is at most 1 for each byte passed, and where it is 0 each is a symbol. The measure is what is left of the 32 bytes.
+-- `value::block` meets its contract. The loop's invariant: where the tests joined are 0 each byte passed is a symbol. The measure is what is left of the 32 bytes.
 use Rattle.value.proofs.Residues.{between-more}
+use Rattle.paper.proofs.Bits.{or-none}
 use Rattle.value.specs.Reading.{Between}
 use mathlib.Core.Path.{_≡_, subst}
 use native.Mathlib.Omega.{arith}
@@ -9,13 +10,13 @@ use Rattle.value.proofs.block.Statement.{statement}
 use Rattle.value.proofs.block.Tie as tie
 
 abbrev Inv-loop : tie.InvT-loop
-Inv-loop w at class bad₀ j₀ bad j = (j ≤ 32) × (bad ≤ j) × (bad ≡ 0 → Between w class at (at + j))
+Inv-loop w at class bad₀ j₀ bad j = (j ≤ 32) × (bad ≡ 0 → Between w class at (at + j))
 
 abbrev μ-loop : tie.MeasureT-loop
 μ-loop w at class bad₀ j₀ bad j = 32 - j
 
 loop-holds : tie.Need-loop-holds Inv-loop μ-loop
-loop-holds c = (omega arith, omega arith, λ h i l m. absurd (omega arith))
+loop-holds c = (omega arith, λ h i l m. absurd (omega arith))
 
 add-strange : tie.Need-add-strange Inv-loop μ-loop
 add-strange c = search needs
@@ -25,9 +26,6 @@ shared-slice-read-strange c = search needs
 
 strange-requires : tie.Need-strange-requires Inv-loop μ-loop
 strange-requires c κs = search needs
-
-add-bad : tie.Need-add-bad Inv-loop μ-loop
-add-bad c = omega (arith, c .strange .ensures .small)
 
 add-j : tie.Need-add-j Inv-loop μ-loop
 add-j c = search needs
@@ -39,12 +37,11 @@ loop-again : tie.Need-loop-again Inv-loop μ-loop
 loop-again c =
     let l = c .before .before .before .loop in
     let a = c .before .before .before .before .before .args in
-    let o = c .strange .ensures in
+    let o = c .strange in
     let q : a .at + l .j + 1 ≡ a .at + (l .j + 1) = omega arith in (
       omega arith,
-      omega (arith, o .small),
-      λ h. subst (Between (a .w .now) (a .class) (a .at)) q
-          (between-more (a .w .now) (a .class) (a .at) (a .at + l .j) (l .inv .2 (omega arith)) (o .none (omega arith))),
+      λ h. let b = or-none (l .bad) (o .result) h in subst (Between (a .w .now) (a .class) (a .at)) q
+          (between-more (a .w .now) (a .class) (a .at) (a .at + l .j) (l .inv .1 (b .0)) (o .ensures .none (b .1))),
     )
 
 returns : tie.Need-returns Inv-loop μ-loop
@@ -52,7 +49,7 @@ returns c =
     let l = c .before .loop in
     let a = c .before .before .before .args in
     let q : l .j ≡ 32 = omega arith in
-    record { none = λ h. subst (λ (k : ℕ). Between (a .w .now) (a .class) (a .at) (a .at + k)) q (l .inv .2 h) }
+    record { none = λ h. subst (λ (k : ℕ). Between (a .w .now) (a .class) (a .at) (a .at + k)) q (l .inv .1 h) }
 
 pub block-spec : {M : Type 1} → statement M
 block-spec =
@@ -64,7 +61,6 @@ block-spec =
     add-strange
     shared-slice-read-strange
     strange-requires
-    add-bad
     add-j
     loop-less
     loop-again

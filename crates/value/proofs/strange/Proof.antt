@@ -21,7 +21,7 @@ returns-2 : tie.Need-returns-2
 returns-2 c = subst (λ (k : ℕ). Strange (c .before .before .before .args .b) k (c .no-amino .result)) (sym (c .before .if2 .taken)) (c .no-amino .ensures)
 
 returns-3 : tie.Need-returns-3
-returns-3 c = record { small = omega arith; none = λ h. absurd (omega arith) }
+returns-3 c = record { none = λ h. absurd (omega arith) }
 
 pub strange-spec : {M : Type 1} → statement M
 strange-spec = tie.close (tie.spec no-base-requires returns no-amino-requires returns-2 returns-3)

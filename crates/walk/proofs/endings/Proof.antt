@@ -1,17 +1,13 @@
 -- `walk::endings` meets its contract. The loop's invariant: where the tests joined are 0 no end starts at a place passed. The measure is what is left of the 32 places.
 use Rattle.walk.proofs.Quiet.{ending-more}
 use Rattle.walk.specs.Stands.{NoEnding}
-use lib.Bits.{bitOr, and-le-l, and-le-r, or-add-and}
+use Rattle.paper.proofs.Bits.{or-none}
 use mathlib.Core.Path.{_≡_, subst}
 use native.Mathlib.Omega.{arith}
 use Prim.Native.Nat.{ℕ, _+_, _-_, _≤_}
 use borrow.Author.Needs.{needs}
 use Rattle.walk.proofs.endings.Statement.{statement}
 use Rattle.walk.proofs.endings.Tie as tie
-
--- where neither of two numbers has a bit both are 0
-or-none : (a b : ℕ) → bitOr a b ≡ 0 → (a ≡ 0) × (b ≡ 0)
-or-none a b h = (omega (arith, h, or-add-and a b, and-le-l a b, and-le-r a b), omega (arith, h, or-add-and a b, and-le-l a b, and-le-r a b))
 
 abbrev Inv-loop : tie.InvT-loop
 Inv-loop s at any₀ j₀ any j = (j ≤ 32) × (any ≡ 0 → NoEnding s at (at + j))
