@@ -17,6 +17,7 @@ use Rattle.walk.specs.Stands.{Stands, Ends, Over, FindsFeature, IsFeature, feat
 use Rattle.walk.specs.declared.FoundFeature.{FoundFeature}
 use Rattle.walk.proofs.Places.{from}
 use Rattle.value.specs.Reading.{Tells}
+use Rattle.value.proofs.Tests.{told}
 use Rattle.location.specs.Judging.{Judged, Judges}
 use Rattle.location.specs.declared.judging.Verdict.{Verdict}
 use Rattle.judging.specs.Sets.{Faults, Firsts, InLocation, InCoding, rule-27, rule-28, InFeature}
@@ -51,9 +52,6 @@ module _ (v : Verdict) {s wl : List ℕ} {known : Known} {x : FoundFeature} {q :
   place-is pl =
       subst (Firsts (InLocation q (f .location))) (sym (pl ∙ ap (placeFault v (known .kind)) (y .location .first)))
       (placed q (f .location) v (known .kind) judged (k .kind))
-
-told : (A : Type 0) {b c : Bool} → b ≡ c → Tells b A → Tells c A
-told A h t = subst (λ (d : Bool). Tells d A) h t
 
 module _ (v : Verdict) {s wl wk : List ℕ} {at n : ℕ} {known : Known} {x : FoundFeature} {place : Fault} {is-source : Bool} (finds : FindsFeature s at x)
     (sl : Shows s (x .location .from) (x .location .to) wl) (jl : Judges wl (known .top) v) (pl : place ≡ placeFault v (known .kind) (x .location .from))

@@ -17,10 +17,9 @@ use Rattle.walk.specs.Stands.{Stands, There, tagOf, Over, FindsSequence}
 use Rattle.walk.specs.declared.FoundSequence.{FoundSequence}
 use Rattle.walk.proofs.Places.{from}
 use Rattle.walk.proofs.Items.{qualifier-leads}
-use Rattle.walk.proofs.Sequences.{feature-leads}
+use Rattle.walk.proofs.Sequences.{sequence-leads, feature-leads}
 use Rattle.walk.proofs.Loops.{left-none, left-some}
 use Rattle.walk.proofs.Loops as loops
-use Rattle.sequences.proofs.Totals.{sequence-leads}
 use Rattle.finding.specs.Items.{Asked, nameOf, formOf, Seeks}
 use Rattle.finding.specs.declared.Item.{Item}
 use Rattle.finding.specs.declared.Item.the-variants.{Sequence, Feature, Qualifier}

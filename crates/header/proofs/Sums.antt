@@ -10,7 +10,7 @@ use Rattle.paper.specs.Bytes.{bytes, isBlank}
 use Rattle.paper.specs.Lists.{Nth, _∈_, gather, present}
 use Rattle.paper.specs.Tree.{Text, Spoken, Party, Identification, Heading, reference, application, Sequence, Listing}
 use Rattle.paper.specs.Form.{_·_}
-use Rattle.paper.specs.Layout.{blanks, tag, attribute, holding, child, leaf, spoken, inner, sequence}
+use Rattle.paper.specs.Layout.{child, leaf, spoken, sequence}
 use Rattle.paper.specs.Values.{Date, Two, isUpper, isLower}
 use Rattle.paper.specs.Rules.{Earlier, identifiedIn, dates, offices, languages}
 use Rattle.paper.specs.declared.Fault.{Fault}
@@ -19,7 +19,7 @@ use Rattle.paper.proofs.Firsts.{_or_}
 use Rattle.value.specs.Reading.{Tells, OfRead}
 use Rattle.value.proofs.Read.{tells-word}
 use Rattle.scan.specs.Follow.{Not, closing}
-use Rattle.scan.proofs.Fronts.{Leads, leads-all, leads-seq, leads-by, whole, each-starts, starts-sharp}
+use Rattle.scan.proofs.Fronts.{leads-by, whole, each-starts, starts-sharp}
 use Rattle.walk.specs.Stands.{IsPart, MaybeIs, Finds, Over}
 use Rattle.walk.specs.Header.{officeIn, filedIn, languageIn, identifiedBy, FindsSpoken, Behind, FindsHeader}
 use Rattle.walk.specs.declared.Part.{Part}
@@ -28,6 +28,7 @@ use Rattle.walk.specs.declared.FoundHeader.{FoundHeader}
 use Rattle.walk.specs.declared.Maybe.{Maybe}
 use Rattle.walk.specs.declared.Maybe.the-variants.{Absent, Present}
 use Rattle.walk.proofs.Places.{before, from}
+use Rattle.walk.proofs.Sequences.{sequence-leads}
 use Rattle.walk.proofs.Leaves.{starts-at}
 use Rattle.walk.proofs.Items.{leaf-leads}
 use Rattle.judging.specs.Sets.{Firsts, Bad, InHeader, rule-10, rule-11, rule-12, rule-13, unlessOf}
@@ -199,13 +200,6 @@ in-parts l n p (rule-10 h) = inl (inl (refl, refl, h))
 in-parts l n p (rule-11 t i h) = inl (inr (t, i, (refl, refl, h)))
 in-parts l n p (rule-12 t i h) = inr (inl (t, i, (refl, refl, h)))
 in-parts l n p (rule-13 t i h) = inr (inr (t, i, (refl, refl, h)))
-
-sequence-leads : (q : Sequence ℕ) → Leads (bytes "<SequenceData") (child sequence q)
-sequence-leads q =
-    let k = bytes "<SequenceData" in
-    let T = tag (bytes "SequenceData") in
-    let N = attribute (bytes "sequenceIDNumber") (q .number) in
-    leads-seq k (sequence q) blanks (leads-seq k (T · N) (holding (bytes "SequenceData") (child inner q)) (leads-seq k T N (leads-all k)))
 
 -- no blank stands before the sequences, or before what closes the listing
 behind-total : {s : List ℕ} {l : Listing ℕ} {at : ℕ} (b : Behind s l at) → Not isBlank (drop (b .next) s)

@@ -22,6 +22,7 @@ use Rattle.walk.specs.Stands.{Stands, FindsSequence, IsPart, TableIs, isThere}
 use Rattle.walk.specs.declared.FoundSequence.{FoundSequence}
 use Rattle.walk.specs.declared.FoundTable.{FoundTable}
 use Rattle.value.specs.Reading.{Tells}
+use Rattle.value.proofs.Tests.{told}
 use Rattle.judging.specs.Sets.{Firsts, Bad, InTexts, InTable, InSequence, rule-15, rule-29, texts, table, Empty, unlessOf}
 use Rattle.judging.specs.declared.Known.{Known}
 use Rattle.judging.proofs.Faults.{firsts-or, firsts-as, firsts-unless}
@@ -34,9 +35,6 @@ use Rattle.sequences.specs.Sequences.{CountedIn, JudgesSequence}
 table-told : (s : List ℕ) (o : Option (Table ℕ)) (t : FoundTable) → TableIs s o t → t .present ≡ isThere o
 table-told s none t i = i
 table-told s (some x) t i = i .0
-
-told : (A : Type 0) {b c : Bool} → b ≡ c → Tells b A → Tells c A
-told A h t = subst (λ (d : Bool). Tells d A) h t
 
 module _ {s : List ℕ} {at k : ℕ} {x : FoundSequence} {a : Fault} {skip : Bool} (finds : FindsSequence s at x) (jn : JudgesNumber s (x .number) k a)
     (ts : TellsSkipped s (x .residues) skip) where

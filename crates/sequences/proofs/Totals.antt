@@ -8,8 +8,7 @@ use mathlib.Core.List.{List, [], _∷_, _++_, map, append-assoc, append-nil}
 use lib.ListN.{length, drop, length-append}
 use Rattle.paper.specs.Bytes.{bytes, isBlank}
 use Rattle.paper.specs.Lists.{Count, end, has, lacks, gather}
-use Rattle.paper.specs.Form.{_·_}
-use Rattle.paper.specs.Layout.{blanks, tag, attribute, holding, child, inner, sequence}
+use Rattle.paper.specs.Layout.{child, sequence}
 use Rattle.paper.specs.Tree.{Sequence, Feature, featuresOf}
 use Rattle.paper.specs.Rules.{Skipped}
 use Rattle.paper.specs.Answers.{limit, JudgedCds, UnjudgedCds}
@@ -17,7 +16,7 @@ use Rattle.paper.specs.declared.Fault.{Fault}
 use Rattle.paper.proofs.Lists.{count-map, length-map}
 use Rattle.scan.specs.Follow.{Not, closing}
 use Rattle.walk.specs.Stands.{Stands, There, Over}
-use Rattle.scan.proofs.Fronts.{Leads, leads-all, leads-seq}
+use Rattle.walk.proofs.Sequences.{sequence-leads}
 use Rattle.value.specs.Reading.{Tells}
 use Rattle.judging.specs.Sets.{Faults, Firsts, Some, InSequence}
 use Rattle.judging.proofs.Faults.{some-none, some-more, nth-front, nth-last}
@@ -110,12 +109,6 @@ total-more l q {k = k} {a} {r} {x} ad ek y t bt bf bj bu =
     }
 
 -- ---- the loop
-
-pub sequence-leads : (q : Sequence ℕ) → Leads (bytes "<SequenceData") (child sequence q)
-sequence-leads q =
-    leads-seq (bytes "<SequenceData") (sequence q) blanks
-    (leads-seq (bytes "<SequenceData") (tag (bytes "SequenceData") · attribute (bytes "sequenceIDNumber") (q .number)) (holding (bytes "SequenceData") (child inner q))
-    (leads-seq (bytes "<SequenceData") (tag (bytes "SequenceData")) (attribute (bytes "sequenceIDNumber") (q .number)) (leads-all (bytes "<SequenceData"))))
 
 -- what has been seen of the sequences is added up
 pub record Adding (s : List ℕ) (first at : ℕ) (a : Total) : Type 0 where

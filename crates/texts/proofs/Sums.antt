@@ -19,6 +19,7 @@ use Rattle.value.specs.Reading.{Tells, OfRead, KindIs, Names, HasDefined}
 use Rattle.value.specs.declared.Kind as code
 use Rattle.value.specs.declared.Kind.the-variants as kind
 use Rattle.value.proofs.Read.{tells-word}
+use Rattle.value.proofs.Tests.{told}
 use Rattle.value.proofs.Residues.{raw-symbols}
 use Rattle.walk.specs.Stands.{IsPart}
 use Rattle.walk.specs.declared.Part.{Part}
@@ -57,9 +58,6 @@ foreign {place = place} h =
     least q m a (own.rule-18 k i n) = omega arith
     least q m a (own.rule-19 k i n c l) = omega arith
 
-told-true : {c : Bool} → c ≡ true → (A : Type 0) → Tells c A → A
-told-true h A t = subst (λ (c : Bool). Tells c A) h t
-
 -- then rule 18 holds, and what is left is rule 19
 only-19 : (q : Sequence ℕ) (k : Kind) (n : ℕ) → IsKind k q → all (isSymbol k) (q .residues .read) → Count (λ (b : ℕ). ¬ (b ≡ undefined k)) (q .residues .read) n
     → (m a : ℕ) → InResidues q m a → (m ≡ 19) × (a ≡ q .residues .place) × (n < fewest k)
@@ -80,11 +78,11 @@ module _ {w : List ℕ} {none few : ℕ} {clean ok : Bool} (h : clean ≡ true) 
   pub few-defined : {place : ℕ} → ok ≡ false → JudgesSymbols w clean none few place (At 19 place)
   few-defined no-more =
       let n = d .count in
-      let l = subst (λ (c : Bool). Tells c (few ≤ n)) no-more (d .says) in
+      let l = told (few ≤ n) no-more (d .says) in
       record {
         says =
             λ q k i u f p e t.
-            let a = told-true h (all (isSymbol k) (q .residues .read)) t in
+            let a = told (all (isSymbol k) (q .residues .read)) h t in
             let c = counted q k u e a (d .counts) in
             record {
               is =
@@ -98,11 +96,11 @@ module _ {w : List ℕ} {none few : ℕ} {clean ok : Bool} (h : clean ≡ true) 
   pub enough-defined : {place : ℕ} → ok ≡ true → JudgesSymbols w clean none few place Clean
   enough-defined so =
       let n = d .count in
-      let l = told-true so (few ≤ n) (d .says) in
+      let l = told (few ≤ n) so (d .says) in
       record {
         says =
             λ q k i u f p e t.
-            let a = told-true h (all (isSymbol k) (q .residues .read)) t in
+            let a = told (all (isSymbol k) (q .residues .read)) h t in
             let c = counted q k u e a (d .counts) in
             record { is = λ m b x. omega (arith, l, only-19 q k n i a c m b x .2, f) };
       }

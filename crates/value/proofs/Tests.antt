@@ -16,6 +16,10 @@ pub tells : (r : Bool) {A : Type 0} → (r ≡ true → A) → (r ≡ false → 
 tells true f g = f refl
 tells false f g = g refl
 
+-- a flag that is another tells the same
+pub told : (A : Type 0) {b c : Bool} → b ≡ c → Tells b A → Tells c A
+told A h t = subst (λ (d : Bool). Tells d A) h t
+
 pub tells-true : (r : Bool) {A : Type 0} → r ≡ true → Tells r A → A
 tells-true true e t = t
 tells-true false e t = absurd (true≢false (sym e))

@@ -61,6 +61,13 @@ feature-leads f =
     (holding (bytes "INSDFeature")
     (child (leaf (bytes "INSDFeature_key")) (f .key) · child (leaf (bytes "INSDFeature_location")) (f .location) · child? quals (f .quals)))
 
+pub sequence-leads : (q : Sequence ℕ) → Leads (bytes "<SequenceData") (child sequence q)
+sequence-leads q =
+    let k = bytes "<SequenceData" in
+    let T = tag (bytes "SequenceData") in
+    let N = attribute (bytes "sequenceIDNumber") (q .number) in
+    leads-seq k (sequence q) blanks (leads-seq k (T · N) (holding (bytes "SequenceData") (child inner q)) (leads-seq k T N (leads-all k)))
+
 -- ---- other-seqids
 
 -- what is in them, whether they are missing, empty or not
