@@ -20,7 +20,8 @@ use Rattle.judging.specs.Sets.{Faults, Firsts, Bad, Some, InSource, InFeature, 
 use Rattle.judging.specs.Sets as part
 use Rattle.judging.proofs.Faults.{firsts-or, firsts-as, firsts-one}
 use Rattle.judging.proofs.Moltypes.{kind-once}
-use Rattle.features.specs.Featured.{IsSource, Capped, Tallied, WithSource, Finishes}
+use Rattle.source.specs.Sources.{Capped}
+use Rattle.features.specs.Featured.{IsSource, Tallied, WithSource, Finishes}
 use Rattle.features.specs.declared.Tally.{Tally}
 
 count-as : {A : Type 0} (C D : A → Type 0) → ((a : A) → C a → D a) → ((a : A) → D a → C a) → {l : List A} {n : ℕ} → Count C l n → Count D l n

@@ -25,7 +25,8 @@ use Rattle.judging.specs.Sets as part
 use Rattle.judging.proofs.Faults.{firsts-or, firsts-as, firsts-none, firsts-one, some-none, some-more, nth-split}
 use Rattle.judging.proofs.Moltypes.{kind-once}
 use Rattle.judging.proofs.Seen.{count-has, count-lacks}
-use Rattle.features.specs.Featured.{IsSource, RoleIs, IsFeatured, nothingYet, upTo, ifSource, ifJudged, ifUnjudged, Adds, Capped, JudgedIn, UnjudgedIn, Tallied}
+use Rattle.source.specs.Sources.{Capped}
+use Rattle.features.specs.Featured.{IsSource, RoleIs, IsFeatured, nothingYet, upTo, ifSource, ifJudged, ifUnjudged, Adds, JudgedIn, UnjudgedIn, Tallied}
 use Rattle.features.specs.declared.Role.{Role}
 use Rattle.features.specs.declared.Role.the-variants as role
 use Rattle.features.specs.declared.Featured.{Featured}

@@ -24,6 +24,7 @@ use Rattle.location.specs.declared.judging.Verdict.the-variants.{Bad, Is}
 use Rattle.judging.specs.Sets.{Faults, Firsts, Some, InLocation, InSource, InFeature, InTable}
 use Rattle.judging.specs.Known.{Knows}
 use Rattle.judging.specs.declared.Known.{Known}
+use Rattle.source.specs.Sources.{Capped}
 use Rattle.features.specs.declared.Role.{Role}
 use Rattle.features.specs.declared.Role.the-variants as role
 use Rattle.features.specs.declared.Featured.{Featured}
@@ -105,11 +106,6 @@ pub record Adds (limit : ℕ) (a : Tally) (x : Featured) (r : Tally) : Type 0 wh
   pub features : r .features ≡ upTo limit (a .features)
   pub judged : r .judged ≡ ifJudged (x .role) (upTo limit (a .judged)) (a .judged)
   pub unjudged : r .unjudged ≡ ifUnjudged (x .role) (upTo limit (a .unjudged)) (a .unjudged)
-
--- n stands for m: itself up to 1, and 2 for more
-pub record Capped (m n : ℕ) : Type 0 where
-  pub few : m ≤ 1 → n ≡ m
-  pub many : 2 ≤ m → n ≡ 2
 
 abbrev pub JudgedIn : Sequence ℕ → Feature ℕ → Type 0
 JudgedIn q f = Coding q f × (¬ Unjudged f)
