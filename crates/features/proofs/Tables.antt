@@ -20,7 +20,6 @@ use Rattle.judging.specs.Sets.{Faults, Firsts, Bad, Some, InSource, InFeature, 
 use Rattle.judging.specs.Sets as part
 use Rattle.judging.proofs.Faults.{firsts-or, firsts-as, firsts-one}
 use Rattle.judging.proofs.Moltypes.{kind-once}
-use Rattle.source.specs.Sources.{Capped}
 use Rattle.features.specs.Featured.{IsSource, Tallied, WithSource, Finishes}
 use Rattle.features.specs.declared.Tally.{Tally}
 
