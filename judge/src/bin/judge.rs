@@ -15,6 +15,7 @@ judge spans FILE K F [ROOM]
 judge translation FILE K F [ROOM]
 judge translations FILE K [ROOM]
 judge generate SEED COUNT DIR
+judge samples DIR
 FILE may be - for standard input.";
 
 fn main() -> ExitCode {
@@ -22,6 +23,7 @@ fn main() -> ExitCode {
     let words: Vec<&str> = arguments.iter().map(String::as_str).collect();
     let outcome = match words[..] {
         ["generate", seed, count, directory] => generate(seed, count, directory),
+        ["samples", directory] => samples(directory),
         [question, file, ref numbers @ ..] => ask(question, file, numbers),
         _ => Err(USAGE.into()),
     };
@@ -143,19 +145,30 @@ fn with_room(given: &[u64], ask: impl Fn(usize) -> Answer) -> Answer {
 /// Writes the cases 0 to COUNT - 1 and a list of what is expected of them.
 fn generate(seed: &str, count: &str, directory: &str) -> Result<(), String> {
     let (seed, count) = (number(seed)?, number(count)?);
-    let write = |name: &str, bytes: &[u8]| {
-        let path = Path::new(directory).join(name);
-        std::fs::write(&path, bytes).map_err(|error| format!("{}: {error}", path.display()))
-    };
-    std::fs::create_dir_all(directory).map_err(|error| format!("{directory}: {error}"))?;
     let mut expected = String::new();
     for index in 0..count {
         let case = case(seed, index);
         let name = format!("{index:06}.xml");
-        write(&name, &case.bytes)?;
+        write(directory, &name, &case.bytes)?;
         expected += &format!("{name} {}\n", expectation(&case));
     }
-    write("expected.txt", expected.as_bytes())
+    write(directory, "expected.txt", expected.as_bytes())
+}
+
+/// Writes the hand-made listings: document 01's sample sheet, and some for each rule.
+fn samples(directory: &str) -> Result<(), String> {
+    for (index, (_, bytes)) in judge::hand::listings().iter().enumerate() {
+        write(directory, &format!("{index:06}.xml"), bytes)?;
+    }
+    Ok(())
+}
+
+/// Writes a file of the folder, which is made if it isn't there.
+fn write(directory: &str, name: &str, bytes: &[u8]) -> Result<(), String> {
+    let path = Path::new(directory).join(name);
+    std::fs::create_dir_all(directory)
+        .and_then(|()| std::fs::write(&path, bytes))
+        .map_err(|error| format!("{}: {error}", path.display()))
 }
 
 fn expectation(case: &Case) -> String {
