@@ -311,6 +311,7 @@ pub fn spans(listing: &[u8], k: usize, j: usize, out: &mut [u32]) -> SpansAnswer
                     count,
                 },
                 Answer::Short => no_spans(34, 0),
+                // An accepted listing has neither.
                 Answer::Bad => no_spans(24, 0),
                 Answer::Wrong => no_spans(25, 0),
             }

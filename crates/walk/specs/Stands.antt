@@ -75,7 +75,7 @@ Finds F Fol s at r = (x : Text ℕ) (e : ℕ) → Stands (F x) s at e → Fol (d
 pub record FindsContent (name : List ℕ) (allowed : ℕ → Bool) (start : ℕ) (s : List ℕ) (at : ℕ) (r : Found) : Type 0 where
   pub says : start ≤ length s → Finds (content name allowed start) anything s at r
 
--- the same where it may be missing
+-- a text that may be missing
 abbrev pub MaybeIs : List ℕ → Option (Text ℕ) → Maybe → Type 0
 MaybeIs s none Absent = Unit {0}
 MaybeIs s none (Present p) = ⊥
