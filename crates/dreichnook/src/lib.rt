@@ -32,7 +32,7 @@ pub extern "C" fn dreichnook_check(
             unjudged: u,
         } => {
             *place = 0;
-            *total = t;
+            *total = s;
             *skipped = s;
             *features = f;
             *judged = j;
@@ -200,9 +200,9 @@ pub extern "C" fn dreichnook_translations(
     let TranslationAnswer {
         number,
         place: p,
-        size: n,
+        size: all,
     } = lookups::translations(listing, sequence, out);
     *place = p;
-    *size = n;
+    *size = all;
     number as u32
 }

@@ -15,7 +15,8 @@ use Rattle.scan.specs.Follow.{Starts, closing}
 use Rattle.walk.specs.Stands.{Stands, TableIs}
 use Rattle.walk.specs.declared.FoundTable.{FoundTable}
 use Rattle.judging.specs.declared.Known.{Known}
-use Rattle.translating.specs.Lines.{MeasuresLines, PutsLines, TranslatesAll}
+use Rattle.translating.specs.Lines.{refusal, MeasuresLines, PutsLines, TranslatesAll}
+use Rattle.translating.specs.declared.Written.{Written}
 use Rattle.translating.specs.declared.Lined.{Lined}
 use Rattle.translating.specs.declared.Lined.the-variants.{Is, Short}
 
@@ -42,8 +43,9 @@ module _ {s out : List ℕ} {known : Known} {found : FoundTable} where
       }
 
   module _ (h : found .present ≡ true) {x : Lined} (m : MeasuresLines s (found .first) known (length out) x) where
-    pub all-short : x ≡ Short → TranslatesAll s known found out (record { number = 34; size = 0 }) out
-    all-short e =
+    pub all-short : {r : Written} → x ≡ Short → r ≡ refusal 34 → TranslatesAll s known found out r out
+    all-short e z =
+        subst (λ (r : Written). TranslatesAll s known found out r out) (sym z)
         record {
           says =
               λ q k i keep.

@@ -14,14 +14,20 @@ use Rattle.translation.specs.declared.writing.Size.the-variants as size
 use Rattle.judging.specs.Known.{Shows}
 use Rattle.judging.specs.declared.Known.{Known}
 use Rattle.translating.specs.Plans.{PlanIs, Plans}
-use Rattle.translating.specs.Lines.{TranslatesOne}
+use Rattle.translating.specs.Lines.{refusal, TranslatesOne}
+use Rattle.translating.specs.declared.Written.{Written}
 use Rattle.translating.specs.declared.Plan.{Plan}
 use Rattle.translating.specs.declared.Plan.the-variants.{NoCds, From}
 use Rattle.translating.specs.declared.Plan.the-variants as plan
 use Rattle.translating.proofs.Planned.{Coded, coded}
 
+-- the refusal that was answered
+pub answered : {s out after : List ℕ} {known : Known} {g : FoundFeature} {x : Written} {n : ℕ} → x ≡ refusal n → TranslatesOne s known g out (refusal n) after
+    → TranslatesOne s known g out x after
+answered {s} {out} {after} {known} {g} e = subst (λ (y : Written). TranslatesOne s known g out y after) (sym e)
+
 module _ {s out : List ℕ} {known : Known} {g : FoundFeature} {p : Plan} (plans : Plans s known g p) where
-  pub one-none : p ≡ NoCds → TranslatesOne s known g out (record { number = 35; size = 0 }) out
+  pub one-none : p ≡ NoCds → TranslatesOne s known g out (refusal 35) out
   one-none z =
       record {
         says =
@@ -29,7 +35,7 @@ module _ {s out : List ℕ} {known : Known} {g : FoundFeature} {p : Plan} (plans
             record { outcome = refuse 35 0; translates = Translates.no-cds (subst (PlanIs q f) z (plans .says q f e k i keeps)); lent = Lent.refused };
       }
 
-  pub one-unjudged : p ≡ plan.Unjudged → TranslatesOne s known g out (record { number = 36; size = 0 }) out
+  pub one-unjudged : p ≡ plan.Unjudged → TranslatesOne s known g out (refusal 36) out
   one-unjudged z =
       record {
         says =
@@ -59,7 +65,7 @@ module _ {s out : List ℕ} {known : Known} {g : FoundFeature} {p : Plan} (plans
               };
         }
 
-    pub one-short : y ≡ size.Short → TranslatesOne s known g out (record { number = 34; size = 0 }) after
+    pub one-short : y ≡ size.Short → TranslatesOne s known g out (refusal 34) after
     one-short v =
         record {
           says =
@@ -74,7 +80,7 @@ module _ {s out : List ℕ} {known : Known} {g : FoundFeature} {p : Plan} (plans
               };
         }
 
-    pub one-stop : y ≡ size.Stop → TranslatesOne s known g out (record { number = 37; size = 0 }) after
+    pub one-stop : y ≡ size.Stop → TranslatesOne s known g out (refusal 37) after
     one-stop v =
         record {
           says =

@@ -21,6 +21,10 @@ use Rattle.translating.specs.declared.Written.{Written}
 use Rattle.translating.specs.declared.Lined.{Lined}
 use Rattle.translating.specs.declared.Lined.the-variants.{Is, Short}
 
+-- the answer of a refusal
+abbrev pub refusal : ℕ → Written
+refusal n = record { number = n; size = 0 }
+
 -- ---- one feature
 
 -- the outcome for f, and what is then in the lent bytes

@@ -12,9 +12,10 @@ use translation::writing::pour;
 use translation::writing::write;
 use walk::FoundFeature;
 use walk::FoundTable;
+ghost use mathlib.Core.Path.{_≡_};
 ghost use Rattle.codon.specs.Tables.{SetTable, TurnTable, LetterTable};
 ghost use Rattle.translating.specs.Plans.{Plans};
-ghost use Rattle.translating.specs.Lines.{TranslatesOne, Dashes, MeasuresLine, PassesFeature, Adds, MeasuresLines, PutsDash, PutsLine, PutsLines, TranslatesAll};
+ghost use Rattle.translating.specs.Lines.{refusal, TranslatesOne, Dashes, MeasuresLine, PassesFeature, Adds, MeasuresLines, PutsDash, PutsLine, PutsLines, TranslatesAll};
 
 // How a feature is translated.
 pub enum Plan {
@@ -48,6 +49,13 @@ pub struct Written {
     pub size: usize,
 }
 
+// The answer of a refusal.
+fn refused(number: usize) -> Written
+    ensures { λ r. ⌜ r ≡ refusal number ⌝ }
+{
+    Written { number, size: 0 }
+}
+
 // One translation at the front of out; or nothing is written.
 pub fn translate(
     s: &[u8],
@@ -64,27 +72,15 @@ pub fn translate(
     ensures { λ r. ⌜ TranslatesOne (now (s .entry)) known feature (now (out .entry)) r (now (out .exit)) ⌝ }
 {
     match plan_of(s, known, feature) {
-        Plan::NoCds => Written {
-            number: 35,
-            size: 0,
-        },
-        Plan::Unjudged => Written {
-            number: 36,
-            size: 0,
-        },
+        Plan::NoCds => refused(35),
+        Plan::Unjudged => refused(36),
         Plan::From(start) => {
             let r = bytes_of(s, known.residues.from, known.residues.to);
             let loc = bytes_of(s, feature.location.from, feature.location.to);
             match write(r, loc, known.top, start, sets, turns, table, out) {
                 Size::Is(n) => Written { number: 0, size: n },
-                Size::Short => Written {
-                    number: 34,
-                    size: 0,
-                },
-                Size::Stop => Written {
-                    number: 37,
-                    size: 0,
-                },
+                Size::Short => refused(34),
+                Size::Stop => refused(37),
             }
         }
     }
@@ -303,13 +299,10 @@ pub fn translate_all(
         return Written { number: 0, size: 0 };
     }
     match lines_size(s, found.first, known, out.len(), sets, turns, table) {
-        Lined::Short => Written {
-            number: 34,
-            size: 0,
-        },
-        Lined::Is(n) => {
-            put_lines(s, found.first, known, sets, turns, table, &mut out[..n]);
-            Written { number: 0, size: n }
+        Lined::Short => refused(34),
+        Lined::Is(size) => {
+            put_lines(s, found.first, known, sets, turns, table, &mut out[..size]);
+            Written { number: 0, size }
         }
     }
 }

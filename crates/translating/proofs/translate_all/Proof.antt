@@ -1,10 +1,10 @@
 -- `translating::translate_all` meets its contract.
-use mathlib.Core.Path.{sym}
-use borrow.Author.Tests.{not-true, not-false}
-use denote.Ref.{now}
-use lib.Seq.{length-take-le}
-use Rattle.translating.proofs.Alls.{size-within, all-none, all-short, all-is}
 use borrow.Author.Needs.{needs}
+use Rattle.translating.proofs.Alls.{size-within, all-none, all-short, all-is}
+use lib.Seq.{length-take-le}
+use denote.Ref.{now}
+use borrow.Author.Tests.{not-true, not-false}
+use mathlib.Core.Path.{sym}
 use Rattle.translating.proofs.translate_all.Statement.{statement}
 use Rattle.translating.proofs.translate_all.Tie as tie
 
@@ -17,26 +17,29 @@ lines-size-requires c κs = search needs
 enum-told : tie.Need-enum-told
 enum-told c = search needs
 
-enum-known-n : tie.Need-enum-known-n
-enum-known-n c = search needs
+refused-requires : tie.Need-refused-requires
+refused-requires c κs = search needs
+
+enum-known-size : tie.Need-enum-known-size
+enum-known-size c = search needs
 
 slice-relend-prefix-put-lines : tie.Need-slice-relend-prefix-put-lines
-slice-relend-prefix-put-lines c = size-within (c .before .before .before .lines-size .ensures) (c .before .n .given .1)
+slice-relend-prefix-put-lines c = size-within (c .before .before .before .lines-size .ensures) (c .before .size .given .1)
 
 slice-aggregate-put-lines : tie.Need-slice-aggregate-put-lines
-slice-aggregate-put-lines c = sym (length-take-le (c .before .before .n .given .0 .0) (now (c .before .before .before .before .before .before .before .before .before .args .out)) (size-within (c .before .before .before .before .lines-size .ensures) (c .before .before .n .given .1)))
+slice-aggregate-put-lines c = sym (length-take-le (c .before .before .size .given .0 .0) (now (c .before .before .before .before .before .before .before .before .before .args .out)) (size-within (c .before .before .before .before .lines-size .ensures) (c .before .before .size .given .1)))
 
 put-lines-requires : tie.Need-put-lines-requires
 put-lines-requires c κs = search needs
 
 returns-2 : tie.Need-returns-2
-returns-2 c = all-short (not-false _ (c .before .before .before .if1 .left)) (c .before .before .lines-size .ensures) (c .enum-told .given .1)
+returns-2 c = all-short (not-false _ (c .before .before .before .before .if1 .left)) (c .before .before .before .lines-size .ensures) (c .before .enum-told .given .1) (c .refused .ensures)
 
 same-length : tie.Need-same-length
 same-length c = search needs
 
 returns-3 : tie.Need-returns-3
-returns-3 c = all-is (not-false _ (c .before .before .before .before .before .before .before .before .if1 .left)) (c .before .before .before .before .before .before .before .lines-size .ensures) (c .before .before .before .before .before .n .given .1) (c .before .before .put-lines .ensures)
+returns-3 c = all-is (not-false _ (c .before .before .before .before .before .before .before .before .if1 .left)) (c .before .before .before .before .before .before .before .lines-size .ensures) (c .before .before .before .before .before .size .given .1) (c .before .before .put-lines .ensures)
 
 pub translate-all-spec : {M : Type 1} → statement M
 translate-all-spec =
@@ -45,7 +48,8 @@ translate-all-spec =
     returns
     lines-size-requires
     enum-told
-    enum-known-n
+    refused-requires
+    enum-known-size
     slice-relend-prefix-put-lines
     slice-aggregate-put-lines
     put-lines-requires
