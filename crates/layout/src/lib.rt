@@ -405,11 +405,11 @@ fn root(s: &[u8], st: Step, t: &[u8; 256]) -> Step
 fn doctype(s: &[u8], st: Step) -> Step
     ensures { λ r. ⌜ Passes Form.doctype anything (now (s .entry)) st r ⌝ }
 {
-    let a = scan::gap(s, scan::lit(s, st, b"<!DOCTYPE"));
-    let b = scan::gap(s, scan::lit(s, a, b"ST26SequenceListing"));
-    let c = scan::gap(s, scan::lit(s, b, b"PUBLIC"));
-    let d = scan::lit(s, c, b"\"-//WIPO//DTD Sequence Listing 1.2//EN\"");
-    scan::lit(s, scan::gap(s, d), b"\"ST26SequenceListing_V1_2.dtd\">")
+    let a = scan::gap(s, scan::word(s, st, b"<!DOCTYPE"));
+    let b = scan::gap(s, scan::word(s, a, b"ST26SequenceListing"));
+    let c = scan::gap(s, scan::word(s, b, b"PUBLIC"));
+    let d = scan::word(s, c, b"\"-//WIPO//DTD Sequence Listing 1.2//EN\"");
+    scan::word(s, scan::gap(s, d), b"\"ST26SequenceListing_V1_2.dtd\">")
 }
 
 // The whole text.
@@ -420,7 +420,7 @@ fn document(s: &[u8], c: Cursor, t: &[u8; 256]) -> Step
 {
     let at = c.at;
     let start = Step::Ok { next: at, far: at };
-    let a = scan::lit(s, start, b"<?xml version=\"1.0\" encoding=\"UTF-8\"?>");
+    let a = scan::word(s, start, b"<?xml version=\"1.0\" encoding=\"UTF-8\"?>");
     let b = doctype(s, scan::blanks(s, a));
     let d = root(s, scan::blanks(s, b), t);
     scan::end(s, scan::blanks(s, d))

@@ -92,6 +92,65 @@ pub fn lit(s: &[u8], st: Step, x: &[u8]) -> Step
     }
 }
 
+// Two bytes as one number, the first lowest.
+fn two(a: u8, b: u8) -> u64
+    ensures { λ r. ⌜ Two a b r ⌝ }
+{
+    a as u64 + 256 * (b as u64)
+}
+
+// Eight bytes as one number, the first lowest. It is compiled to one load.
+fn eight(s: &[u8], at: usize) -> u64
+    requires { ⌜ at + 8 ≤ length (now s) ⌝ }
+    ensures { λ r. ⌜ Eight (now (s .entry)) at r ⌝ }
+{
+    two(s[at], s[at + 1])
+        + 65_536 * two(s[at + 2], s[at + 3])
+        + 4_294_967_296 * two(s[at + 4], s[at + 5])
+        + 281_474_976_710_656 * two(s[at + 6], s[at + 7])
+}
+
+// Whether the word x stands here: no more than a quick yes, for a word of eight bytes or more. The last eight may overlap.
+fn stands(s: &[u8], at: usize, x: &[u8]) -> bool
+    ensures { λ r. ⌜ (r ≡ true → StandsAt (now (s .entry)) at (now (x .entry))) ⌝ }
+{
+    let n = x.len();
+    if n < 8 {
+        return false;
+    }
+    if s.len() < at {
+        return false;
+    }
+    if s.len() - at < n {
+        return false;
+    }
+    let mut i: usize = 0;
+    while 8 < n - i {
+        if eight(s, at + i) != eight(x, i) {
+            return false;
+        }
+        i += 8;
+    }
+    eight(s, at + (n - 8)) == eight(x, n - 8)
+}
+
+// The word x, as `lit` reads it: eight bytes at a time, and where it isn't there `lit` tells how far it goes.
+pub fn word(s: &[u8], st: Step, x: &[u8]) -> Step
+    ensures { λ r. ⌜ Passes (these (now (x .entry))) anything (now (s .entry)) st r ⌝ }
+{
+    let Step::Ok { next, far } = st else {
+        return again(st);
+    };
+    if stands(s, next, x) {
+        let end = next + x.len();
+        return Step::Ok {
+            next: end,
+            far: most(far, end),
+        };
+    }
+    lit(s, Step::Ok { next, far }, x)
+}
+
 pub fn is_blank(b: u8) -> bool
     ensures { λ r. ⌜ r ≡ isBlank b ⌝ }
 {
@@ -165,10 +224,7 @@ pub fn plain_by(t: &[u8; 256], high: bool, b: u8) -> bool
     requires { ⌜ ClassTable (now t) ⌝ }
     ensures { λ r. ⌜ r ≡ isPlain high b ⌝ }
 {
-    if high {
-        return t[b as usize] <= 1;
-    }
-    t[b as usize] == 0
+    t[b as usize] <= high as u8
 }
 
 // One byte that stands for itself.
@@ -233,34 +289,38 @@ pub fn equal(a: u8, b: u8) -> u8
     if a == b { 1 } else { 0 }
 }
 
-// 0 only where b stands for itself in every text.
-pub fn odd(b: u8) -> u8
+// 0 only where b stands for itself in every text. Where not all of these are asked for, only a letter or what is near the letters:
+// that takes two tests.
+pub fn odd(b: u8, all: bool) -> u8
     ensures { λ r. ⌜ Odd b r ⌝ }
 {
-    below(b, 32)
-        + below(126, b)
-        + equal(b, b'<')
-        + equal(b, b'>')
-        + equal(b, b'&')
-        + equal(b, b'"')
-        + equal(b, b'\'')
+    if all {
+        return below(b, 32)
+            + below(126, b)
+            + equal(b, b'<')
+            + equal(b, b'>')
+            + equal(b, b'&')
+            + equal(b, b'"')
+            + equal(b, b'\'');
+    }
+    below(b, b'?') | below(b'~', b)
 }
 
 // 0 only where each of the 32 bytes stands for itself. Joined with no branch, and not summed: it is compiled to vector code.
-pub fn block(s: &[u8], at: usize) -> u8
+pub fn block(s: &[u8], at: usize, all: bool) -> u8
     requires { ⌜ at + 32 ≤ length (now s) ⌝ }
     ensures { λ r. ⌜ Block (now (s .entry)) at r ⌝ }
 {
     let mut bad: u8 = 0;
     let mut j: usize = 0;
     while j < 32 {
-        bad = bad | odd(s[at + j]);
+        bad = bad | odd(s[at + j], all);
         j += 1;
     }
     bad
 }
 
-// Whole blocks of bytes that stand for themselves.
+// Whole blocks of bytes that stand for themselves: long texts are mostly letters.
 pub fn blocks(s: &[u8], start: usize) -> usize
     ensures { λ r. ⌜ Passed (isPlain false) (now (s .entry)) start r ⌝ }
 {
@@ -269,8 +329,10 @@ pub fn blocks(s: &[u8], start: usize) -> usize
         if s.len() - at < 32 {
             return at;
         }
-        if block(s, at) != 0 {
-            return at;
+        if block(s, at, false) != 0 {
+            if block(s, at, true) != 0 {
+                return at;
+            }
         }
         at += 32;
     }
@@ -337,14 +399,14 @@ pub fn text(s: &[u8], next: usize, far: usize, high: bool, t: &[u8; 256]) -> Ste
 pub fn tag(s: &[u8], st: Step, name: &[u8]) -> Step
     ensures { λ r. ⌜ Passes (Layout.tag (now (name .entry))) anything (now (s .entry)) st r ⌝ }
 {
-    lit(s, lit(s, st, b"<"), name)
+    word(s, lit(s, st, b"<"), name)
 }
 
 // `</name>`
 pub fn close(s: &[u8], st: Step, name: &[u8]) -> Step
     ensures { λ r. ⌜ Passes (Layout.close (now (name .entry))) anything (now (s .entry)) st r ⌝ }
 {
-    let a = lit(s, lit(s, st, b"</"), name);
+    let a = word(s, lit(s, st, b"</"), name);
     lit(s, blanks(s, a), b">")
 }
 
@@ -354,7 +416,7 @@ pub fn attribute(s: &[u8], st: Step, name: &[u8], t: &[u8; 256]) -> Step
     requires { ⌜ Named (now name) ⌝ }
     ensures { λ r. ⌜ Reads (Layout.attribute (now (name .entry))) anything (now (s .entry)) st r ⌝ }
 {
-    let a = lit(s, lit(s, gap(s, st), name), b"=\"");
+    let a = lit(s, word(s, gap(s, st), name), b"=\"");
     let Step::Ok { next, far } = a else {
         return again(a);
     };
