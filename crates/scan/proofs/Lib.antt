@@ -5,5 +5,6 @@ pub mod Fronts
 pub mod Soles
 pub mod Letters
 pub mod Tags
+pub mod Words
 pub mod Scans
 pub mod Classes

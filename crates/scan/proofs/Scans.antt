@@ -6,6 +6,7 @@ use mathlib.Core.Path.{_≡_, ap, _∙_}
 use mathlib.Core.Bool.{Bool, true, false, and-eq-true-iff}
 use mathlib.Core.List.{List}
 use lib.ListN.{length, getD}
+use borrow.Author.Tests.{le-leb, ne-eqb}
 use Rattle.scan.specs.Texts.{allowedIn, isPlain, Upto}
 use Rattle.scan.proofs.Letters.{allowed}
 
@@ -28,6 +29,10 @@ module _ (f : ℕ → Bool) (s : List ℕ) where
       cases : Dec (mid ≤ k) → (k < length s) × (f (getD s k 0) ≡ true)
       cases (yes l) = v k l j
       cases (no l) = u k i (omega arith)
+
+-- the tests of a byte that stands for itself in every text
+pub plain-tests : (b : ℕ) → 32 ≤ b → b ≤ 126 → (b ≡ 60 → ⊥) → (b ≡ 62 → ⊥) → (b ≡ 38 → ⊥) → (b ≡ 34 → ⊥) → (b ≡ 39 → ⊥) → isPlain false b ≡ true
+plain-tests b l u e f g i j = simp (le-leb _ _ l, le-leb _ _ u, ne-eqb _ _ e, ne-eqb _ _ f, ne-eqb _ _ g, ne-eqb _ _ i, ne-eqb _ _ j)
 
 -- what stands for itself in every text does so in each
 pub plain-any : (high : Bool) (b : ℕ) → isPlain false b ≡ true → isPlain high b ≡ true

@@ -1,3 +1,4 @@
 pub mod Follow
 pub mod Reads
 pub mod Texts
+pub mod Words

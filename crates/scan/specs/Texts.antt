@@ -29,9 +29,14 @@ One f b at w = (w ≡ b ∷ []) × (f b ≡ true)
 abbrev pub letter : Bool → ℕ → Form
 letter high b at w = (allowedIn high b ≡ true) × (w ≡ spell b)
 
+-- the highest class of a byte that stands for itself
+abbrev pub classIn : Bool → ℕ
+classIn false = 0
+classIn true = 1
+
 -- at each byte: 0 where it stands for itself in every text, 1 where it does in texts that allow high bytes, more where in none
 pub record ClassTable (t : List ℕ) : Type 0 where
-  pub at-byte : (b : ℕ) → b < 256 → (eqb (getD t b 0) 0 ≡ isPlain false b) × (leb (getD t b 0) 1 ≡ isPlain true b)
+  pub at-byte : (high : Bool) (b : ℕ) → b < 256 → leb (getD t b 0) (classIn high) ≡ isPlain high b
 
 -- from a place to another each byte is of the class f
 abbrev pub Upto : (ℕ → Bool) → List ℕ → ℕ → ℕ → Type 0

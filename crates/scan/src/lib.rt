@@ -1,7 +1,7 @@
 // Reading bytes: words, blanks, texts, tags, attributes and leaves, each as a step from one place to the next.
 // Relies on the definitions of the crate paper (forms and layout). Knows no element of the listing by name.
 ghost use mathlib.Core.Path.{_≡_};
-ghost use mathlib.Core.Bool.{false};
+ghost use mathlib.Core.Bool.{true, false};
 ghost use mathlib.Core.List.{[]};
 ghost use Prim.Native.Nat.{max, _+_, _≤_};
 ghost use lib.ListN.{length};
@@ -10,6 +10,7 @@ ghost use Rattle.paper.specs.Form.{these, one};
 ghost use Rattle.paper.specs.Layout;
 ghost use Rattle.scan.specs.Reads.{Reads, Passes, Tried, AtEnd, Followed, raised, chosen, stayed};
 ghost use Rattle.scan.specs.Follow.{Not, Named, anything, nothing};
+ghost use Rattle.scan.specs.Words.{Two, Eight, StandsAt};
 ghost use Rattle.scan.specs.Texts.{allowedIn, isPlain, isText, letter, One, ClassTable, Scanned, Passed, Below, Equal, Odd, Block};
 
 // How far a reading got: `next` is where the next part starts, `far` the furthest place to which some layout goes.

@@ -8,11 +8,11 @@ use borrow.Author.Needs.{needs}
 use Rattle.layout.proofs.document.Statement.{statement}
 use Rattle.layout.proofs.document.Tie as tie
 
-slice-aggregate-lit : tie.Need-slice-aggregate-lit
-slice-aggregate-lit c = search needs
+slice-aggregate-word : tie.Need-slice-aggregate-word
+slice-aggregate-word c = search needs
 
-lit-requires : tie.Need-lit-requires
-lit-requires c κs = search needs
+word-requires : tie.Need-word-requires
+word-requires c κs = search needs
 
 blanks-requires : tie.Need-blanks-requires
 blanks-requires c κs = search needs
@@ -34,7 +34,7 @@ end-requires c κs = search needs
 
 returns : tie.Need-returns
 returns c = (
-  document-reads (step-from (ap (λ (n : ℕ). Ok n n) (sym (c .before .before .before .before .before .before .before .before .before .pre .1))) (c .before .before .before .before .before .before .lit .ensures)) (c .before .before .before .before .before .blanks .ensures) (c .before .before .before .before .doctype .ensures) (c .before .before .before .blanks2 .ensures)
+  document-reads (step-from (ap (λ (n : ℕ). Ok n n) (sym (c .before .before .before .before .before .before .before .before .before .pre .1))) (c .before .before .before .before .before .before .word .ensures)) (c .before .before .before .before .before .blanks .ensures) (c .before .before .before .before .doctype .ensures) (c .before .before .before .blanks2 .ensures)
       (c .before .before .root .ensures) (c .before .blanks3 .ensures) (c .end .ensures .0),
   c .end .ensures .1,
 )
@@ -43,8 +43,8 @@ pub document-spec : {M : Type 1} → statement M
 document-spec =
     tie.close
     (tie.spec
-    slice-aggregate-lit
-    lit-requires
+    slice-aggregate-word
+    word-requires
     blanks-requires
     doctype-requires
     blanks-requires-2

@@ -1,23 +1,23 @@
 -- `scan::attribute` meets its contract: a gap, the name and `="` as one word, a text and `"`.
-use denote.Ref.{now}
-use Rattle.scan.proofs.Fronts.{named-sharp}
-use Rattle.scan.proofs.Steps.{step-is, failed, failed-again}
-use Rattle.scan.proofs.Tags.{these-join, attribute-reads}
 use borrow.Author.Needs.{needs}
+use Rattle.scan.proofs.Tags.{these-join, attribute-reads}
+use Rattle.scan.proofs.Steps.{step-is, failed, failed-again}
+use Rattle.scan.proofs.Fronts.{named-sharp}
+use denote.Ref.{now}
 use Rattle.scan.proofs.attribute.Statement.{statement}
 use Rattle.scan.proofs.attribute.Tie as tie
 
 gap-requires : tie.Need-gap-requires
 gap-requires c κs = search needs
 
-lit-requires : tie.Need-lit-requires
-lit-requires c κs = search needs
+word-requires : tie.Need-word-requires
+word-requires c κs = search needs
 
 slice-aggregate-lit : tie.Need-slice-aggregate-lit
 slice-aggregate-lit c = search needs
 
-lit-requires-2 : tie.Need-lit-requires-2
-lit-requires-2 c κs = search needs
+lit-requires : tie.Need-lit-requires
+lit-requires c κs = search needs
 
 enum-known-a : tie.Need-enum-known-a
 enum-known-a c = search needs
@@ -29,10 +29,9 @@ again-requires : tie.Need-again-requires
 again-requires c κs = search needs
 
 returns : tie.Need-returns
-returns c =
-    let n = now (c .before .before .before .before .before .before .before .before .before .args .name) in
+returns c = let n = now (c .before .before .before .before .before .before .before .before .before .args .name) in
     let h = c .before .enum-told .given .1 in
-    attribute-reads n (named-sharp n (c .before .before .before .before .before .before .before .before .before .pre .1)) (c .before .before .before .before .before .before .gap .ensures) (these-join (c .before .before .before .before .before .lit .ensures) (c .before .before .before .lit2 .ensures))
+    attribute-reads n (named-sharp n (c .before .before .before .before .before .before .before .before .before .pre .1)) (c .before .before .before .before .before .before .gap .ensures) (these-join (c .before .before .before .before .before .word .ensures) (c .before .before .before .lit .ensures))
     (failed _ h) (failed-again _ h (c .again .ensures))
 
 text-requires : tie.Need-text-requires
@@ -41,28 +40,27 @@ text-requires c κs = search needs
 slice-aggregate-lit-2 : tie.Need-slice-aggregate-lit-2
 slice-aggregate-lit-2 c = search needs
 
-lit-requires-3 : tie.Need-lit-requires-3
-lit-requires-3 c κs = search needs
+lit-requires-2 : tie.Need-lit-requires-2
+lit-requires-2 c κs = search needs
 
 returns-2 : tie.Need-returns-2
-returns-2 c =
-    let n = now (c .before .before .before .before .before .before .before .before .before .before .before .before .args .name) in
+returns-2 c = let n = now (c .before .before .before .before .before .before .before .before .before .before .before .before .args .name) in
     attribute-reads n (named-sharp n (c .before .before .before .before .before .before .before .before .before .before .before .before .pre .1)) (c .before .before .before .before .before .before .before .before .before .gap .ensures)
-    (step-is (these-join (c .before .before .before .before .before .before .before .before .lit .ensures) (c .before .before .before .before .before .before .lit2 .ensures)) (c .before .before .before .before .a .given .1)) (c .before .before .text .ensures) (c .lit3 .ensures)
+    (step-is (these-join (c .before .before .before .before .before .before .before .before .word .ensures) (c .before .before .before .before .before .before .lit .ensures)) (c .before .before .before .before .a .given .1)) (c .before .before .text .ensures) (c .lit2 .ensures)
 
 pub attribute-spec : {M : Type 1} → statement M
 attribute-spec =
     tie.close
     (tie.spec
     gap-requires
-    lit-requires
+    word-requires
     slice-aggregate-lit
-    lit-requires-2
+    lit-requires
     enum-known-a
     enum-told
     again-requires
     returns
     text-requires
     slice-aggregate-lit-2
-    lit-requires-3
+    lit-requires-2
     returns-2)

@@ -11,10 +11,10 @@ use Rattle.scan.proofs.block.Statement.{statement}
 use Rattle.scan.proofs.block.Tie as tie
 
 abbrev Inv-loop : tie.InvT-loop
-Inv-loop s at bad₀ j₀ bad j = (j ≤ 32) × (bad ≡ 0 → Upto (isPlain false) s at (at + j))
+Inv-loop s at all bad₀ j₀ bad j = (j ≤ 32) × (bad ≡ 0 → Upto (isPlain false) s at (at + j))
 
 abbrev μ-loop : tie.MeasureT-loop
-μ-loop s at bad₀ j₀ bad j = 32 - j
+μ-loop s at all bad₀ j₀ bad j = 32 - j
 
 loop-holds : tie.Need-loop-holds Inv-loop μ-loop
 loop-holds c = (omega arith, λ h k i j. absurd (omega arith))

@@ -1,6 +1,6 @@
 -- `scan::close` meets its contract: `</` and the name are one word, with blanks and `>` after it.
-use Rattle.scan.proofs.Tags.{these-join, close-reads}
 use borrow.Author.Needs.{needs}
+use Rattle.scan.proofs.Tags.{these-join, close-reads}
 use Rattle.scan.proofs.close.Statement.{statement}
 use Rattle.scan.proofs.close.Tie as tie
 
@@ -10,8 +10,8 @@ slice-aggregate-lit c = search needs
 lit-requires : tie.Need-lit-requires
 lit-requires c κs = search needs
 
-lit-requires-2 : tie.Need-lit-requires-2
-lit-requires-2 c κs = search needs
+word-requires : tie.Need-word-requires
+word-requires c κs = search needs
 
 blanks-requires : tie.Need-blanks-requires
 blanks-requires c κs = search needs
@@ -19,11 +19,11 @@ blanks-requires c κs = search needs
 slice-aggregate-lit-2 : tie.Need-slice-aggregate-lit-2
 slice-aggregate-lit-2 c = search needs
 
-lit-requires-3 : tie.Need-lit-requires-3
-lit-requires-3 c κs = search needs
+lit-requires-2 : tie.Need-lit-requires-2
+lit-requires-2 c κs = search needs
 
 returns : tie.Need-returns
-returns c = close-reads (these-join (c .before .before .before .before .lit .ensures) (c .before .before .before .lit2 .ensures)) (c .before .before .blanks .ensures) (c .lit3 .ensures)
+returns c = close-reads (these-join (c .before .before .before .before .lit .ensures) (c .before .before .before .word .ensures)) (c .before .before .blanks .ensures) (c .lit2 .ensures)
 
 pub close-spec : {M : Type 1} → statement M
 close-spec =
@@ -31,8 +31,8 @@ close-spec =
     (tie.spec
     slice-aggregate-lit
     lit-requires
-    lit-requires-2
+    word-requires
     blanks-requires
     slice-aggregate-lit-2
-    lit-requires-3
+    lit-requires-2
     returns)

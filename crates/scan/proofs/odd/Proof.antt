@@ -1,7 +1,8 @@
--- `scan::odd` meets its contract: where the sum is 0 each of its tests is, and together they are the test of the class.
-use native.Mathlib.Omega.{arith}
-use borrow.Author.Tests.{le-leb, ne-eqb}
+-- `scan::odd` meets its contract: where the tests joined are 0 each of them is, and together they are the test of the class or more.
 use borrow.Author.Needs.{needs}
+use Rattle.paper.proofs.Bits.{or-none}
+use Rattle.scan.proofs.Scans.{plain-tests}
+use native.Mathlib.Omega.{arith}
 use Rattle.scan.proofs.odd.Statement.{statement}
 use Rattle.scan.proofs.odd.Tie as tie
 
@@ -45,8 +46,7 @@ add-result-6 : tie.Need-add-result-6
 add-result-6 c = search needs
 
 returns : tie.Need-returns
-returns c =
-    let l = c .before .before .before .before .before .before .below .ensures in
+returns c = let l = c .before .before .before .before .before .before .below .ensures in
     let u = c .before .before .before .before .before .below2 .ensures in
     let e = c .before .before .before .before .equal .ensures in
     let f = c .before .before .before .equal2 .ensures in
@@ -55,16 +55,26 @@ returns c =
     let j = c .equal5 .ensures in
     record {
       none =
+          λ h. plain-tests _ (l .none (omega arith)) (u .none (omega arith)) (e .none (omega arith)) (f .none (omega arith))
+          (g .none (omega arith)) (i .none (omega arith)) (j .none (omega arith));
+    }
+
+below-requires-3 : tie.Need-below-requires-3
+below-requires-3 c κs = search needs
+
+below-requires-4 : tie.Need-below-requires-4
+below-requires-4 c κs = search needs
+
+returns-2 : tie.Need-returns-2
+returns-2 c = let l = c .before .below3 in
+    let u = c .below4 in
+    record {
+      none =
           λ h.
-          simp (
-            le-leb _ _ (l .none (omega arith)),
-            le-leb _ _ (u .none (omega arith)),
-            ne-eqb _ _ (e .none (omega arith)),
-            ne-eqb _ _ (f .none (omega arith)),
-            ne-eqb _ _ (g .none (omega arith)),
-            ne-eqb _ _ (i .none (omega arith)),
-            ne-eqb _ _ (j .none (omega arith)),
-          );
+          let z = or-none (l .result) (u .result) h in
+          let m = l .ensures .none (z .0) in
+          plain-tests _ (omega (arith, m)) (u .ensures .none (z .1)) (λ e. omega (arith, m, e)) (λ e. omega (arith, m, e)) (λ e. omega (arith, m, e))
+          (λ e. omega (arith, m, e)) (λ e. omega (arith, m, e));
     }
 
 pub odd-spec : {M : Type 1} → statement M
@@ -84,4 +94,7 @@ odd-spec =
     add-result-5
     equal-requires-5
     add-result-6
-    returns)
+    returns
+    below-requires-3
+    below-requires-4
+    returns-2)
