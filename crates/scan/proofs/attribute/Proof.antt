@@ -31,8 +31,8 @@ again-requires c κs = search needs
 returns : tie.Need-returns
 returns c = let n = now (c .before .before .before .before .before .before .before .before .before .args .name) in
     let h = c .before .enum-told .given .1 in
-    attribute-reads n (named-sharp n (c .before .before .before .before .before .before .before .before .before .pre .1)) (c .before .before .before .before .before .before .gap .ensures) (these-join (c .before .before .before .before .before .word .ensures) (c .before .before .before .lit .ensures))
-    (failed _ h) (failed-again _ h (c .again .ensures))
+    let w = these-join (c .before .before .before .before .before .word .ensures) (c .before .before .before .lit .ensures) in
+    attribute-reads n (named-sharp n (c .before .before .before .before .before .before .before .before .before .pre .1)) (c .before .before .before .before .before .before .gap .ensures) w (failed _ h) (failed-again _ h (c .again .ensures))
 
 text-requires : tie.Need-text-requires
 text-requires c κs = search needs
@@ -45,8 +45,8 @@ lit-requires-2 c κs = search needs
 
 returns-2 : tie.Need-returns-2
 returns-2 c = let n = now (c .before .before .before .before .before .before .before .before .before .before .before .before .args .name) in
-    attribute-reads n (named-sharp n (c .before .before .before .before .before .before .before .before .before .before .before .before .pre .1)) (c .before .before .before .before .before .before .before .before .before .gap .ensures)
-    (step-is (these-join (c .before .before .before .before .before .before .before .before .word .ensures) (c .before .before .before .before .before .before .lit .ensures)) (c .before .before .before .before .a .given .1)) (c .before .before .text .ensures) (c .lit2 .ensures)
+    let w = step-is (these-join (c .before .before .before .before .before .before .before .before .word .ensures) (c .before .before .before .before .before .before .lit .ensures)) (c .before .before .before .before .a .given .1) in
+    attribute-reads n (named-sharp n (c .before .before .before .before .before .before .before .before .before .before .before .before .pre .1)) (c .before .before .before .before .before .before .before .before .before .gap .ensures) w (c .before .before .text .ensures) (c .lit2 .ensures)
 
 pub attribute-spec : {M : Type 1} → statement M
 attribute-spec =

@@ -80,7 +80,21 @@ add-result-3 : tie.Need-add-result-3
 add-result-3 c = search needs
 
 returns : tie.Need-returns
-returns c = record { a = c .before .before .before .before .before .before .before .before .before .two .result; b = c .before .before .before .before .before .before .two2 .result; c = c .before .before .before .two3 .result; d = c .two4 .result; first = c .before .before .before .before .before .before .before .before .before .two .ensures; second = c .before .before .before .before .before .before .two2 .ensures; third = c .before .before .before .two3 .ensures; fourth = c .two4 .ensures; is = refl }
+returns c = let p = c .before .before .before .before .before .before .before .before .before .two in
+    let q = c .before .before .before .before .before .before .two2 in
+    let x = c .before .before .before .two3 in
+    let y = c .two4 in
+    record {
+      a = p .result;
+      b = q .result;
+      c = x .result;
+      d = y .result;
+      first = p .ensures;
+      second = q .ensures;
+      third = x .ensures;
+      fourth = y .ensures;
+      is = refl;
+    }
 
 pub eight-spec : {M : Type 1} → statement M
 eight-spec =

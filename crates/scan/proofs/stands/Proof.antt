@@ -55,7 +55,10 @@ loop-less : tie.Need-loop-less Inv-loop μ-loop
 loop-less c = search needs
 
 loop-again : tie.Need-loop-again Inv-loop μ-loop
-loop-again c = (omega arith, alike-more (now (c .before .before .before .before .before .before .before .before .before .before .args .s)) (now (c .before .before .before .before .before .before .before .before .before .before .args .x)) (c .before .before .before .before .before .before .before .before .before .before .args .at) (c .before .before .before .before .loop .inv .1) (subst (Eight (now (c .before .before .before .before .before .before .before .before .before .before .args .s)) (c .before .before .before .before .before .before .before .before .before .before .args .at + c .before .before .before .before .loop .i)) (c .if4 .left) (c .before .before .eight .ensures)) (c .before .eight2 .ensures) (omega arith))
+loop-again c = let l = c .before .before .before .before .loop in
+    let a = c .before .before .before .before .before .before .before .before .before .before .args in
+    let e = subst (Eight (now (a .s)) (a .at + l .i)) (c .if4 .left) (c .before .before .eight .ensures) in
+    (omega arith, alike-more (now (a .s)) (now (a .x)) (a .at) (l .inv .1) e (c .before .eight2 .ensures) (omega arith))
 
 add-eight-2 : tie.Need-add-eight-2 Inv-loop μ-loop
 add-eight-2 c = search needs
@@ -67,7 +70,11 @@ eight-requires-4 : tie.Need-eight-requires-4 Inv-loop μ-loop
 eight-requires-4 c κs = search needs
 
 returns-5 : tie.Need-returns-5 Inv-loop μ-loop
-returns-5 c = λ e. record { inside = omega arith; alike = subst (Alike (now (c .before .before .before .before .before .before .before .before .before .args .s)) (c .before .before .before .before .before .before .before .before .before .args .at) (now (c .before .before .before .before .before .before .before .before .before .args .x)) 0) (omega arith) (alike-more (now (c .before .before .before .before .before .before .before .before .before .args .s)) (now (c .before .before .before .before .before .before .before .before .before .args .x)) (c .before .before .before .before .before .before .before .before .before .args .at) (c .before .before .before .loop .inv .1) (subst (Eight (now (c .before .before .before .before .before .before .before .before .before .args .s)) _) (eqb-true _ _ e) (c .before .eight3 .ensures)) (c .eight4 .ensures) (omega arith)) }
+returns-5 c = λ e.
+    let a = c .before .before .before .before .before .before .before .before .before .args in
+    let h = subst (Eight (now (a .s)) _) (eqb-true _ _ e) (c .before .eight3 .ensures) in
+    let z = alike-more (now (a .s)) (now (a .x)) (a .at) (c .before .before .before .loop .inv .1) h (c .eight4 .ensures) (omega arith) in
+    record { inside = omega arith; alike = subst (Alike (now (a .s)) (a .at) (now (a .x)) 0) (omega arith) z }
 
 pub stands-spec : {M : Type 1} → statement M
 stands-spec =
