@@ -7,3 +7,4 @@ pub mod Letters
 pub mod Tags
 pub mod Scans
 pub mod Classes
+pub mod Parts

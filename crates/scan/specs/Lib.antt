@@ -1,3 +1,4 @@
 pub mod Follow
+pub mod Parts
 pub mod Reads
 pub mod Texts
