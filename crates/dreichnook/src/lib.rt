@@ -32,7 +32,7 @@ pub extern "C" fn dreichnook_check(
             unjudged: u,
         } => {
             *place = 0;
-            *total = s;
+            *total = t;
             *skipped = s;
             *features = f;
             *judged = j;
