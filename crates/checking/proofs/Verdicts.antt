@@ -16,10 +16,10 @@ use Rattle.paper.specs.declared.Fault.the-variants.{Clean, At}
 use Rattle.paper.specs.declared.Verdict.the-variants.{Accepted}
 use Rattle.paper.specs.declared.Verdict.the-variants as verdict
 use Rattle.paper.proofs.Firsts.{_or_}
+use Rattle.scan.specs.Parts.{Shows}
 use Rattle.value.specs.Reading.{OfRead}
 use Rattle.layout.specs.Says.{Lays, Refuses, too-long, strays}
 use Rattle.judging.specs.Sets.{Firsts, Some, InSequence, InHeader, unlessOf}
-use Rattle.judging.specs.Known.{Shows}
 use Rattle.judging.proofs.Faults.{firsts-or, firsts-as}
 use Rattle.judging.proofs.Values.{text-fault}
 use Rattle.judging.proofs.Whole.{InTotal, InListing, listing-to, listing-of}

@@ -28,7 +28,7 @@ fn judge(listing: &[u8]) -> Total
         judged,
         unjudged,
     } = sequences::judge_sequences(listing, first, &symbols, &sets, &turns, &letters);
-    let ok = value::is_number(judging::bytes_of(listing, part.from, part.to), total);
+    let ok = value::is_number(scan::bytes_of(listing, part.from, part.to), total);
     let c = judging::unless(ok, 14, part.from);
     let d = judging::earlier(c, b);
     Total {

@@ -20,6 +20,7 @@ use Rattle.paper.specs.declared.Fault.the-variants.{Clean, At}
 use Rattle.paper.proofs.Locate.{locates-once}
 use Rattle.paper.proofs.Once.{translates-once}
 use Rattle.scan.specs.Follow.{closing}
+use Rattle.scan.specs.Parts.{Shows}
 use Rattle.value.proofs.Tests.{tells-true, tells-false}
 use Rattle.value.proofs.Residues.{raw-symbols}
 use Rattle.walk.specs.Stands.{There, FindsQualifier}
@@ -32,7 +33,7 @@ use Rattle.location.specs.declared.judging.Verdict.the-variants.{Bad, Is}
 use Rattle.translation.specs.Reading.{Codes}
 use Rattle.translation.specs.Translating.{lettersOf}
 use Rattle.judging.specs.Sets.{Firsts, Some, InCoding, rule-27, rule-28}
-use Rattle.judging.specs.Known.{Shows, Knows}
+use Rattle.judging.specs.Known.{Knows}
 use Rattle.judging.specs.declared.Known.{Known}
 use Rattle.judging.proofs.Bytes.{part-shows}
 use Rattle.judging.proofs.Faults.{firsts-none, firsts-as}

@@ -17,6 +17,7 @@ use Rattle.paper.specs.declared.Fault.{Fault}
 use Rattle.paper.specs.declared.Fault.the-variants.{Clean, At}
 use Rattle.paper.proofs.Texts.{raw-once}
 use Rattle.scan.specs.Follow.{closing}
+use Rattle.scan.specs.Parts.{Shows}
 use Rattle.value.specs.Reading.{Tells}
 use Rattle.value.proofs.Tests.{tells-true, tells-false}
 use Rattle.value.proofs.Read.{tells-word}
@@ -28,7 +29,6 @@ use Rattle.walk.specs.declared.FoundQualifier.{FoundQualifier}
 use Rattle.translation.specs.Reading.{Codes}
 use Rattle.translation.specs.Translating.{lettersOf, RightValue, RightIf, Compares}
 use Rattle.judging.specs.Sets.{Firsts, Some}
-use Rattle.judging.specs.Known.{Shows}
 use Rattle.judging.proofs.Bytes.{part-shows}
 use Rattle.judging.proofs.Faults.{firsts-none, some-none, some-more, some-later}
 use Rattle.judging.proofs.Seen.{seen-none}

@@ -8,6 +8,7 @@ use mathlib.Core.Option.{Option, none, some, Option·none-ne-some, Option·some-
 use Rattle.paper.specs.Bytes.{bytes, raw}
 use Rattle.paper.specs.Tree.{Text, opt}
 use Rattle.paper.specs.Values.{Number}
+use Rattle.scan.specs.Parts.{Shows}
 use Rattle.value.specs.Reading.{Tells}
 use Rattle.value.proofs.Tests.{tells-true, tells-false}
 use Rattle.value.proofs.Read.{tells-word}
@@ -15,7 +16,6 @@ use Rattle.walk.specs.Stands.{MaybeIs}
 use Rattle.walk.specs.declared.Part.{Part}
 use Rattle.walk.specs.declared.Maybe.{Maybe}
 use Rattle.walk.specs.declared.Maybe.the-variants.{Absent, Present}
-use Rattle.judging.specs.Known.{Shows}
 use Rattle.judging.proofs.Bytes.{part-shows}
 use Rattle.coding.specs.Qualifiers.{ValueIs, Small, States}
 use Rattle.coding.specs.declared.Frame.the-variants.{Stated, Wrong}

@@ -13,17 +13,18 @@ use Rattle.paper.specs.Rules.{L, Kind, IsKind, Keyed, sourceName, Coding, Unjud
 use Rattle.paper.specs.declared.Fault.{Fault}
 use Rattle.paper.specs.declared.Fault.the-variants.{Clean, At}
 use Rattle.scan.specs.Follow.{Not, Starts, closing}
+use Rattle.scan.specs.Parts.{Shows}
 use Rattle.walk.specs.Stands.{Stands, Ends, Over, FindsFeature, IsFeature, featureTail}
 use Rattle.walk.specs.declared.FoundFeature.{FoundFeature}
 use Rattle.walk.proofs.Places.{from}
 use Rattle.value.specs.Reading.{Tells}
 use Rattle.value.proofs.Tests.{told}
-use Rattle.location.specs.Judging.{Judged, Judges}
+use Rattle.location.specs.Judging.{Judged, JudgesPart}
 use Rattle.location.specs.declared.judging.Verdict.{Verdict}
 use Rattle.judging.specs.Sets.{Faults, Firsts, InLocation, InCoding, rule-27, rule-28, InFeature}
-use Rattle.judging.specs.Known.{Shows, Knows}
+use Rattle.judging.specs.Known.{Knows}
 use Rattle.judging.specs.declared.Known.{Known}
-use Rattle.judging.proofs.Bytes.{part-shows}
+use Rattle.judging.proofs.Bytes.{part-shows, text-shown}
 use Rattle.judging.proofs.Faults.{firsts-or, firsts-as}
 use Rattle.source.specs.Sources.{JudgesSource, IsSource as IsSourced}
 use Rattle.source.specs.declared.Sourced.{Sourced}
@@ -43,18 +44,18 @@ no-coding {q} {f} n h = firsts-as (InLocation q (f .location)) (InFeature q f) (
     only m p (inr (rule-27 c g)) = absurd (n c)
     only m p (inr (rule-28 x j y i t g)) = absurd (n (j .coding))
 
-module _ (v : Verdict) {s wl : List ℕ} {known : Known} {x : FoundFeature} {q : Sequence ℕ} {f : Feature ℕ} {e : ℕ} (y : IsFeature s f e x) (k : Knows s q known)
-    (sl : Shows s (x .location .from) (x .location .to) wl) (jl : Judges wl (known .top) v) where
+module _ (v : Verdict) {s : List ℕ} {known : Known} {x : FoundFeature} {q : Sequence ℕ} {f : Feature ℕ} {e : ℕ} (y : IsFeature s f e x) (k : Knows s q known)
+    (jl : JudgesPart s (x .location .from) (x .location .to) (known .top) v) where
   judged : Judged (L q) (f .location .read) v
-  judged = subst (λ (n : ℕ). Judged n (f .location .read) v) (k .size) (jl (f .location .read) (part-shows (y .location) sl))
+  judged = subst (λ (n : ℕ). Judged n (f .location .read) v) (k .size) (jl .is (raw (f .location .read)) (text-shown (y .location)) (f .location .read) refl)
 
   place-is : {place : Fault} → place ≡ placeFault v (known .kind) (x .location .from) → Firsts (InLocation q (f .location)) place
   place-is pl =
       subst (Firsts (InLocation q (f .location))) (sym (pl ∙ ap (placeFault v (known .kind)) (y .location .first)))
       (placed q (f .location) v (known .kind) judged (k .kind))
 
-module _ (v : Verdict) {s wl wk : List ℕ} {at n : ℕ} {known : Known} {x : FoundFeature} {place : Fault} {is-source : Bool} (finds : FindsFeature s at x)
-    (sl : Shows s (x .location .from) (x .location .to) wl) (jl : Judges wl (known .top) v) (pl : place ≡ placeFault v (known .kind) (x .location .from))
+module _ (v : Verdict) {s wk : List ℕ} {at n : ℕ} {known : Known} {x : FoundFeature} {place : Fault} {is-source : Bool} (finds : FindsFeature s at x)
+    (jl : JudgesPart s (x .location .from) (x .location .to) (known .top) v) (pl : place ≡ placeFault v (known .kind) (x .location .from))
     (sk : Shows s (x .key .from) (x .key .to) wk) (ns : NamesSource wk (known .kind) is-source) where
   pub as-source : {y : Sourced} → is-source ≡ true → JudgesSource s (x .key .from) (x .location) (x .quals) known y
       → Ends (featureTail (x .long)) (Not isBlank) s (y .next) n
@@ -68,7 +69,7 @@ module _ (v : Verdict) {s wl wk : List ℕ} {at n : ℕ} {known : Known} {x : Fo
             let asked : (j : Kind) → IsKind j q → IsSourced j q f (z .stop) y =
             λ j i. js .says j q f (z .stop) (record { knows = k; kind = i; at = z .key .first; located = z .location; quals = z .quals; closes = z .closes }) in
             record {
-              fault = no-coding (not-both is) (place-is v z k sl jl pl);
+              fault = no-coding (not-both is) (place-is v z k jl pl);
               role = (is, not-both is);
               source = λ j i g. asked j i .fault;
               next = ends .is e (from (asked (is .0) (is .1) .next) (z .ends)) fol;
@@ -87,9 +88,9 @@ module _ (v : Verdict) {s wl wk : List ℕ} {at n : ℕ} {known : Known} {x : Fo
               let key = part-shows (z .key) sk in
               let c = told (Coding q f) g (nc .says q f (k .kind) key) in
               let ns' = told (IsSource q f) h (ns .says q f (k .kind) key) in
-              let w = jc .says q f (z .stop) (record { knows = k; coding = c; at = z .key .first; located = z .location; judged = judged v z k sl jl; quals = z .quals; closes = z .closes }) in
+              let w = jc .says q f (z .stop) (record { knows = k; coding = c; at = z .key .first; located = z .location; judged = judged v z k jl; quals = z .quals; closes = z .closes }) in
               record {
-                fault = firsts-or (InLocation q (f .location)) (InCoding q f) (place-is v z k sl jl pl) (w .fault) el;
+                fault = firsts-or (InLocation q (f .location)) (InCoding q f) (place-is v z k jl pl) (w .fault) el;
                 role = subst (RoleIs q f) (sym er) (by q f ns' c (y .unjudged) (w .unjudged));
                 source = λ j i t. absurd (ns' (j, i, t));
                 next = ends .is e (from (w .next) (z .ends)) fol;
@@ -111,7 +112,7 @@ module _ (v : Verdict) {s wl wk : List ℕ} {at n : ℕ} {known : Known} {x : Fo
               let c = told (Coding q f) g (nc .says q f (k .kind) key) in
               let ns' = told (IsSource q f) h (ns .says q f (k .kind) key) in
               record {
-                fault = no-coding c (place-is v z k sl jl pl);
+                fault = no-coding c (place-is v z k jl pl);
                 role = (ns', c);
                 source = λ j i t. absurd (ns' (j, i, t));
                 next = ends .is e (from (over .is (qualifiersOf f) (z .stop) (z .quals) (z .closes)) (z .ends)) fol;

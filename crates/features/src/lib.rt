@@ -233,10 +233,9 @@ fn judge_feature(
         long,
     } = walk::feature(s, at);
     let kind = known.kind;
-    let part = judging::bytes_of(s, location.from, location.to);
-    let verdict = location::judging::judge_location(part, known.top);
+    let verdict = location::judging::judge_location(s, location.from, location.to, known.top);
     let place = judge_place(verdict, kind, location.from);
-    let name = judging::bytes_of(s, key.from, key.to);
+    let name = scan::bytes_of(s, key.from, key.to);
     if is_source(name, kind) {
         let Sourced { fault, next } = source::judge_source(s, key.from, location, quals, known);
         return Featured {

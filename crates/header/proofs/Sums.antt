@@ -19,6 +19,7 @@ use Rattle.value.specs.Reading.{Tells, OfRead}
 use Rattle.value.proofs.Read.{tells-word}
 use Rattle.scan.specs.Follow.{Not, closing}
 use Rattle.scan.proofs.Fronts.{leads-by, whole, each-starts, starts-sharp}
+use Rattle.scan.specs.Parts.{Shows}
 use Rattle.walk.specs.Stands.{IsPart, MaybeIs, Finds, Over}
 use Rattle.walk.specs.Header.{officeIn, filedIn, languageIn, identifiedBy, FindsSpoken, Behind, FindsHeader}
 use Rattle.walk.specs.declared.Part.{Part}
@@ -31,7 +32,6 @@ use Rattle.walk.proofs.Sequences.{sequence-leads}
 use Rattle.walk.proofs.Leaves.{starts-at}
 use Rattle.walk.proofs.Items.{leaf-leads}
 use Rattle.judging.specs.Sets.{Firsts, Bad, InHeader, rule-10, rule-11, rule-12, rule-13, unlessOf}
-use Rattle.judging.specs.Known.{Shows}
 use Rattle.judging.proofs.Faults.{firsts-or, firsts-as, firsts-none}
 use Rattle.judging.proofs.Values.{text-fault}
 use Rattle.header.specs.Headers.{Wrong, JudgesMaybe, JudgesVersion, JudgesDates, JudgesOffices, codes, JudgesTitles, JudgesLanguages, JudgesHeader}

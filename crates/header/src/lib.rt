@@ -14,7 +14,7 @@ fn judge_date(s: &[u8], m: Maybe) -> Fault
     match m {
         Maybe::Absent => Fault::Clean,
         Maybe::Present(p) => {
-            let ok = value::is_date(judging::bytes_of(s, p.from, p.to));
+            let ok = value::is_date(scan::bytes_of(s, p.from, p.to));
             judging::unless(ok, 11, p.from)
         }
     }
@@ -27,7 +27,7 @@ fn judge_office(s: &[u8], m: Maybe) -> Fault
     match m {
         Maybe::Absent => Fault::Clean,
         Maybe::Present(p) => {
-            let ok = value::is_office(judging::bytes_of(s, p.from, p.to));
+            let ok = value::is_office(scan::bytes_of(s, p.from, p.to));
             judging::unless(ok, 12, p.from)
         }
     }
@@ -40,7 +40,7 @@ fn judge_language(s: &[u8], m: Maybe) -> Fault
     match m {
         Maybe::Absent => Fault::Clean,
         Maybe::Present(p) => {
-            let ok = value::is_language(judging::bytes_of(s, p.from, p.to));
+            let ok = value::is_language(scan::bytes_of(s, p.from, p.to));
             judging::unless(ok, 13, p.from)
         }
     }
@@ -50,7 +50,7 @@ fn judge_language(s: &[u8], m: Maybe) -> Fault
 fn judge_version(s: &[u8], version: Part) -> Fault
     ensures { λ r. ⌜ JudgesVersion (now (s .entry)) version r ⌝ }
 {
-    let ok = value::same(judging::bytes_of(s, version.from, version.to), b"1_2");
+    let ok = value::same(scan::bytes_of(s, version.from, version.to), b"1_2");
     judging::unless(ok, 10, version.from)
 }
 

@@ -5,11 +5,11 @@ use mathlib.Core.Bool.{Bool}
 use mathlib.Core.List.{List}
 use Rattle.paper.specs.Tree.{Text}
 use Rattle.paper.specs.declared.Fault.{Fault}
+use Rattle.scan.specs.Parts.{Shows}
 use Rattle.value.specs.Reading.{OfRead}
 use Rattle.walk.specs.Stands.{IsPart}
 use Rattle.walk.specs.declared.Part.{Part}
 use Rattle.judging.specs.Sets.{Firsts, Bad, unlessOf}
-use Rattle.judging.specs.Known.{Shows}
 use Rattle.judging.proofs.Bytes.{part-shows}
 use Rattle.judging.proofs.Faults.{firsts-unless}
 

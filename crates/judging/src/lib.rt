@@ -1,13 +1,11 @@
-// What the parts of the judge share: the earlier of two faults, the fault of a test, the bytes of a part, and what is known of a sequence
-// while its features are judged. Relies on the paper, the walk and the values. The sets of broken rules that each part answers for stand in
-// specs/.
+// What the parts of the judge share: the earlier of two faults, the fault of a test, and what is known of a sequence while its features
+// are judged. Relies on the paper, the walk and the values. The sets of broken rules that each part answers for stand in specs/.
 use paper::Fault;
 use value::Kind;
 use walk::Part;
 ghost use mathlib.Core.Path.{_≡_};
 ghost use Rattle.paper.specs.Rules.{Earlier};
 ghost use Rattle.judging.specs.Sets.{unlessOf};
-ghost use Rattle.judging.specs.Known.{Shows};
 
 // What is known of a sequence while its features are judged: the kind that its moltype names, L, whether every residue is a symbol of the
 // kind, and where its residues stand.
@@ -48,17 +46,4 @@ pub fn unless(ok: bool, rule: usize, place: usize) -> Fault
         return Fault::Clean;
     }
     Fault::At { rule, place }
-}
-
-// The bytes of a part.
-pub fn bytes_of<'s>(s: &'s [u8], from: usize, to: usize) -> &'s [u8]
-    ensures { λ r. ⌜ Shows (now (s .entry)) from to (now r) ⌝ }
-{
-    if s.len() < to {
-        return &s[0..0];
-    }
-    if to < from {
-        return &s[0..0];
-    }
-    &s[from..to]
 }

@@ -12,3 +12,4 @@ pub mod Commas
 pub mod Walks
 pub mod Starting
 pub mod Laying
+pub mod Listed

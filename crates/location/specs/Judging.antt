@@ -5,6 +5,7 @@ use mathlib.Core.List.{List}
 use lib.ListN.{length}
 use Rattle.paper.specs.Bytes.{raw}
 use Rattle.paper.specs.Locations.{Location, Locates, spans, operatorNumber, breaks25, hasComplement, leavesUnjudged}
+use Rattle.scan.specs.Parts.{Shows}
 use Rattle.location.specs.declared.judging.Facts.{Facts}
 use Rattle.location.specs.declared.judging.Verdict.{Verdict}
 use Rattle.location.specs.declared.judging.Verdict.the-variants.{Bad, Is}
@@ -25,3 +26,7 @@ Judged L w (Is f) = (t : Location) × Locates t w × AreFacts L t f
 -- the verdict on whichever text as read the bytes are written from
 abbrev pub Judges : List ℕ → ℕ → Verdict → Type 0
 Judges s L r = (w : List ℕ) → s ≡ raw w → Judged L w r
+
+-- the verdict on the part that stands from here to there
+pub record JudgesPart (s : List ℕ) (from to L : ℕ) (r : Verdict) : Type 0 where
+  pub is : (w : List ℕ) → Shows s from to w → Judges w L r

@@ -7,6 +7,7 @@ use lib.ListN.{length}
 use Rattle.paper.specs.Bytes.{raw}
 use Rattle.paper.specs.Locations.{Location, Locates, Span, spans, operatorNumber, breaks25}
 use Rattle.paper.specs.Answers.{triples, front}
+use Rattle.scan.specs.Parts.{Shows}
 use Rattle.location.specs.Walking.{Left}
 use Rattle.location.specs.declared.walking.Walk.{Walk}
 use Rattle.location.specs.declared.room.Answer.{Answer}
@@ -31,3 +32,7 @@ Answers s L out (answer.Are operator count) after =
     (w : List ℕ) → s ≡ raw w
     → (t : Location) × Asked L w t × (operator ≡ operatorNumber t) × (count ≡ length (spans t)) × (length (triples (spans t)) ≤ length out)
     × (after ≡ front (triples (spans t)) out)
+
+-- the answer on the part that stands from here to there
+pub record AnswersPart (s : List ℕ) (from to L : ℕ) (out : List ℕ) (r : Answer) (after : List ℕ) : Type 0 where
+  pub is : (w : List ℕ) → Shows s from to w → Answers w L out r after

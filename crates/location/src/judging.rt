@@ -11,7 +11,7 @@ ghost use mathlib.Core.Bool.{_||_};
 ghost use Prim.Native.Nat.{_<_};
 ghost use Rattle.paper.proofs.Locate.Model;
 ghost use Rattle.location.specs.Readings.{Outs, withMember};
-ghost use Rattle.location.specs.Judging.{Judges};
+ghost use Rattle.location.specs.Judging.{Judges, JudgesPart};
 
 // What is asked of a location, for a sequence of L residues.
 pub struct Facts {
@@ -165,8 +165,8 @@ fn read(s: &[u8], at: usize, top: u32, depth: usize, turn: bool, far: bool) -> O
     }
 }
 
-// The location that the part s is written from, for a sequence of `top` residues.
-pub fn judge_location(s: &[u8], top: u32) -> Verdict
+// The location that the bytes s of a part are written from, for a sequence of `top` residues.
+pub(crate) fn judge(s: &[u8], top: u32) -> Verdict
     ensures { λ r. ⌜ Judges (now (s .entry)) top r ⌝ }
 {
     match read(s, 0, top, 2, true, true) {
@@ -180,4 +180,11 @@ pub fn judge_location(s: &[u8], top: u32) -> Verdict
             return Verdict::Is(f);
         }
     }
+}
+
+// The location that stands in the listing s from `from` to before `to`, for a sequence of `top` residues.
+pub fn judge_location(s: &[u8], from: usize, to: usize, top: u32) -> Verdict
+    ensures { λ r. ⌜ JudgesPart (now (s .entry)) from to top r ⌝ }
+{
+    judge(scan::bytes_of(s, from, to), top)
 }

@@ -1,13 +1,13 @@
 // The spans of a location into lent room: all of them at its front, or nothing.
 use crate::judging::Verdict;
-use crate::judging::judge_location;
+use crate::judging::judge;
 use crate::walking::Next;
 use crate::walking::Walk;
 use crate::walking::start;
 use crate::walking::step;
 ghost use Prim.Native.Nat.{_*_, _≤_};
 ghost use lib.ListN.{length};
-ghost use Rattle.location.specs.Room.{Puts, Answers};
+ghost use Rattle.location.specs.Room.{Puts, Answers, AnswersPart};
 
 pub enum Answer {
     // It is no location (rule 24).
@@ -44,11 +44,11 @@ fn put_spans(s: &[u8], from: Walk, top: u32, count: usize, out: &mut [u32])
     }
 }
 
-// The spans of the location that the part s is written from, for a sequence of `top` residues.
-pub fn spans(s: &[u8], top: u32, out: &mut [u32]) -> Answer
+// The spans of the location that the bytes s of a part are written from, for a sequence of `top` residues.
+fn fill(s: &[u8], top: u32, out: &mut [u32]) -> Answer
     ensures { λ r. ⌜ Answers (now (s .entry)) top (now (out .entry)) r (now (out .exit)) ⌝ }
 {
-    match judge_location(s, top) {
+    match judge(s, top) {
         Verdict::Bad => {
             return Answer::Bad;
         }
@@ -64,4 +64,11 @@ pub fn spans(s: &[u8], top: u32, out: &mut [u32]) -> Answer
             return Answer::Are(f.operator, count);
         }
     }
+}
+
+// The spans of the location that stands in the listing s from `from` to before `to`, for a sequence of `top` residues.
+pub fn spans(s: &[u8], from: usize, to: usize, top: u32, out: &mut [u32]) -> Answer
+    ensures { λ r. ⌜ AnswersPart (now (s .entry)) from to top (now (out .entry)) r (now (out .exit)) ⌝ }
+{
+    fill(scan::bytes_of(s, from, to), top, out)
 }

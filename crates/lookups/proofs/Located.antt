@@ -5,9 +5,9 @@ use mathlib.Core.Bool.{Bool, false}
 use mathlib.Core.List.{List}
 use Rattle.paper.specs.Answers.{refuse, isPresent, FindsSequence, FindsFeature, FindsQualifier, SequenceSays, FeatureSays, QualifierSays}
 use Rattle.paper.specs.Answers as paper
+use Rattle.scan.specs.Parts.{Shows}
 use Rattle.value.specs.Reading.{Moltypes}
 use Rattle.value.specs.declared.Kind.{Kind}
-use Rattle.judging.specs.Known.{Shows}
 use Rattle.judging.proofs.Bytes.{part-shows}
 use Rattle.walk.specs.declared.FoundSequence.{FoundSequence}
 use Rattle.walk.specs.declared.FoundFeature.{FoundFeature}

@@ -1,20 +1,21 @@
 -- The spans of a feature that was found: its location is one, and keeps rule 25.
 use Prim.Native.Nat.{ℕ, _≤_}
-use mathlib.Core.Path.{_≡_, sym, subst}
+use mathlib.Core.Path.{_≡_, refl, sym, subst}
 use mathlib.Core.Bool.{true}
 use mathlib.Core.Logic.{inl}
 use mathlib.Core.List.{List}
 use lib.ListN.{length}
+use Rattle.paper.specs.Bytes.{raw}
 use Rattle.paper.specs.Locations.{Location, spans, operatorNumber, breaks25}
 use Rattle.paper.specs.Answers.{refuse, give, triples, front, FindsFeature, FindsLocation, SpansSays}
 use Rattle.paper.specs.Answers as paper
 use Rattle.walk.specs.declared.FoundSequence.{FoundSequence}
 use Rattle.walk.specs.declared.FoundFeature.{FoundFeature}
 use Rattle.judging.specs.Sets.{rule-24, rule-25}
-use Rattle.judging.specs.Known.{Shows, Knows}
+use Rattle.judging.specs.Known.{Knows}
 use Rattle.judging.specs.declared.Known.{Known}
-use Rattle.judging.proofs.Bytes.{part-shows}
-use Rattle.location.specs.Room.{Answers}
+use Rattle.judging.proofs.Bytes.{text-shown}
+use Rattle.location.specs.Room.{Answers, AnswersPart}
 use Rattle.location.specs.declared.room.Answer.{Answer}
 use Rattle.location.specs.declared.room.Answer.the-variants as answer
 use Rattle.translating.specs.Plans.{Keeps}
@@ -45,31 +46,36 @@ module _ {w : List ℕ} {k j : ℕ} {s : FoundSequence} {f : FoundFeature} (i : 
   pub feature-keeps : Keeps (i .sequence .asked) (i .feature .asked)
   feature-keeps = keeps-feature (accepts (i .sequence .finds)) (i .feature .asked) (i .feature .numbered .0, i .feature .numbered .2)
 
-  module _ {known : Known} {x : List ℕ} (h : KnowsSequence w s known) (y : Shows w (f .location .from) (f .location .to) x) {r : Answer} {out after : List ℕ}
-      (a : Answers x (known .top) out r after) where
+  module _ {known : Known} (h : KnowsSequence w s known) {r : Answer} {out after : List ℕ}
+      (a : AnswersPart w (f .location .from) (f .location .to) (known .top) out r after) where
+    answered : {q : Answer} → r ≡ q → Answers (raw (i .feature .asked .location .read)) (known .top) out q after
+    answered e =
+        let x = raw (i .feature .asked .location .read) in
+        subst (λ (r : Answer). Answers x (known .top) out r after) e (a .is x (text-shown (i .feature .is .location)))
+
     pub spans-found : {o c : ℕ} → r ≡ answer.Are o c → SpansSays w k j out 0 0 o c after
     spans-found e =
-        let z = subst (λ (r : Answer). Answers x (known .top) out r after) e a (i .feature .asked .location .read) (part-shows (i .feature .is .location) y) in
+        let z = answered e (i .feature .asked .location .read) refl in
         spans-are (paper.location feature-found (z .1 .located)) (z .2) (z .3) (z .4) (z .5)
 
     pub spans-short : {v : SpansAnswer} → r ≡ answer.Short → v ≡ noSpans 34 0 → SpansSays w k j out (v .number) (v .place) (v .operator) (v .count) after
     spans-short e n =
-        let b = subst (λ (r : Answer). Answers x (known .top) out r after) e a in
-        let z = b .1 (i .feature .asked .location .read) (part-shows (i .feature .is .location) y) in
+        let b = answered e in
+        let z = b .1 (i .feature .asked .location .read) refl in
         subst (SaysSpans w k j out after) (sym n) (rw (b .0) (paper.short (paper.location feature-found (z .1 .located)) (z .2)))
 
     -- rule 24 isn't broken, nor is rule 25
     pub spans-none : {n p o c : ℕ} → r ≡ answer.Bad → SpansSays w k j out n p o c after
     spans-none e =
-        let b = subst (λ (r : Answer). Answers x (known .top) out r after) e a in
+        let b = answered e in
         absurd
         (feature-keeps .feature 24 (i .feature .asked .location .place)
-        (inl (rule-24 (λ t l. b .1 (i .feature .asked .location .read) (part-shows (i .feature .is .location) y) t l))))
+        (inl (rule-24 (λ t l. b .1 (i .feature .asked .location .read) refl t l))))
 
     pub spans-wrong : {n p o c : ℕ} → r ≡ answer.Wrong → SpansSays w k j out n p o c after
     spans-wrong e =
-        let b = subst (λ (r : Answer). Answers x (known .top) out r after) e a in
-        let z = b .1 (i .feature .asked .location .read) (part-shows (i .feature .is .location) y) in
+        let b = answered e in
+        let z = b .1 (i .feature .asked .location .read) refl in
         absurd
         (feature-keeps .feature 25 (i .feature .asked .location .place)
         (inl (rule-25 (z .0) (z .1) (subst (λ (n : ℕ). breaks25 n (z .0) ≡ true) (found-knows h .size) (z .2)))))

@@ -8,8 +8,8 @@ use finding::find_feature;
 use finding::find_qualifier;
 use finding::find_sequence;
 use judging::Known;
-use judging::bytes_of;
 use location::room::Answer;
+use scan::bytes_of;
 use translating::Written;
 use value::Kind;
 use walk::FoundSequence;
@@ -302,8 +302,7 @@ pub fn spans(listing: &[u8], k: usize, j: usize, out: &mut [u32]) -> SpansAnswer
         FeatureAt::Found { sequence, feature } => {
             let known = known_of(listing, sequence);
             let location = feature.location;
-            let loc = bytes_of(listing, location.from, location.to);
-            match location::room::spans(loc, known.top, out) {
+            match location::room::spans(listing, location.from, location.to, known.top, out) {
                 Answer::Are(operator, count) => SpansAnswer {
                     number: 0,
                     place: 0,

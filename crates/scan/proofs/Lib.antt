@@ -8,3 +8,4 @@ pub mod Tags
 pub mod Words
 pub mod Scans
 pub mod Classes
+pub mod Parts

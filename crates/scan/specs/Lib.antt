@@ -1,4 +1,5 @@
 pub mod Follow
+pub mod Parts
 pub mod Reads
 pub mod Texts
 pub mod Words

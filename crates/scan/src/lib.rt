@@ -8,6 +8,7 @@ ghost use lib.ListN.{length};
 ghost use Rattle.paper.specs.Bytes.{isBlank};
 ghost use Rattle.paper.specs.Form.{these, one};
 ghost use Rattle.paper.specs.Layout;
+ghost use Rattle.scan.specs.Parts.{Shows};
 ghost use Rattle.scan.specs.Reads.{Reads, Passes, Tried, AtEnd, Followed, raised, chosen, stayed};
 ghost use Rattle.scan.specs.Follow.{Not, Named, anything, nothing};
 ghost use Rattle.scan.specs.Words.{Two, Eight, StandsAt};
@@ -552,4 +553,17 @@ pub fn class_table() -> [u8; 256]
     ensures { λ r. ⌜ ClassTable r ⌝ }
 {
     CLASSES
+}
+
+// The bytes of a part.
+pub fn bytes_of<'s>(s: &'s [u8], from: usize, to: usize) -> &'s [u8]
+    ensures { λ r. ⌜ Shows (now (s .entry)) from to (now r) ⌝ }
+{
+    if s.len() < to {
+        return &s[0..0];
+    }
+    if to < from {
+        return &s[0..0];
+    }
+    &s[from..to]
 }

@@ -15,6 +15,7 @@ use Rattle.paper.specs.Rules.{L, Kind, dna, rna, aa, IsKind, Named, organismNam
 use Rattle.paper.specs.declared.Fault.{Fault}
 use Rattle.paper.proofs.Lists.{count-once}
 use Rattle.paper.proofs.Firsts.{_or_}
+use Rattle.scan.specs.Parts.{Shows}
 use Rattle.value.specs.Reading.{Tells, OfRead, KindIs}
 use Rattle.value.specs.declared.Kind as code
 use Rattle.value.specs.declared.Kind.the-variants as kind
@@ -22,7 +23,7 @@ use Rattle.value.proofs.Read.{tells-word}
 use Rattle.walk.specs.Stands.{IsPart}
 use Rattle.walk.specs.declared.Part.{Part}
 use Rattle.judging.specs.Sets.{Firsts, Bad, InSource, rule-22, rule-23, unlessOf}
-use Rattle.judging.specs.Known.{Shows, Knows, CodeOf}
+use Rattle.judging.specs.Known.{Knows, CodeOf}
 use Rattle.judging.specs.declared.Known.{Known}
 use Rattle.judging.proofs.Bytes.{part-shows}
 use Rattle.judging.proofs.Faults.{firsts-or, firsts-as, firsts-unless}

@@ -83,7 +83,7 @@ fn count_names(s: &[u8], first: usize, aa: bool) -> Names
                     next: at,
                 };
             }
-            let w = judging::bytes_of(s, name.from, name.to);
+            let w = scan::bytes_of(s, name.from, name.to);
             organisms = bump(organisms, is_organism(w, aa));
             moltypes = bump(moltypes, is_moltype(w, aa));
             at = next;
@@ -120,7 +120,7 @@ pub fn judge_source(s: &[u8], key: usize, location: Part, first: usize, known: K
     } = count_names(s, first, is_aa(kind));
     let a = judging::unless(is_once(organisms, moltypes), 22, key);
     let whole = value::is_whole(
-        judging::bytes_of(s, location.from, location.to),
+        scan::bytes_of(s, location.from, location.to),
         known.top as usize,
     );
     let b = judging::unless(whole, 23, location.from);

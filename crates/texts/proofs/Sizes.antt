@@ -10,13 +10,14 @@ use Rattle.paper.specs.Tree.{Text, Sequence}
 use Rattle.paper.specs.Rules.{Kind, dna, rna, aa, IsKind, isSymbol}
 use Rattle.paper.specs.Answers.{limit}
 use Rattle.paper.proofs.Texts.{spell-some}
+use Rattle.scan.specs.Parts.{Shows}
 use Rattle.value.specs.Reading.{Tells, KindIs, Moltypes, Symbols, symbolClass}
 use Rattle.value.specs.declared.Kind as code
 use Rattle.value.specs.declared.Kind.the-variants as kind
 use Rattle.value.proofs.Residues.{all-symbols, not-all-symbols}
 use Rattle.walk.specs.Stands.{IsPart}
 use Rattle.walk.specs.declared.Part.{Part}
-use Rattle.judging.specs.Known.{Shows, CodeOf, Knows}
+use Rattle.judging.specs.Known.{CodeOf, Knows}
 use Rattle.judging.specs.declared.Known.{Known}
 use Rattle.judging.proofs.Bytes.{part-shows}
 use Rattle.judging.proofs.Moltypes.{code-is}

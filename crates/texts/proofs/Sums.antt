@@ -15,6 +15,7 @@ use Rattle.paper.specs.declared.Fault.{Fault}
 use Rattle.paper.specs.declared.Fault.the-variants.{Clean, At}
 use Rattle.paper.proofs.Lists.{count-once}
 use Rattle.paper.proofs.Firsts.{_or_}
+use Rattle.scan.specs.Parts.{Shows}
 use Rattle.value.specs.Reading.{Tells, OfRead, KindIs, Names, HasDefined}
 use Rattle.value.specs.declared.Kind as code
 use Rattle.value.specs.declared.Kind.the-variants as kind
@@ -24,7 +25,7 @@ use Rattle.value.proofs.Residues.{raw-symbols}
 use Rattle.walk.specs.Stands.{IsPart}
 use Rattle.walk.specs.declared.Part.{Part}
 use Rattle.judging.specs.Sets.{Faults, Firsts, Bad, InTexts, rule-16, rule-17, rule-18, rule-19, rule-20, unlessOf}
-use Rattle.judging.specs.Known.{Shows, Knows, CodeOf}
+use Rattle.judging.specs.Known.{Knows, CodeOf}
 use Rattle.judging.specs.declared.Known.{Known}
 use Rattle.judging.proofs.Bytes.{part-shows}
 use Rattle.judging.proofs.Faults.{firsts-or, firsts-as, firsts-none, firsts-unless}

@@ -57,8 +57,8 @@ pub fn known_of(s: &[u8], moltype: Part, residues: Part, t: &[u8; 256]) -> Known
     requires { ⌜ SymbolTable (now t) ⌝ }
     ensures { λ r. ⌜ KnowsOf (now (s .entry)) moltype residues r ⌝ }
 {
-    let kind = value::kind_of(judging::bytes_of(s, moltype.from, moltype.to));
-    let w = judging::bytes_of(s, residues.from, residues.to);
+    let kind = value::kind_of(scan::bytes_of(s, moltype.from, moltype.to));
+    let w = scan::bytes_of(s, residues.from, residues.to);
     let clean = is_clean(w, kind, t);
     let top = size_of(length_of(w, clean));
     Known {
@@ -73,7 +73,7 @@ pub fn known_of(s: &[u8], moltype: Part, residues: Part, t: &[u8; 256]) -> Known
 pub fn judge_number(s: &[u8], number: Part, k: usize) -> Fault
     ensures { λ r. ⌜ JudgesNumber (now (s .entry)) number k r ⌝ }
 {
-    let ok = value::is_number(judging::bytes_of(s, number.from, number.to), k);
+    let ok = value::is_number(scan::bytes_of(s, number.from, number.to), k);
     judging::unless(ok, 15, number.from)
 }
 
@@ -81,7 +81,7 @@ pub fn judge_number(s: &[u8], number: Part, k: usize) -> Fault
 pub fn is_skipped(s: &[u8], residues: Part) -> bool
     ensures { λ r. ⌜ TellsSkipped (now (s .entry)) residues r ⌝ }
 {
-    value::same(judging::bytes_of(s, residues.from, residues.to), b"000")
+    value::same(scan::bytes_of(s, residues.from, residues.to), b"000")
 }
 
 fn is_blank(p: Part) -> bool
@@ -154,16 +154,16 @@ pub fn judge_texts(s: &[u8], declared: Part, moltype: Part, division: Part, know
     let kind = known.kind;
     let residues = known.residues;
     let place = residues.from;
-    let pat = value::same(judging::bytes_of(s, division.from, division.to), b"PAT");
+    let pat = value::same(scan::bytes_of(s, division.from, division.to), b"PAT");
     let right = value::is_number(
-        judging::bytes_of(s, declared.from, declared.to),
+        scan::bytes_of(s, declared.from, declared.to),
         known.top as usize,
     );
     let named = is_known(kind);
     let a = judging::unless(named, 16, moltype.from);
     let b = judging::unless(pat, 17, division.from);
     let c = judge_residues(
-        judging::bytes_of(s, place, residues.to),
+        scan::bytes_of(s, place, residues.to),
         kind,
         known.clean,
         place,

@@ -7,11 +7,11 @@ use native.Mathlib.Omega.{arith}
 use Rattle.paper.specs.Tree.{Sequence, Feature}
 use Rattle.paper.specs.Translation.{dropStop}
 use Rattle.paper.specs.Answers.{refuse, give, Translates, Lent}
+use Rattle.scan.specs.Parts.{Shows}
 use Rattle.walk.specs.declared.FoundFeature.{FoundFeature}
 use Rattle.translation.specs.Translating.{lettersOf, Measured, afterOf, Writes}
 use Rattle.translation.specs.declared.writing.Size.{Size}
 use Rattle.translation.specs.declared.writing.Size.the-variants as size
-use Rattle.judging.specs.Known.{Shows}
 use Rattle.judging.specs.declared.Known.{Known}
 use Rattle.translating.specs.Plans.{PlanIs, Plans}
 use Rattle.translating.specs.Lines.{refusal, TranslatesOne}

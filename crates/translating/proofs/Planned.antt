@@ -4,23 +4,24 @@ use mathlib.Core.Path.{_≡_, refl, sym, subst}
 use mathlib.Core.Bool.{Bool, true, false}
 use mathlib.Core.Logic.{inl, inr}
 use mathlib.Core.List.{List}
-use Rattle.paper.specs.Bytes.{all}
+use Rattle.paper.specs.Bytes.{raw, all}
 use Rattle.paper.specs.Tree.{Sequence, Feature}
 use Rattle.paper.specs.Locations.{Location, Locates, breaks25}
 use Rattle.paper.specs.Rules.{L, isSymbol, Coding, Judged}
+use Rattle.scan.specs.Parts.{Shows}
 use Rattle.value.specs.Reading.{Tells}
 use Rattle.value.proofs.Tests.{tells-true, tells-false}
 use Rattle.walk.specs.Stands.{IsFeature}
 use Rattle.walk.specs.declared.FoundFeature.{FoundFeature}
-use Rattle.location.specs.Judging.{Judges, Judged as Placed}
+use Rattle.location.specs.Judging.{JudgesPart, Judged as Placed}
 use Rattle.location.specs.declared.judging.Verdict.{Verdict}
 use Rattle.location.specs.declared.judging.Verdict.the-variants.{Bad, Is}
 use Rattle.translation.specs.Reading.{Codes}
 use Rattle.translation.specs.Translating.{lettersOf}
 use Rattle.judging.specs.Sets.{rule-18, rule-24, rule-25, rule-27}
-use Rattle.judging.specs.Known.{Shows, Knows}
+use Rattle.judging.specs.Known.{Knows}
 use Rattle.judging.specs.declared.Known.{Known}
-use Rattle.judging.proofs.Bytes.{part-shows}
+use Rattle.judging.proofs.Bytes.{part-shows, text-shown}
 use Rattle.coding.specs.Coding.{NamesCoding, StartIs, StartsAt}
 use Rattle.coding.specs.declared.Start.{Start}
 use Rattle.coding.specs.declared.Start.the-variants as start
@@ -54,11 +55,11 @@ module _ {s wk : List ℕ} {known : Known} {g : FoundFeature} {named : Bool} (sk
   pub plan-none : named ≡ false → Plans s known g NoCds
   plan-none h = record { says = λ q f e k i keeps. tells-false named h (nc .says q f (k .kind) (part-shows (i .key) sk)) }
 
-  module _ {wl : List ℕ} (v : Verdict) {r : Start} (h : named ≡ true) (sl : Shows s (g .location .from) (g .location .to) wl) (jl : Judges wl (known .top) v) (st : StartsAt s (g .quals) v r) where
+  module _ (v : Verdict) {r : Start} (h : named ≡ true) (jl : JudgesPart s (g .location .from) (g .location .to) (known .top) v) (st : StartsAt s (g .quals) v r) where
     planned : (q : Sequence ℕ) (f : Feature ℕ) (e : ℕ) → Knows s q known → IsFeature s f e g → Keeps q f → Coding q f × Placed (L q) (f .location .read) v × StartIs f r
     planned q f e k i keeps =
         let c = tells-true named h (nc .says q f (k .kind) (part-shows (i .key) sk)) in
-        let j = subst (λ (n : ℕ). Placed n (f .location .read) v) (k .size) (jl (f .location .read) (part-shows (i .location) sl)) in
+        let j = subst (λ (n : ℕ). Placed n (f .location .read) v) (k .size) (jl .is (raw (f .location .read)) (text-shown (i .location)) (f .location .read) refl) in
         (c, j, st .says (L q) f (i .stop) (i .quals) (i .closes) j (λ n. keeps .feature 27 (f .key .place) (inr (rule-27 c n))))
 
     pub plan-unjudged : r ≡ start.Unjudged → Plans s known g plan.Unjudged

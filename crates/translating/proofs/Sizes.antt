@@ -10,13 +10,14 @@ use Rattle.paper.specs.Tree.{Sequence, Feature}
 use Rattle.paper.specs.Translation.{dropStop, hasStopInside}
 use Rattle.paper.specs.Answers.{Translates}
 use Rattle.paper.specs.Answers as paper
+use Rattle.scan.specs.Parts.{Shows}
 use Rattle.walk.specs.Stands.{There, FindsFeature}
 use Rattle.walk.specs.declared.FoundFeature.{FoundFeature}
 use Rattle.translation.specs.Translating.{lettersOf, Measured, Measures}
 use Rattle.translation.specs.declared.writing.Size.{Size}
 use Rattle.translation.specs.declared.writing.Size.the-variants as size
 use Rattle.translation.proofs.Measuring.{measures-are}
-use Rattle.judging.specs.Known.{Shows, Knows}
+use Rattle.judging.specs.Known.{Knows}
 use Rattle.judging.specs.declared.Known.{Known}
 use Rattle.coding.proofs.Lists.{in-last}
 use Rattle.translating.specs.Plans.{PlanIs, Plans}

@@ -4,8 +4,8 @@ use coding::Start;
 use coding::is_coding;
 use coding::start_of;
 use judging::Known;
-use judging::bytes_of;
 use location::judging::judge_location;
+use scan::bytes_of;
 use translation::writing::Size;
 use translation::writing::measure;
 use translation::writing::pour;
@@ -35,8 +35,7 @@ fn plan_of(s: &[u8], known: Known, feature: FoundFeature) -> Plan
     if !is_coding(name, kind) {
         return Plan::NoCds;
     }
-    let loc = bytes_of(s, feature.location.from, feature.location.to);
-    let verdict = judge_location(loc, known.top);
+    let verdict = judge_location(s, feature.location.from, feature.location.to, known.top);
     match start_of(s, feature.quals, verdict) {
         Start::Unjudged => Plan::Unjudged,
         Start::At(n) => Plan::From(n),

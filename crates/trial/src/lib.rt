@@ -47,7 +47,7 @@ pub extern "C" fn trial_location(
 ) -> u32
     ensures { λ r. ⌜ LocationNumbers (now (part .entry)) top r (now (operator .exit)) (now (count .exit)) (now (wrong .exit)) (now (complemented .exit)) (now (unjudged .exit)) ⌝ }
 {
-    match location::judging::judge_location(part, top) {
+    match location::judging::judge_location(part, 0, part.len(), top) {
         Verdict::Bad => {
             *operator = 0;
             *count = 0;
@@ -78,7 +78,7 @@ pub extern "C" fn trial_spans(
 ) -> u32
     ensures { λ r. ⌜ SpansNumbers (now (part .entry)) top (now (out .entry)) r (now (operator .exit)) (now (count .exit)) (now (out .exit)) ⌝ }
 {
-    match location::room::spans(part, top, out) {
+    match location::room::spans(part, 0, part.len(), top, out) {
         Answer::Bad => {
             *operator = 0;
             *count = 0;

@@ -7,17 +7,14 @@ use Rattle.features.proofs.judge_feature.Tie as tie
 feature-requires : tie.Need-feature-requires
 feature-requires c κs = search needs
 
-bytes-of-requires : tie.Need-bytes-of-requires
-bytes-of-requires c κs = search needs
-
 judge-location-requires : tie.Need-judge-location-requires
 judge-location-requires c κs = search needs
 
 judge-place-requires : tie.Need-judge-place-requires
 judge-place-requires c κs = search needs
 
-bytes-of-requires-2 : tie.Need-bytes-of-requires-2
-bytes-of-requires-2 c κs = search needs
+bytes-of-requires : tie.Need-bytes-of-requires
+bytes-of-requires c κs = search needs
 
 is-source-requires : tie.Need-is-source-requires
 is-source-requires c κs = search needs
@@ -30,7 +27,7 @@ feature-end-requires c κs = search needs
 
 returns : tie.Need-returns
 returns c =
-    as-source (c .before .before .before .before .before .before .judge-location .result) (c .before .before .before .before .before .before .before .before .before .before .feature .ensures) (c .before .before .before .before .before .before .before .bytes-of .ensures) (c .before .before .before .before .before .before .judge-location .ensures) (c .before .before .before .before .before .judge-place .ensures) (c .before .before .before .before .bytes-of2 .ensures) (c .before .before .before .is-source .ensures) (c .before .before .if1 .taken) (c .before .judge-source .ensures) (c .feature-end .ensures)
+    as-source (c .before .before .before .before .before .before .judge-location .result) (c .before .before .before .before .before .before .before .before .before .feature .ensures) (c .before .before .before .before .before .before .judge-location .ensures) (c .before .before .before .before .before .judge-place .ensures) (c .before .before .before .before .bytes-of .ensures) (c .before .before .before .is-source .ensures) (c .before .before .if1 .taken) (c .before .judge-source .ensures) (c .feature-end .ensures)
 
 is-coding-requires : tie.Need-is-coding-requires
 is-coding-requires c κs = search needs
@@ -49,7 +46,7 @@ feature-end-requires-2 c κs = search needs
 
 returns-2 : tie.Need-returns-2
 returns-2 c =
-    as-coding (c .before .before .before .before .before .before .before .before .before .before .judge-location .result) (c .before .before .before .before .before .before .before .before .before .before .before .before .before .before .feature .ensures) (c .before .before .before .before .before .before .before .before .before .before .before .bytes-of .ensures) (c .before .before .before .before .before .before .before .before .before .before .judge-location .ensures) (c .before .before .before .before .before .before .before .before .before .judge-place .ensures) (c .before .before .before .before .before .before .before .before .bytes-of2 .ensures) (c .before .before .before .before .before .before .before .is-source .ensures) (c .before .before .before .before .before .before .if1 .left) (c .before .before .before .before .before .is-coding .ensures) (c .before .before .earlier .result) (c .before .before .before .before .if2 .taken) (c .before .before .before .judge-coding .ensures) (c .before .before .earlier .ensures) (c .before .role-of .ensures) (c .feature-end2 .ensures)
+    as-coding (c .before .before .before .before .before .before .before .before .before .before .judge-location .result) (c .before .before .before .before .before .before .before .before .before .before .before .before .before .feature .ensures) (c .before .before .before .before .before .before .before .before .before .before .judge-location .ensures) (c .before .before .before .before .before .before .before .before .before .judge-place .ensures) (c .before .before .before .before .before .before .before .before .bytes-of .ensures) (c .before .before .before .before .before .before .before .is-source .ensures) (c .before .before .before .before .before .before .if1 .left) (c .before .before .before .before .before .is-coding .ensures) (c .before .before .earlier .result) (c .before .before .before .before .if2 .taken) (c .before .before .before .judge-coding .ensures) (c .before .before .earlier .ensures) (c .before .role-of .ensures) (c .feature-end2 .ensures)
 
 qualifiers-over-requires : tie.Need-qualifiers-over-requires
 qualifiers-over-requires c κs = search needs
@@ -59,17 +56,16 @@ feature-end-requires-3 c κs = search needs
 
 returns-3 : tie.Need-returns-3
 returns-3 c =
-    as-plain (c .before .before .before .before .before .before .before .before .judge-location .result) (c .before .before .before .before .before .before .before .before .before .before .before .before .feature .ensures) (c .before .before .before .before .before .before .before .before .before .bytes-of .ensures) (c .before .before .before .before .before .before .before .before .judge-location .ensures) (c .before .before .before .before .before .before .before .judge-place .ensures) (c .before .before .before .before .before .before .bytes-of2 .ensures) (c .before .before .before .before .before .is-source .ensures) (c .before .before .before .before .if1 .left) (c .before .before .before .is-coding .ensures) (c .before .before .if2 .left) (c .before .qualifiers-over .ensures) (c .feature-end3 .ensures)
+    as-plain (c .before .before .before .before .before .before .before .before .judge-location .result) (c .before .before .before .before .before .before .before .before .before .before .before .feature .ensures) (c .before .before .before .before .before .before .before .before .judge-location .ensures) (c .before .before .before .before .before .before .before .judge-place .ensures) (c .before .before .before .before .before .before .bytes-of .ensures) (c .before .before .before .before .before .is-source .ensures) (c .before .before .before .before .if1 .left) (c .before .before .before .is-coding .ensures) (c .before .before .if2 .left) (c .before .qualifiers-over .ensures) (c .feature-end3 .ensures)
 
 pub judge-feature-spec : {M : Type 1} → statement M
 judge-feature-spec =
     tie.close
     (tie.spec
     feature-requires
-    bytes-of-requires
     judge-location-requires
     judge-place-requires
-    bytes-of-requires-2
+    bytes-of-requires
     is-source-requires
     judge-source-requires
     feature-end-requires

@@ -22,9 +22,6 @@ enum-known-sequence c = search needs
 known-of-requires : tie.Need-known-of-requires
 known-of-requires c κs = search needs
 
-bytes-of-requires : tie.Need-bytes-of-requires
-bytes-of-requires c κs = search needs
-
 spans-requires : tie.Need-spans-requires
 spans-requires c κs = search needs
 
@@ -56,25 +53,25 @@ same-length : tie.Need-same-length
 same-length c = search needs
 
 returns-2 : tie.Need-returns-2
-returns-2 c = spans-found (subst (FeatureAsked (now (c .before .before .before .before .before .before .before .before .before .before .before .before .before .before .before .before .args .listing)) (c .before .before .before .before .before .before .before .before .before .before .before .before .before .before .before .before .args .k) (c .before .before .before .before .before .before .before .before .before .before .before .before .before .before .before .before .args .j)) (c .before .before .before .before .before .before .before .before .before .before .before .sequence .given .1) (c .before .before .before .before .before .before .before .before .before .before .before .before .before .find-feature .ensures)) (c .before .before .before .before .before .before .before .before .before .known-of .ensures) (c .before .before .before .before .before .before .before .bytes-of .ensures) (c .before .before .before .before .before .spans .ensures) (c .before .operator .given .1)
+returns-2 c = spans-found (subst (FeatureAsked (now (c .before .before .before .before .before .before .before .before .before .before .before .before .before .before .before .args .listing)) (c .before .before .before .before .before .before .before .before .before .before .before .before .before .before .before .args .k) (c .before .before .before .before .before .before .before .before .before .before .before .before .before .before .before .args .j)) (c .before .before .before .before .before .before .before .before .before .before .sequence .given .1) (c .before .before .before .before .before .before .before .before .before .before .before .before .find-feature .ensures)) (c .before .before .before .before .before .before .before .before .known-of .ensures) (c .before .before .before .before .before .spans .ensures) (c .before .operator .given .1)
 
 same-length-2 : tie.Need-same-length-2
 same-length-2 c = search needs
 
 returns-3 : tie.Need-returns-3
-returns-3 c = spans-short (subst (FeatureAsked (now (c .before .before .before .before .before .before .before .before .before .before .before .before .before .before .before .before .args .listing)) (c .before .before .before .before .before .before .before .before .before .before .before .before .before .before .before .before .args .k) (c .before .before .before .before .before .before .before .before .before .before .before .before .before .before .before .before .args .j)) (c .before .before .before .before .before .before .before .before .before .before .before .sequence .given .1) (c .before .before .before .before .before .before .before .before .before .before .before .before .before .find-feature .ensures)) (c .before .before .before .before .before .before .before .before .before .known-of .ensures) (c .before .before .before .before .before .before .before .bytes-of .ensures) (c .before .before .before .before .before .spans .ensures) (c .before .enum-told .given .1) (c .no-spans2 .ensures)
+returns-3 c = spans-short (subst (FeatureAsked (now (c .before .before .before .before .before .before .before .before .before .before .before .before .before .before .before .args .listing)) (c .before .before .before .before .before .before .before .before .before .before .before .before .before .before .before .args .k) (c .before .before .before .before .before .before .before .before .before .before .before .before .before .before .before .args .j)) (c .before .before .before .before .before .before .before .before .before .before .sequence .given .1) (c .before .before .before .before .before .before .before .before .before .before .before .before .find-feature .ensures)) (c .before .before .before .before .before .before .before .before .known-of .ensures) (c .before .before .before .before .before .spans .ensures) (c .before .enum-told .given .1) (c .no-spans2 .ensures)
 
 same-length-3 : tie.Need-same-length-3
 same-length-3 c = search needs
 
 returns-4 : tie.Need-returns-4
-returns-4 c = spans-none (subst (FeatureAsked (now (c .before .before .before .before .before .before .before .before .before .before .before .before .before .before .before .before .args .listing)) (c .before .before .before .before .before .before .before .before .before .before .before .before .before .before .before .before .args .k) (c .before .before .before .before .before .before .before .before .before .before .before .before .before .before .before .before .args .j)) (c .before .before .before .before .before .before .before .before .before .before .before .sequence .given .1) (c .before .before .before .before .before .before .before .before .before .before .before .before .before .find-feature .ensures)) (c .before .before .before .before .before .before .before .before .before .known-of .ensures) (c .before .before .before .before .before .before .before .bytes-of .ensures) (c .before .before .before .before .before .spans .ensures) (c .before .enum-told2 .given .1)
+returns-4 c = spans-none (subst (FeatureAsked (now (c .before .before .before .before .before .before .before .before .before .before .before .before .before .before .before .args .listing)) (c .before .before .before .before .before .before .before .before .before .before .before .before .before .before .before .args .k) (c .before .before .before .before .before .before .before .before .before .before .before .before .before .before .before .args .j)) (c .before .before .before .before .before .before .before .before .before .before .sequence .given .1) (c .before .before .before .before .before .before .before .before .before .before .before .before .find-feature .ensures)) (c .before .before .before .before .before .before .before .before .known-of .ensures) (c .before .before .before .before .before .spans .ensures) (c .before .enum-told2 .given .1)
 
 same-length-4 : tie.Need-same-length-4
 same-length-4 c = search needs
 
 returns-5 : tie.Need-returns-5
-returns-5 c = spans-wrong (subst (FeatureAsked (now (c .before .before .before .before .before .before .before .before .before .before .before .before .before .before .before .before .args .listing)) (c .before .before .before .before .before .before .before .before .before .before .before .before .before .before .before .before .args .k) (c .before .before .before .before .before .before .before .before .before .before .before .before .before .before .before .before .args .j)) (c .before .before .before .before .before .before .before .before .before .before .before .sequence .given .1) (c .before .before .before .before .before .before .before .before .before .before .before .before .before .find-feature .ensures)) (c .before .before .before .before .before .before .before .before .before .known-of .ensures) (c .before .before .before .before .before .before .before .bytes-of .ensures) (c .before .before .before .before .before .spans .ensures) (c .before .enum-told3 .given .1)
+returns-5 c = spans-wrong (subst (FeatureAsked (now (c .before .before .before .before .before .before .before .before .before .before .before .before .before .before .before .args .listing)) (c .before .before .before .before .before .before .before .before .before .before .before .before .before .before .before .args .k) (c .before .before .before .before .before .before .before .before .before .before .before .before .before .before .before .args .j)) (c .before .before .before .before .before .before .before .before .before .before .sequence .given .1) (c .before .before .before .before .before .before .before .before .before .before .before .before .find-feature .ensures)) (c .before .before .before .before .before .before .before .before .known-of .ensures) (c .before .before .before .before .before .spans .ensures) (c .before .enum-told3 .given .1)
 
 pub spans-spec : {M : Type 1} → statement M
 spans-spec =
@@ -85,7 +82,6 @@ spans-spec =
     no-spans-requires
     enum-known-sequence
     known-of-requires
-    bytes-of-requires
     spans-requires
     enum-known-operator
     enum-told

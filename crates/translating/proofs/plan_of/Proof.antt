@@ -14,9 +14,6 @@ is-coding-requires c κs = search needs
 returns : tie.Need-returns
 returns c = plan-none (c .before .before .bytes-of .ensures) (c .before .is-coding .ensures) (not-true (c .before .is-coding .result) (c .if1 .taken))
 
-bytes-of-requires-2 : tie.Need-bytes-of-requires-2
-bytes-of-requires-2 c κs = search needs
-
 judge-location-requires : tie.Need-judge-location-requires
 judge-location-requires c κs = search needs
 
@@ -30,10 +27,10 @@ enum-known-n : tie.Need-enum-known-n
 enum-known-n c = search needs
 
 returns-2 : tie.Need-returns-2
-returns-2 c = plan-unjudged (c .before .before .before .before .before .before .before .bytes-of .ensures) (c .before .before .before .before .before .before .is-coding .ensures) (c .before .before .before .judge-location .result) (not-false (c .before .before .before .before .before .before .is-coding .result) (c .before .before .before .before .before .if1 .left)) (c .before .before .before .before .bytes-of2 .ensures) (c .before .before .before .judge-location .ensures) (c .before .before .start-of .ensures) (c .enum-told .given .1)
+returns-2 c = plan-unjudged (c .before .before .before .before .before .before .bytes-of .ensures) (c .before .before .before .before .before .is-coding .ensures) (c .before .before .before .judge-location .result) (not-false (c .before .before .before .before .before .is-coding .result) (c .before .before .before .before .if1 .left)) (c .before .before .before .judge-location .ensures) (c .before .before .start-of .ensures) (c .enum-told .given .1)
 
 returns-3 : tie.Need-returns-3
-returns-3 c = plan-from (c .before .before .before .before .before .before .before .before .bytes-of .ensures) (c .before .before .before .before .before .before .before .is-coding .ensures) (c .before .before .before .before .judge-location .result) (not-false (c .before .before .before .before .before .before .before .is-coding .result) (c .before .before .before .before .before .before .if1 .left)) (c .before .before .before .before .before .bytes-of2 .ensures) (c .before .before .before .before .judge-location .ensures) (c .before .before .before .start-of .ensures) (c .before .n .given .1)
+returns-3 c = plan-from (c .before .before .before .before .before .before .before .bytes-of .ensures) (c .before .before .before .before .before .before .is-coding .ensures) (c .before .before .before .before .judge-location .result) (not-false (c .before .before .before .before .before .before .is-coding .result) (c .before .before .before .before .before .if1 .left)) (c .before .before .before .before .judge-location .ensures) (c .before .before .before .start-of .ensures) (c .before .n .given .1)
 
 pub plan-of-spec : {M : Type 1} → statement M
 plan-of-spec =
@@ -42,7 +39,6 @@ plan-of-spec =
     bytes-of-requires
     is-coding-requires
     returns
-    bytes-of-requires-2
     judge-location-requires
     start-of-requires
     enum-told

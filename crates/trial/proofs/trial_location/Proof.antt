@@ -1,5 +1,6 @@
 -- `trial::trial_location` meets its contract: the answer of `judge_location`, in numbers.
 use mathlib.Core.Path.{subst}
+use Rattle.scan.proofs.Parts.{shows-whole}
 use Rattle.location.specs.Judging.{Judges}
 use Rattle.trial.specs.Numbers.{LocationNumbers}
 use borrow.Author.Needs.{needs}
@@ -25,11 +26,11 @@ flag-requires-3 : tie.Need-flag-requires-3
 flag-requires-3 c κs = search needs
 
 returns : tie.Need-returns
-returns c = LocationNumbers.bad (subst (Judges _ _) (c .enum-told .given .1) (c .before .before .judge-location .ensures))
+returns c = LocationNumbers.bad (subst (Judges _ _) (c .enum-told .given .1) (c .before .before .judge-location .ensures .is _ (shows-whole _)))
 
 returns-2 : tie.Need-returns-2
 returns-2 c =
-    LocationNumbers.is _ (subst (Judges _ _) (c .before .before .before .before .f .given .1) (c .before .before .before .before .before .before .judge-location .ensures)) (c .before .before .flag .ensures) (c .before .flag2 .ensures) (c .flag3 .ensures)
+    LocationNumbers.is _ (subst (Judges _ _) (c .before .before .before .before .f .given .1) (c .before .before .before .before .before .before .judge-location .ensures .is _ (shows-whole _))) (c .before .before .flag .ensures) (c .before .flag2 .ensures) (c .flag3 .ensures)
 
 pub trial-location-spec : {M : Type 1} → statement M
 trial-location-spec =

@@ -1,5 +1,6 @@
 -- `trial::trial_spans` meets its contract: the answer of `spans`, in numbers.
 use mathlib.Core.Path.{sym, ap}
+use Rattle.scan.proofs.Parts.{shows-whole}
 use Rattle.trial.specs.Numbers.{numberOf, operatorOf, countOf}
 use borrow.Author.Needs.{needs}
 use Rattle.trial.proofs.trial_spans.Statement.{statement}
@@ -28,7 +29,7 @@ returns c =
     let e = c .enum-told .given .1 in
     record {
       says = c .before .before .before .before .spans .result;
-      answers = c .before .before .before .before .spans .ensures;
+      answers = c .before .before .before .before .spans .ensures .is _ (shows-whole _);
       number-is = sym (ap numberOf e);
       operator-is = sym (ap operatorOf e);
       count-is = sym (ap countOf e);
@@ -42,7 +43,7 @@ returns-2 c =
     let e = c .enum-told2 .given .1 in
     record {
       says = c .before .before .before .before .spans .result;
-      answers = c .before .before .before .before .spans .ensures;
+      answers = c .before .before .before .before .spans .ensures .is _ (shows-whole _);
       number-is = sym (ap numberOf e);
       operator-is = sym (ap operatorOf e);
       count-is = sym (ap countOf e);
@@ -56,7 +57,7 @@ returns-3 c =
     let e = c .enum-told3 .given .1 in
     record {
       says = c .before .before .before .before .spans .result;
-      answers = c .before .before .before .before .spans .ensures;
+      answers = c .before .before .before .before .spans .ensures .is _ (shows-whole _);
       number-is = sym (ap numberOf e);
       operator-is = sym (ap operatorOf e);
       count-is = sym (ap countOf e);
@@ -70,7 +71,7 @@ returns-4 c =
     let e = c .before .o .given .1 in
     record {
       says = c .before .before .before .before .before .spans .result;
-      answers = c .before .before .before .before .before .spans .ensures;
+      answers = c .before .before .before .before .before .spans .ensures .is _ (shows-whole _);
       number-is = sym (ap numberOf e);
       operator-is = sym (ap operatorOf e);
       count-is = sym (ap countOf e);

@@ -1,28 +1,17 @@
--- The verdict on a whole text.
-use Rattle.location.proofs.Levels.{outs-are}
-use Rattle.location.proofs.Verdicts.{judge-bad, judge-left, judge-is}
+-- `location::judging::judge_location` meets its contract.
 use borrow.Author.Needs.{needs}
+use Rattle.location.proofs.Listed.{part-judged}
 use Rattle.location.proofs.judging.judge_location.Statement.{statement}
 use Rattle.location.proofs.judging.judge_location.Tie as tie
 
-read-requires : tie.Need-read-requires
-read-requires c κs = search needs
+bytes-of-requires : tie.Need-bytes-of-requires
+bytes-of-requires c κs = search needs
 
-enum-told : tie.Need-enum-told
-enum-told c = search needs
+judge-requires : tie.Need-judge-requires
+judge-requires c κs = search needs
 
 returns : tie.Need-returns
-returns c = judge-bad (outs-are (c .before .before .read .ensures) (c .enum-told .given .1))
-
-enum-known-n : tie.Need-enum-known-n
-enum-known-n c = search needs
-
-returns-2 : tie.Need-returns-2
-returns-2 c = judge-left (outs-are (c .before .before .before .before .read .ensures) (c .before .before .n .given .1)) (c .if1 .taken)
-
-returns-3 : tie.Need-returns-3
-returns-3 c = judge-is (outs-are (c .before .before .before .before .read .ensures) (c .before .before .n .given .1)) (c .if1 .left)
+returns c = part-judged (c .before .bytes-of .ensures) (c .judge .ensures)
 
 pub judge-location-spec : {M : Type 1} → statement M
-judge-location-spec =
-    tie.close (tie.spec read-requires enum-told returns enum-known-n returns-2 returns-3)
+judge-location-spec = tie.close (tie.spec bytes-of-requires judge-requires returns)

@@ -1,68 +1,20 @@
--- The spans of a location, or why not.
-use mathlib.Core.Path.{refl, subst}
-use Rattle.location.specs.Judging.{Judges}
-use Rattle.location.proofs.Laying.{spans-wrong, spans-short, spans-are}
+-- `location::room::spans` meets its contract.
 use borrow.Author.Needs.{needs}
+use Rattle.location.proofs.Listed.{part-answered}
 use Rattle.location.proofs.room.spans.Statement.{statement}
 use Rattle.location.proofs.room.spans.Tie as tie
 
-judge-location-requires : tie.Need-judge-location-requires
-judge-location-requires c κs = search needs
+bytes-of-requires : tie.Need-bytes-of-requires
+bytes-of-requires c κs = search needs
 
-enum-told : tie.Need-enum-told
-enum-told c = search needs
-
-returns : tie.Need-returns
-returns c =
-    let a = c .before .before .before .before .before .args in
-    (refl, subst (Judges (a .s .now) (a .top)) (c .enum-told .given .1) (c .before .before .judge-location .ensures))
-
-enum-known-f : tie.Need-enum-known-f
-enum-known-f c = search needs
-
-returns-2 : tie.Need-returns-2
-returns-2 c =
-    let a = c .before .before .before .before .before .before .before .args in
-    spans-wrong (subst (Judges (a .s .now) (a .top)) (c .before .before .f .given .1) (c .before .before .before .before .judge-location .ensures))
-    (a .out .now) (c .if1 .taken)
-
-returns-3 : tie.Need-returns-3
-returns-3 c =
-    let a = c .before .before .before .before .before .before .before .before .args in
-    spans-short
-    (subst (Judges (a .s .now) (a .top)) (c .before .before .before .f .given .1) (c .before .before .before .before .before .judge-location .ensures))
-    (c .before .if1 .left) (a .out .now) (c .if2 .taken)
-
-start-requires : tie.Need-start-requires
-start-requires c κs = search needs
-
-put-spans-requires : tie.Need-put-spans-requires
-put-spans-requires c κs = search needs
+fill-requires : tie.Need-fill-requires
+fill-requires c κs = search needs
 
 same-length : tie.Need-same-length
 same-length c = search needs
 
-returns-4 : tie.Need-returns-4
-returns-4 c =
-    let a = c .before .before .before .before .before .before .before .before .before .before .before .before .before .args in
-    spans-are
-    (subst (Judges (a .s .now) (a .top)) (c .before .before .before .before .before .before .before .before .f .given .1)
-    (c .before .before .before .before .before .before .before .before .before .before .judge-location .ensures))
-    (c .before .before .before .before .before .before .if1 .left) (a .out .now) (c .before .before .before .before .start .result)
-    (c .before .before .before .before .before .if2 .left) (c .before .before .before .before .start .ensures)
-    (c .before .before .put-spans .ensures)
+returns : tie.Need-returns
+returns c = part-answered (c .before .before .before .before .bytes-of .ensures) (c .before .before .fill .ensures)
 
 pub spans-spec : {M : Type 1} → statement M
-spans-spec =
-    tie.close
-    (tie.spec
-    judge-location-requires
-    enum-told
-    returns
-    enum-known-f
-    returns-2
-    returns-3
-    start-requires
-    put-spans-requires
-    same-length
-    returns-4)
+spans-spec = tie.close (tie.spec bytes-of-requires fill-requires same-length returns)

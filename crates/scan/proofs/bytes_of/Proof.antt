@@ -1,10 +1,10 @@
--- `judging::bytes_of` meets its contract.
+-- `scan::bytes_of` meets its contract.
 use mathlib.Core.Logic.{inl, inr}
 use native.Mathlib.Omega.{arith}
-use Rattle.judging.proofs.Bytes.{shows-none, shows-part}
+use Rattle.scan.proofs.Parts.{shows-none, shows-part}
 use borrow.Author.Needs.{needs}
-use Rattle.judging.proofs.bytes_of.Statement.{statement}
-use Rattle.judging.proofs.bytes_of.Tie as tie
+use Rattle.scan.proofs.bytes_of.Statement.{statement}
+use Rattle.scan.proofs.bytes_of.Tie as tie
 
 sub-result : tie.Need-sub-result
 sub-result c = search needs
