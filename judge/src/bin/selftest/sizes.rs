@@ -8,8 +8,9 @@ use judge::layout::LONGEST;
 use judge::{layout, Listing, Refusal};
 use std::time::Instant;
 
-/// No check may take longer than this many seconds.
-const MOST_SECONDS: f64 = 5.0;
+/// No check may take longer than this many seconds: a slow machine may take its time, work that grows with the square of the
+/// size would take hours.
+const MOST_SECONDS: f64 = 20.0;
 
 /// Exact sizes in each mix, and long inputs that aren't listings.
 pub fn sizes(report: &mut Report) {
