@@ -54,7 +54,7 @@ static const struct mix {
     {"residues", {1.0, 1.5}},
 };
 
-/* The sizes in bytes, as they are in the file names and in words. */
+/* The sizes in bytes, as they are in the file names and in words. At 4 KiB all mixes have one target. */
 static const struct size {
     size_t bytes;
     const char *name;
@@ -65,6 +65,7 @@ static const struct size {
     {1048576, "1048576", "1 MiB"},
     {16777216, "16777216", "16 MiB"},
 };
+static const struct target small = {6.0, 0};
 
 /* A turn reads a listing as often as it takes to read so much: a single short one says little. */
 static const size_t turn_bytes = 1 << 20;
@@ -149,11 +150,12 @@ static bool measure_mix(const struct mix *mix, const struct size *size, const ch
 {
     static const struct target none = {0, 0};
     const bool is_longest = size == &sizes[COUNT(sizes) - 1];
+    const bool is_shortest = size == &sizes[0];
     char name[64];
     char words[64];
     snprintf(name, sizeof name, "%s-%s", mix->name, size->name);
     snprintf(words, sizeof words, "%s, %s", mix->name, size->words);
-    return measure_listing(name, words, is_longest ? mix->at_most : none, folder, rounds);
+    return measure_listing(name, words, is_longest ? mix->at_most : is_shortest ? small : none, folder, rounds);
 }
 
 /* ---- the traps */

@@ -13,7 +13,7 @@
 /* A member of a join has so many residues. */
 enum { MEMBER = 3000 };
 
-/* How fast the proved calls must be at least: beside the loop, and beside transeq as it is run. */
+/* How fast the proved calls must be at least: beside the loop, and beside transeq. */
 static const double loop_target = 0.5;
 static const double transeq_target = 40.0;
 
@@ -195,16 +195,14 @@ struct question {
     struct row row;
 };
 
-static void open_question(struct question *question, const char *what, call *proved, const struct region *region,
-                          const struct size *size)
+static void open_question(struct question *question, const char *what, call *proved, const struct region *region)
 {
     question->proved = proved;
     question->region = region;
     snprintf(question->words, sizeof question->words, "%s, %s", what, region->words);
     question->row = row_of(question->words, region->residues.length);
-    /* The loop reads no location: it is told where each member starts. So the target is that of one span. */
-    question->row.targets[TABLE_LOOP] = region->member == region->residues.length ? loop_target : 0;
-    question->row.targets[TRANSEQ] = size->with_start_up ? transeq_target : 0;
+    question->row.targets[TABLE_LOOP] = loop_target;
+    question->row.targets[TRANSEQ] = transeq_target;
 }
 
 /* The loop and the proved call, one after the other, each with room that has no letters yet. */
@@ -300,8 +298,8 @@ static bool measure(const struct size *size, const char *folder, int rounds)
     };
     struct question questions[2 * COUNT(regions)];
     for (size_t i = 0; i < COUNT(regions); i++) {
-        open_question(&questions[i], "translation", write_proved, &regions[i], size);
-        open_question(&questions[COUNT(regions) + i], "value compared", compare_proved, &regions[i], size);
+        open_question(&questions[i], "translation", write_proved, &regions[i]);
+        open_question(&questions[COUNT(regions) + i], "value compared", compare_proved, &regions[i]);
     }
     run_all(peers);
     compare_codons(codons, transeq_letters(&peers[START_UP]));
