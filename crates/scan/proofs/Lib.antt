@@ -6,6 +6,7 @@ pub mod Soles
 pub mod Letters
 pub mod Tags
 pub mod Words
+pub mod Quick
 pub mod Scans
 pub mod Classes
 pub mod Parts

@@ -63,6 +63,16 @@ module _ (s x : List ℕ) (at : ℕ) where
           ap (λ (n : ℕ). getD s n 0) (sym f) ∙ eight-once p q (k - m) (omega arith) ∙ ap (λ (n : ℕ). getD x n 0) e
       cases (no l) = a k i (omega arith)
 
+  -- one byte more
+  pub alike-next : {i : ℕ} → Alike s at x 0 i → getD s (at + i) 0 ≡ getD x i 0 → Alike s at x 0 (i + 1)
+  alike-next {i} a e k h l = cases (decLe i k)
+    where
+      cases : Dec (i ≤ k) → getD s (at + k) 0 ≡ getD x k 0
+      cases (yes m) =
+          let q : i ≡ k = omega arith in
+          ap (λ (n : ℕ). getD s (at + n) 0) (sym q) ∙ e ∙ ap (λ (n : ℕ). getD x n 0) q
+      cases (no m) = a k h (omega arith)
+
   alike-same : (n : ℕ) → n ≤ length x → at + length x ≤ length s → Alike s at x 0 n → Same (drop at s) x n
   alike-same zero h l a = refl
   alike-same (suc n) h l a =

@@ -64,5 +64,5 @@ pub record Equal (a b r : ℕ) : Type 0 where
 pub record Odd (b r : ℕ) : Type 0 where
   pub none : r ≡ 0 → isPlain false b ≡ true
 
-pub record Block (s : List ℕ) (at r : ℕ) : Type 0 where
-  pub none : r ≡ 0 → Upto (isPlain false) s at (at + 32)
+pub record Block (s : List ℕ) (at n r : ℕ) : Type 0 where
+  pub none : r ≡ 0 → Upto (isPlain false) s at (at + n)

@@ -11,7 +11,7 @@ ghost use Rattle.paper.specs.Layout;
 ghost use Rattle.scan.specs.Parts.{Shows};
 ghost use Rattle.scan.specs.Reads.{Reads, Passes, Tried, AtEnd, Followed, raised, chosen, stayed};
 ghost use Rattle.scan.specs.Follow.{Not, Named, anything, nothing};
-ghost use Rattle.scan.specs.Words.{Two, Eight, StandsAt};
+ghost use Rattle.scan.specs.Words.{Two, Eight, StandsAt, Usual};
 ghost use Rattle.scan.specs.Texts.{allowedIn, isPlain, isText, letter, One, ClassTable, Scanned, Passed, Below, Equal, Odd, Block};
 
 // How far a reading got: `next` is where the next part starts, `far` the furthest place to which some layout goes.
@@ -112,7 +112,27 @@ fn eight(s: &[u8], at: usize) -> u64
         + 281_474_976_710_656 * two(s[at + 6], s[at + 7])
 }
 
-// Whether the word x stands here: no more than a quick yes, for a word of eight bytes or more. The last eight may overlap.
+// Whether the word x stands here, byte by byte.
+fn begins(s: &[u8], at: usize, x: &[u8]) -> bool
+    ensures { λ r. ⌜ (r ≡ true → StandsAt (now (s .entry)) at (now (x .entry))) ⌝ }
+{
+    if s.len() < at {
+        return false;
+    }
+    if s.len() - at < x.len() {
+        return false;
+    }
+    let mut i = 0;
+    while i < x.len() {
+        if s[at + i] != x[i] {
+            return false;
+        }
+        i += 1;
+    }
+    true
+}
+
+// The same eight bytes at a time, for a word of eight bytes or more, and else a quick no. The last eight may overlap.
 fn stands(s: &[u8], at: usize, x: &[u8]) -> bool
     ensures { λ r. ⌜ (r ≡ true → StandsAt (now (s .entry)) at (now (x .entry))) ⌝ }
 {
@@ -156,6 +176,9 @@ pub fn word(s: &[u8], st: Step, x: &[u8]) -> Step
 pub fn is_blank(b: u8) -> bool
     ensures { λ r. ⌜ r ≡ isBlank b ⌝ }
 {
+    if b' ' < b {
+        return false;
+    }
     if b == b' ' {
         return true;
     }
@@ -308,14 +331,14 @@ pub fn odd(b: u8, all: bool) -> u8
     below(b, b'?') | below(b'~', b)
 }
 
-// 0 only where each of the 32 bytes stands for itself. Joined with no branch, and not summed: it is compiled to vector code.
-pub fn block(s: &[u8], at: usize, all: bool) -> u8
-    requires { ⌜ at + 32 ≤ length (now s) ⌝ }
-    ensures { λ r. ⌜ Block (now (s .entry)) at r ⌝ }
+// 0 only where each of n bytes stands for itself. Joined with no branch, and not summed: it is compiled to vector code.
+fn block(s: &[u8], at: usize, n: usize, all: bool) -> u8
+    requires { ⌜ at + n ≤ length (now s) ⌝ }
+    ensures { λ r. ⌜ Block (now (s .entry)) at n r ⌝ }
 {
     let mut bad: u8 = 0;
     let mut j: usize = 0;
-    while j < 32 {
+    while j < n {
         bad = bad | odd(s[at + j], all);
         j += 1;
     }
@@ -328,15 +351,17 @@ pub fn blocks(s: &[u8], start: usize) -> usize
 {
     let mut at = start;
     while at < s.len() {
-        if s.len() - at < 32 {
+        if s.len() - at < 64 {
             return at;
         }
-        if block(s, at, false) != 0 {
-            if block(s, at, true) != 0 {
+        if block(s, at, 64, false) == 0 {
+            at += 64;
+        } else {
+            if block(s, at, 32, true) != 0 {
                 return at;
             }
+            at += 32;
         }
-        at += 32;
     }
     at
 }
@@ -404,11 +429,34 @@ pub fn tag(s: &[u8], st: Step, name: &[u8]) -> Step
     word(s, lit(s, st, b"<"), name)
 }
 
+// Whether this tag stands here with no blank in it, as most tags are written: no more than a quick yes.
+fn usual(s: &[u8], at: usize, mark: &[u8], name: &[u8]) -> bool
+    ensures { λ r. ⌜ (r ≡ true → Usual (now (s .entry)) at (now (mark .entry)) (now (name .entry))) ⌝ }
+{
+    if begins(s, at, mark) {
+        let a = at + mark.len();
+        if stands(s, a, name) {
+            return begins(s, a + name.len(), b">");
+        }
+    }
+    false
+}
+
 // `</name>`
 pub fn close(s: &[u8], st: Step, name: &[u8]) -> Step
     ensures { λ r. ⌜ Passes (Layout.close (now (name .entry))) anything (now (s .entry)) st r ⌝ }
 {
-    let a = word(s, lit(s, st, b"</"), name);
+    let Step::Ok { next, far } = st else {
+        return again(st);
+    };
+    if usual(s, next, b"</", name) {
+        let end = next + name.len() + 3;
+        return Step::Ok {
+            next: end,
+            far: most(far, end),
+        };
+    }
+    let a = word(s, lit(s, Step::Ok { next, far }, b"</"), name);
     lit(s, blanks(s, a), b">")
 }
 
@@ -477,6 +525,11 @@ pub fn leaf(s: &[u8], next: usize, far: usize, name: &[u8], t: &[u8; 256]) -> St
     requires { ⌜ ClassTable (now t) ⌝ }
     ensures { λ r. ⌜ Reads (Layout.child (Layout.leaf (now (name .entry)))) (Not isBlank) (now (s .entry)) (Step.Ok next far) r ⌝ }
 {
+    if usual(s, next, b"<", name) {
+        let first = next + name.len() + 2;
+        let words = text(s, first, most(far, first), false, t);
+        return blanks(s, close(s, words, name));
+    }
     let a = tag(s, Step::Ok { next, far }, name);
     let Step::Ok { next: n, far: f } = a else {
         return again(a);

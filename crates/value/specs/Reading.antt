@@ -73,7 +73,7 @@ abbrev pub Between : List ℕ → ℕ → ℕ → ℕ → Type 0
 Between w class from to = (i : ℕ) → from ≤ i → i < to → OfClass class (getD w i 0)
 
 pub record Block (w : List ℕ) (class at r : ℕ) : Type 0 where
-  pub none : r ≡ 0 → Between w class at (at + 32)
+  pub none : r ≡ 0 → Between w class at (at + 64)
 
 pub record Foreign (w : List ℕ) (class from end r : ℕ) : Type 0 where
   pub onward : from ≤ r

@@ -323,14 +323,14 @@ fn strange(b: u8, class: u8) -> u8
     1
 }
 
-// 0 only where 32 bytes are symbols of the class. Joined with no branch, and not summed: it is compiled to vector code.
+// 0 only where 64 bytes are symbols of the class. Joined with no branch, and not summed: it is compiled to vector code.
 fn block(w: &[u8], at: usize, class: u8) -> u8
-    requires { ⌜ at + 32 ≤ length (now w) ⌝ }
+    requires { ⌜ at + 64 ≤ length (now w) ⌝ }
     ensures { λ r. ⌜ Block (now (w .entry)) class at r ⌝ }
 {
     let mut bad: u8 = 0;
     let mut j: usize = 0;
-    while j < 32 {
+    while j < 64 {
         bad = bad | strange(w[at + j], class);
         j += 1;
     }
@@ -360,14 +360,14 @@ pub fn symbols(w: &[u8], class: u8, t: &[u8; 256]) -> usize
     ensures { λ r. ⌜ Symbols (now (w .entry)) class r ⌝ }
 {
     let mut i: usize = 0;
-    while 32 <= w.len() - i {
+    while 64 <= w.len() - i {
         if block(w, i, class) != 0 {
-            let r = foreign(w, i, i + 32, class, t);
-            if r < i + 32 {
+            let r = foreign(w, i, i + 64, class, t);
+            if r < i + 64 {
                 return r;
             }
         }
-        i += 32;
+        i += 64;
     }
     foreign(w, i, w.len(), class, t)
 }

@@ -162,7 +162,7 @@ abbrev pub NoEnding : List ℕ → ℕ → ℕ → Type 0
 NoEnding s from to = (k : ℕ) → from ≤ k → k < to → EndingAt s k → ⊥
 
 pub record Endings (s : List ℕ) (at r : ℕ) : Type 0 where
-  pub none : r ≡ 0 → NoEnding s at (at + 32)
+  pub none : r ≡ 0 → NoEnding s at (at + 64)
 
 pub record FirstEnding (s : List ℕ) (at r : ℕ) : Type 0 where
   pub onward : at ≤ r

@@ -33,17 +33,11 @@ fn peek(s: &[u8], at: usize) -> u8
     if at < s.len() { s[at] } else { 0 }
 }
 
-// The place n bytes further.
+// The place n bytes further, where s has so many. It isn't compared with the end: whoever reads there does that.
 fn past(s: &[u8], at: usize, n: usize) -> usize
     ensures { λ r. ⌜ Past (now (s .entry)) at n r ⌝ }
 {
-    if s.len() < at {
-        return at;
-    }
-    if s.len() - at < n {
-        return at;
-    }
-    at + n
+    std::num::wrapping_add_usize(at, n)
 }
 
 // Whether the bytes x stand here.
@@ -385,14 +379,14 @@ fn ending(a: u8, b: u8) -> u8
     0
 }
 
-// 0 only where the table ends at none of 32 places. With no branch, and no sum: so it is compiled to plain vector code.
+// 0 only where the table ends at none of 64 places. With no branch, and no sum: so it is compiled to plain vector code.
 fn endings(s: &[u8], at: usize) -> u8
-    requires { ⌜ at + 38 ≤ length (now s) ⌝ }
+    requires { ⌜ at + 70 ≤ length (now s) ⌝ }
     ensures { λ r. ⌜ Endings (now (s .entry)) at r ⌝ }
 {
     let mut any: u8 = 0;
     let mut j: usize = 0;
-    while j < 32 {
+    while j < 64 {
         any = any | ending(s[at + j], s[at + j + 6]);
         j += 1;
     }
@@ -422,11 +416,11 @@ fn table_end(s: &[u8], first: usize) -> usize
         return first;
     }
     let mut at = first;
-    while 38 <= s.len() - at {
+    while 70 <= s.len() - at {
         if endings(s, at) != 0 {
             return ending_from(s, at);
         }
-        at += 32;
+        at += 64;
     }
     ending_from(s, at)
 }

@@ -1,4 +1,4 @@
--- `scan::block` meets its contract. The loop's invariant: where the tests joined are 0 each byte passed stands for itself. The measure is what is left of the 32 bytes.
+-- `scan::block` meets its contract. The loop's invariant: where the tests joined are 0 each byte passed stands for itself. The measure is what is left of the n bytes.
 use Prim.Native.Nat.{ℕ, _+_, _-_, _≤_}
 use native.Mathlib.Omega.{arith}
 use mathlib.Core.Path.{_≡_, subst}
@@ -11,10 +11,10 @@ use Rattle.scan.proofs.block.Statement.{statement}
 use Rattle.scan.proofs.block.Tie as tie
 
 abbrev Inv-loop : tie.InvT-loop
-Inv-loop s at all bad₀ j₀ bad j = (j ≤ 32) × (bad ≡ 0 → Upto (isPlain false) s at (at + j))
+Inv-loop s at n all bad₀ j₀ bad j = (j ≤ n) × (bad ≡ 0 → Upto (isPlain false) s at (at + j))
 
 abbrev μ-loop : tie.MeasureT-loop
-μ-loop s at all bad₀ j₀ bad j = 32 - j
+μ-loop s at n all bad₀ j₀ bad j = n - j
 
 loop-holds : tie.Need-loop-holds Inv-loop μ-loop
 loop-holds c = (omega arith, λ h k i j. absurd (omega arith))
@@ -51,7 +51,7 @@ returns : tie.Need-returns Inv-loop μ-loop
 returns c =
     let l = c .before .loop in
     let a = c .before .before .before .args in
-    let q : l .j ≡ 32 = omega arith in
+    let q : l .j ≡ a .n = omega arith in
     record { none = λ h. subst (λ (k : ℕ). Upto (isPlain false) (a .s .now) (a .at) (a .at + k)) q (l .inv .1 h) }
 
 pub block-spec : {M : Type 1} → statement M

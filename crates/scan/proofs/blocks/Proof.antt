@@ -2,7 +2,6 @@
 use Prim.Native.Nat.{_+_, _-_, _≤_}
 use native.Mathlib.Omega.{arith}
 use mathlib.Core.Bool.{false}
-use mathlib.Core.Logic.{⊎-elim}
 use lib.ListN.{length}
 use Rattle.scan.specs.Texts.{isPlain, Upto}
 use Rattle.scan.proofs.Scans.{upto-none, upto-join}
@@ -28,12 +27,6 @@ returns c = let l = c .before .before .loop in record { onward = l .inv .0; each
 block-requires : tie.Need-block-requires Inv-loop μ-loop
 block-requires c κs = search needs
 
-block-requires-2 : tie.Need-block-requires-2 Inv-loop μ-loop
-block-requires-2 c κs = search needs
-
-returns-2 : tie.Need-returns-2 Inv-loop μ-loop
-returns-2 c = let l = c .before .before .before .before .before .before .loop in record { onward = l .inv .0; each = l .inv .1 }
-
 add-at : tie.Need-add-at Inv-loop μ-loop
 add-at c = search needs
 
@@ -43,11 +36,26 @@ loop-less c = search needs
 loop-again : tie.Need-loop-again Inv-loop μ-loop
 loop-again c =
     let l = c .before .before .before .before .loop in
-    let a = c .before .before .before .before .before .before .args in (
-      omega arith,
-      upto-join (isPlain false) (a .s .now) (a .start) (l .at) (l .at + 32) (l .inv .1)
-          (⊎-elim (λ x. x .1 .ensures .none (x .2 .left)) (λ x. c .before .block .ensures .none (x .left)) (c .if2 .came)),
-    )
+    let a = c .before .before .before .before .before .before .args in
+    (omega arith, upto-join (isPlain false) (a .s .now) (a .start) (l .at) (l .at + 64) (l .inv .1) (c .before .block .ensures .none (c .if2 .taken)))
+
+block-requires-2 : tie.Need-block-requires-2 Inv-loop μ-loop
+block-requires-2 c κs = search needs
+
+returns-2 : tie.Need-returns-2 Inv-loop μ-loop
+returns-2 c = let l = c .before .before .before .before .before .before .loop in record { onward = l .inv .0; each = l .inv .1 }
+
+add-at-2 : tie.Need-add-at-2 Inv-loop μ-loop
+add-at-2 c = search needs
+
+loop-less-2 : tie.Need-loop-less-2 Inv-loop μ-loop
+loop-less-2 c = search needs
+
+loop-again-2 : tie.Need-loop-again-2 Inv-loop μ-loop
+loop-again-2 c =
+    let l = c .before .before .before .before .before .before .loop in
+    let a = c .before .before .before .before .before .before .before .before .args in
+    (omega arith, upto-join (isPlain false) (a .s .now) (a .start) (l .at) (l .at + 32) (l .inv .1) (c .before .block2 .ensures .none (c .if3 .left)))
 
 returns-3 : tie.Need-returns-3 Inv-loop μ-loop
 returns-3 c = let l = c .before .loop in record { onward = l .inv .0; each = l .inv .1 }
@@ -62,9 +70,12 @@ blocks-spec =
     sub-if1
     returns
     block-requires
-    block-requires-2
-    returns-2
     add-at
     loop-less
     loop-again
+    block-requires-2
+    returns-2
+    add-at-2
+    loop-less-2
+    loop-again-2
     returns-3)

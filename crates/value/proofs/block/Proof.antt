@@ -1,4 +1,4 @@
--- `value::block` meets its contract. The loop's invariant: where the tests joined are 0 each byte passed is a symbol. The measure is what is left of the 32 bytes.
+-- `value::block` meets its contract. The loop's invariant: where the tests joined are 0 each byte passed is a symbol. The measure is what is left of the 64 bytes.
 use Rattle.value.proofs.Residues.{between-more}
 use Rattle.paper.proofs.Bits.{or-none}
 use Rattle.value.specs.Reading.{Between}
@@ -10,10 +10,10 @@ use Rattle.value.proofs.block.Statement.{statement}
 use Rattle.value.proofs.block.Tie as tie
 
 abbrev Inv-loop : tie.InvT-loop
-Inv-loop w at class bad₀ j₀ bad j = (j ≤ 32) × (bad ≡ 0 → Between w class at (at + j))
+Inv-loop w at class bad₀ j₀ bad j = (j ≤ 64) × (bad ≡ 0 → Between w class at (at + j))
 
 abbrev μ-loop : tie.MeasureT-loop
-μ-loop w at class bad₀ j₀ bad j = 32 - j
+μ-loop w at class bad₀ j₀ bad j = 64 - j
 
 loop-holds : tie.Need-loop-holds Inv-loop μ-loop
 loop-holds c = (omega arith, λ h i l m. absurd (omega arith))
@@ -48,7 +48,7 @@ returns : tie.Need-returns Inv-loop μ-loop
 returns c =
     let l = c .before .loop in
     let a = c .before .before .before .args in
-    let q : l .j ≡ 32 = omega arith in
+    let q : l .j ≡ 64 = omega arith in
     record { none = λ h. subst (λ (k : ℕ). Between (a .w .now) (a .class) (a .at) (a .at + k)) q (l .inv .1 h) }
 
 pub block-spec : {M : Type 1} → statement M

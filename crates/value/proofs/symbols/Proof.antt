@@ -51,7 +51,7 @@ loop-again c =
     let l = c .before .before .before .loop in
     let a = c .before .before .before .before .before .args in (
       omega arith,
-      between-join (a .w .now) (a .class) 0 (l .i) (l .i + 32) (l .inv .1)
+      between-join (a .w .now) (a .class) 0 (l .i) (l .i + 64) (l .inv .1)
           (⊎-elim
           (λ x. subst (Between (a .w .now) (a .class) (l .i)) (omega (arith, x .1 .ensures .inside)) (x .1 .ensures .each))
           (λ x. c .before .block .ensures .none (omega arith)) (c .if1 .came)),

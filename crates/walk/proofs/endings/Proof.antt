@@ -1,4 +1,4 @@
--- `walk::endings` meets its contract. The loop's invariant: where the tests joined are 0 no end starts at a place passed. The measure is what is left of the 32 places.
+-- `walk::endings` meets its contract. The loop's invariant: where the tests joined are 0 no end starts at a place passed. The measure is what is left of the 64 places.
 use Rattle.walk.proofs.Quiet.{ending-more}
 use Rattle.walk.specs.Stands.{NoEnding}
 use Rattle.paper.proofs.Bits.{or-none}
@@ -10,10 +10,10 @@ use Rattle.walk.proofs.endings.Statement.{statement}
 use Rattle.walk.proofs.endings.Tie as tie
 
 abbrev Inv-loop : tie.InvT-loop
-Inv-loop s at any₀ j₀ any j = (j ≤ 32) × (any ≡ 0 → NoEnding s at (at + j))
+Inv-loop s at any₀ j₀ any j = (j ≤ 64) × (any ≡ 0 → NoEnding s at (at + j))
 
 abbrev μ-loop : tie.MeasureT-loop
-μ-loop s at any₀ j₀ any j = 32 - j
+μ-loop s at any₀ j₀ any j = 64 - j
 
 loop-holds : tie.Need-loop-holds Inv-loop μ-loop
 loop-holds c = (omega arith, λ h k i j. absurd (omega arith))
@@ -59,7 +59,7 @@ returns : tie.Need-returns Inv-loop μ-loop
 returns c =
     let l = c .before .loop in
     let a = c .before .before .before .args in
-    let q : l .j ≡ 32 = omega arith in
+    let q : l .j ≡ 64 = omega arith in
     record { none = λ h. subst (λ (k : ℕ). NoEnding (a .s .now) (a .at) (a .at + k)) q (l .inv .1 h) }
 
 pub endings-spec : {M : Type 1} → statement M

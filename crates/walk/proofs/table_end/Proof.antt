@@ -44,7 +44,7 @@ loop-again : tie.Need-loop-again Inv-loop μ-loop
 loop-again c =
     let l = c .before .before .before .loop in
     let a = c .before .before .before .before .before .before .args in
-    (omega (arith, l .inv .0), omega arith, ending-join (a .s .now) (a .first) (l .at) (l .at + 32) (l .inv .2) (c .before .endings .ensures .none (c .if2 .left)))
+    (omega (arith, l .inv .0), omega arith, ending-join (a .s .now) (a .first) (l .at) (l .at + 64) (l .inv .2) (c .before .endings .ensures .none (c .if2 .left)))
 
 ending-from-requires-2 : tie.Need-ending-from-requires-2 Inv-loop μ-loop
 ending-from-requires-2 c κs = search needs
