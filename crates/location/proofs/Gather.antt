@@ -161,7 +161,7 @@ module _ {s : List ℕ} {L d : ℕ} {c : Bool} where
                 is = k .is ∙ ap (λ (x : ℕ). prepend (k .ms) (members (read d c false) x (k .rest))) q ∙ ap (prepend (k .ms)) next;
               }
 
-      -- up to what stands behind the member
+      -- the members so far, this one and what stands behind it
       pub passed-by : (u : List ℕ) {t : Bool} → Has s n (raw u) t → t ≡ true → Stretch s at (n + length (raw u))
       passed-by u x e = stretch-join (run .passed) (stretch-join (h .within) (stretch-text u x e))
 

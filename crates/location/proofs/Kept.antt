@@ -4,7 +4,7 @@ use native.Mathlib.Omega.{arith}
 use mathlib.Core.Path.{_≡_, refl, sym, ap, _∙_, subst}
 use mathlib.Core.Bool.{Bool, true, false}
 use mathlib.Core.Option.{some}
-use mathlib.Core.List.{List}
+use mathlib.Core.List.{List, _++_}
 use lib.ListN.{length}
 use Rattle.paper.specs.Bytes.{bytes, raw}
 use Rattle.paper.specs.Locations.{mark, after, range, site}
@@ -104,13 +104,22 @@ pub record Way (s : List ℕ) (at j : ℕ) (k : ℕ → List ℕ → Got paper.P
   pub passes : (n : ℕ) → Stretch s j n → Stretch s at n
   pub goes : (w : List ℕ) → Stands s at w → (z : List ℕ) × Stands s j z × (piece w ≡ then (num z) k)
 
+-- a sign, and the number behind it
+way-sign : {s : List ℕ} {at : ℕ} {t : Bool} {k : ℕ → List ℕ → Got paper.Piece} (u : List ℕ) → Has s at (raw u) t → t ≡ true
+    → ((z : List ℕ) → piece (u ++ z) ≡ then (num z) k) → Way s at (at + length (raw u)) k
+way-sign u sign e h =
+    record {
+      passes = λ n. stretch-join (stretch-text u sign e);
+      goes = λ w st. let p = begun u sign st e in (p .0, p .2, ap piece (p .1) ∙ h (p .0));
+    }
+
 module _ {s : List ℕ} {at : ℕ} {t : Bool} (high : Has s at (raw (bytes ">")) t) where
   pub way-after : t ≡ true → Way s at (at + 4) (λ x r. some (after x, r))
-  way-after e = record { passes = λ n. stretch-join (stretch-text (bytes ">") high e); goes = λ w st. let p = begun (bytes ">") high st e in (p .0, p .2, ap piece (p .1)) }
+  way-after e = way-sign (bytes ">") high e (λ z. refl)
 
   module _ (e : t ≡ false) {u : Bool} (low : Has s at (raw (bytes "<")) u) where
     pub way-before : u ≡ true → Way s at (at + 4) (tail true)
-    way-before f = record { passes = λ n. stretch-join (stretch-text (bytes "<") low f); goes = λ w st. let p = begun (bytes "<") low st f in (p .0, p .2, ap piece (p .1)) }
+    way-before f = way-sign (bytes "<") low f (λ z. refl)
 
     pub way-digit : u ≡ false → Way s at at plain
     way-digit f =

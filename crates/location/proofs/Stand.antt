@@ -43,9 +43,11 @@ module _ (u : List ℕ) {s : List ℕ} {at : ℕ} {t : Bool} (h : Has s at (raw 
     pub not-begun : t ≡ false → Lacks u w
     not-begun e z q = h .no e (st .inside) (raw z) (st .is ∙ ap raw q ∙ raw-append u z)
 
+  -- what a test has found is text
   pub stretch-text : t ≡ true → Stretch s at (at + length (raw u))
   stretch-text e = record { onward = omega arith; inside = room e; text = u; is = h .yes e .1 }
 
+-- from a place to itself: no text
 pub stretch-none : {s : List ℕ} {at : ℕ} → at ≤ length s → Stretch s at at
 stretch-none h = record { onward = omega arith; inside = h; text = []; is = refl }
 
