@@ -21,6 +21,7 @@ use Rattle.value.specs.Reading.{Tells}
 use Rattle.value.proofs.Tests.{told}
 use Rattle.location.specs.Judging.{Judged, JudgesPart}
 use Rattle.location.specs.declared.judging.Verdict.{Verdict}
+use Rattle.location.proofs.Verdicts.{judged-by}
 use Rattle.judging.specs.Sets.{Faults, Firsts, InLocation, InCoding, rule-27, rule-28, InFeature}
 use Rattle.judging.specs.Known.{Knows}
 use Rattle.judging.specs.declared.Known.{Known}
@@ -47,7 +48,7 @@ no-coding {q} {f} n h = firsts-as (InLocation q (f .location)) (InFeature q f) (
 module _ (v : Verdict) {s : List ℕ} {known : Known} {x : FoundFeature} {q : Sequence ℕ} {f : Feature ℕ} {e : ℕ} (y : IsFeature s f e x) (k : Knows s q known)
     (jl : JudgesPart s (x .location .from) (x .location .to) (known .top) v) where
   judged : Judged (L q) (f .location .read) v
-  judged = subst (λ (n : ℕ). Judged n (f .location .read) v) (k .size) (jl .is (raw (f .location .read)) (text-shown (y .location)) (f .location .read) refl)
+  judged = subst (λ (n : ℕ). Judged n (f .location .read) v) (k .size) (judged-by (known .top) v (jl .is (raw (f .location .read)) (text-shown (y .location))) (f .location .read) refl)
 
   place-is : {place : Fault} → place ≡ placeFault v (known .kind) (x .location .from) → Firsts (InLocation q (f .location)) place
   place-is pl =

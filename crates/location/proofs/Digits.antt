@@ -13,10 +13,10 @@ use Rattle.paper.specs.Bytes.{spell, raw}
 use Rattle.paper.proofs.Decimal.{push, digit-is}
 use Rattle.paper.proofs.Locate.Model.{Got, more, num}
 use Rattle.paper.proofs.Locate.Pieces.{NoDigit}
-use Rattle.location.specs.Places.{Stands}
+use Rattle.location.specs.Places.{Stands, Stretch, Has}
 use Rattle.location.specs.Readings.{Reads, kept, Numbers}
 use Rattle.location.specs.declared.pieces.Num.the-variants.{No, At}
-use Rattle.location.proofs.Stand.{at-end, suffix, begun, has, After}
+use Rattle.location.proofs.Stand.{at-end, suffix, begun, stretch-text, stretch-join, has, After}
 
 -- b is one of lo to hi
 abbrev Among : ℕ → ℕ → ℕ → Bool
@@ -41,10 +41,18 @@ module _ (s : List ℕ) (i d : ℕ) (h : i < length s) (e : d ≡ getD s i 0) wh
       let a : c ∷ raw z ≡ d ∷ drop (i + 1) s = ap (λ (l : List ℕ). l ++ raw z) (sym (plain-digit c p q)) ∙ sym (st .is) ∙ suffix s i d h e in
       ap (λ (l : List ℕ). getD l 0 0) a
 
-  digit-there : code "0" ≤ d → d ≤ code "9" → (w : List ℕ) → Stands s i w → After s (d ∷ []) w (i + 1)
-  digit-there p q w st =
-      let l : raw (d ∷ []) ≡ d ∷ [] = rw (plain-digit d p q) in
-      rw (ap length l) at (begun (d ∷ []) (rw l (has (omega arith) (suffix s i d h e))) st refl)
+  module _ (p : code "0" ≤ d) (q : d ≤ code "9") where
+    digit-raw : raw (d ∷ []) ≡ d ∷ []
+    digit-raw = rw (plain-digit d p q)
+
+    digit-has : Has s i (raw (d ∷ [])) true
+    digit-has = rw digit-raw (has (omega arith) (suffix s i d h e))
+
+    digit-there : (w : List ℕ) → Stands s i w → After s (d ∷ []) w (i + 1)
+    digit-there w st = rw (ap length digit-raw) at (begun (d ∷ []) digit-has st refl)
+
+    digit-stretch : Stretch s i (i + 1)
+    digit-stretch = rw (ap length digit-raw) at (stretch-text (d ∷ []) digit-has refl)
 
   -- where the byte is none of lo to hi, none of them is read
   none-read : (lo hi : ℕ) → code "0" ≤ lo → hi ≤ code "9" → (lo ≤ d → d ≤ hi → ⊥) → (c : ℕ) (z : List ℕ) → Stands s i (c ∷ z) → Among lo hi c ≡ false
@@ -69,8 +77,7 @@ abbrev Going : List ℕ → List ℕ → ℕ → ℕ → Type 0
 Going s w i v = (x : ℕ) × (z : List ℕ) × (num w ≡ some (more x z)) × Stands s i z × (v ≡ kept x)
 
 pub record Counted (s : List ℕ) (at i v : ℕ) : Type 0 where
-  pub after : at ≤ i
-  pub inside : i ≤ length s
+  pub passed : Stretch s at i
   pub least : 1 ≤ v
   pub most : v ≤ 4294967296
   pub going : (w : List ℕ) → Stands s at w → Going s w i v
@@ -81,7 +88,7 @@ more-stops x (b ∷ z) n = rw n
 
 module _ (s : List ℕ) (at : ℕ) where
   pub counted-first : (b : ℕ) → at < length s → b ≡ getD s at 0 → code "1" ≤ b → b ≤ code "9" → Counted s at (at + 1) (b - code "0")
-  counted-first b h e p q = record { after = omega arith; inside = omega arith; least = omega arith; most = omega arith; going = going }
+  counted-first b h e p q = record { passed = digit-stretch s at b h e (omega arith) q; least = omega arith; most = omega arith; going = going }
     where
       going : (w : List ℕ) → Stands s at w → Going s w (at + 1) (b - code "0")
       going w st =
@@ -93,7 +100,7 @@ module _ (s : List ℕ) (at : ℕ) where
       → v′ ≡ kept (push v d) → Counted s at (i + 1) v′
   counted-next i v d v′ c h e p q k =
       let low = c .least in
-      record { after = omega (arith, c .after); inside = omega arith; least = omega arith; most = omega arith; going = going }
+      record { passed = stretch-join (c .passed) (digit-stretch s i d h e p q); least = omega arith; most = omega arith; going = going }
     where
       going : (w : List ℕ) → Stands s at w → Going s w (i + 1) v′
       going w st =
@@ -104,7 +111,7 @@ module _ (s : List ℕ) (at : ℕ) where
           (push (g .0) d, t .0, g .2 ∙ ap {B = Got ℕ} some (ap (more (g .0)) (t .1) ∙ n), t .2, omega arith)
 
   counted-stops : (i v : ℕ) → Counted s at i v → ((w : List ℕ) → Stands s i w → NoDigit w) → Numbers s at (At i v)
-  counted-stops i v c n = record { within = (c .after, c .inside, c .least); says = says }
+  counted-stops i v c n = record { within = (c .passed, c .least); says = says }
     where
       says : (w : List ℕ) → Stands s at w → Reads s (λ (x : ℕ). v ≡ kept x) (num w) i
       says w st =

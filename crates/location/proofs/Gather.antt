@@ -13,13 +13,13 @@ use Rattle.paper.specs.Locations.{isOdd, isWrong, Member, Operator, Location, o
 use Rattle.paper.proofs.Locate.Model.{Got, then, memberOf, step, members, gathered, gather, read}
 use Rattle.paper.proofs.Locate.Rest.{ends-length}
 use Rattle.paper.proofs.Locate.Reads.{read-sound, read-nil, read-ends, allowed-member}
-use Rattle.location.specs.Places.{Stands, Has}
+use Rattle.location.specs.Places.{Stands, Stretch, Has}
 use Rattle.location.specs.Judging.{AreFacts}
 use Rattle.location.specs.Readings.{Reads, OutSays, Outs, numberOf, Lists, withMember}
 use Rattle.location.specs.declared.judging.Facts.{Facts}
 use Rattle.location.specs.declared.judging.Out.the-variants as out-is
 use Rattle.location.specs.declared.operators.Listed.the-variants as list-is
-use Rattle.location.proofs.Stand.{begun, not-begun, room}
+use Rattle.location.proofs.Stand.{begun, not-begun, stretch-text, stretch-join}
 use Rattle.location.proofs.Words.{step-else}
 use Rattle.location.proofs.Levels.{operator-number, spans-count}
 
@@ -94,8 +94,7 @@ record Past (s : List ℕ) (L d : ℕ) (c : Bool) (o : Operator) (w : List ℕ) 
 
 -- the loop's invariant: i is where a member is to be read
 pub record Run (s : List ℕ) (L d : ℕ) (c : Bool) (at from op i : ℕ) (f : Facts) : Type 0 where
-  pub after : at < i
-  pub inside : i ≤ length s
+  pub passed : Stretch s at i
   pub few : f .count < i
   going : (o : Operator) → op ≡ numberOf o → (w : List ℕ) → Stands s from w → Going s L d c o w i f
 
@@ -107,8 +106,7 @@ module _ {s : List ℕ} {L d : ℕ} {c : Bool} where
   pub run-start : {at op from : ℕ} → Lists s at (list-is.At op from) → Run s L d c at from op from (noFacts op)
   run-start {at} {op} {from} h =
       record {
-        after = h .within .0;
-        inside = h .within .1;
+        passed = h .within .1;
         few = omega (arith, h .within .0);
         going = λ o e w st.
             record {
@@ -163,6 +161,10 @@ module _ {s : List ℕ} {L d : ℕ} {c : Bool} where
                 is = k .is ∙ ap (λ (x : ℕ). prepend (k .ms) (members (read d c false) x (k .rest))) q ∙ ap (prepend (k .ms)) next;
               }
 
+      -- the members so far, this one and what stands behind it
+      pub passed-by : (u : List ℕ) {t : Bool} → Has s n (raw u) t → t ≡ true → Stretch s at (n + length (raw u))
+      passed-by u x e = stretch-join (run .passed) (stretch-join (h .within) (stretch-text u x e))
+
       module _ {t : Bool} (bracket : Has s n (raw (bytes ")")) t) where
         -- the list ends
         closed : t ≡ true → (o : Operator) → op ≡ numberOf o → (w : List ℕ) → Stands s from w
@@ -206,9 +208,8 @@ module _ {s : List ℕ} {L d : ℕ} {c : Bool} where
           pub run-next : u ≡ true → Run s L d c at from op (n + 1) (withMember f g)
           run-next b =
               record {
-                after = omega (arith, run .after, h .within .0);
-                inside = room (bytes ",") comma b;
-                few = omega (arith, run .few, h .within .0);
+                passed = passed-by (bytes ",") comma b;
+                few = omega (arith, run .few, h .within .onward);
                 going = λ o e w st.
                     let p = past o e w st in
                     let q = begun (bytes ",") comma (p .stands) b in

@@ -9,12 +9,9 @@ use lib.ListN.{length, drop, set, length-append, length-drop, length-set}
 use lib.Seq.{drop-drop}
 use lib.Dec.{ltb}
 use borrow.Author.Tests.{lt-ltb, le-ltb}
-use Rattle.paper.specs.Bytes.{raw}
-use Rattle.paper.specs.Locations.{Location, Locates, Span, spans, operatorNumber, breaks25}
+use Rattle.paper.specs.Locations.{Location, Span, spans, operatorNumber, breaks25}
 use Rattle.paper.specs.Answers.{triples, front}
-use Rattle.paper.proofs.Locate.{locate-sound, locate-complete}
-use Rattle.paper.proofs.Locate.Model.{locate}
-use Rattle.location.specs.Judging.{Judges}
+use Rattle.location.specs.Judging.{Spells, Judges}
 use Rattle.location.specs.Walking.{Left, Steps, Starts, spanIs}
 use Rattle.location.specs.Room.{Puts, Asked, Answers}
 use Rattle.location.specs.declared.judging.Facts.{Facts}
@@ -24,6 +21,7 @@ use Rattle.location.specs.declared.walking.Walk.{Walk}
 use Rattle.location.specs.declared.walking.Next.the-variants as next
 use Rattle.location.specs.declared.room.Answer.{Answer}
 use Rattle.location.specs.declared.room.Answer.the-variants as answer
+use Rattle.location.proofs.Verdicts.{spells-once}
 
 triples-size : (l : List Span) → length (triples l) ≡ length l * 3
 triples-size [] = refl
@@ -123,30 +121,38 @@ module _ {s : List ℕ} {L : ℕ} {from : Walk} {count : ℕ} {before : List ℕ
 
 module _ {s : List ℕ} {L : ℕ} {f : Facts} (h : Judges s L (verdict.Is f)) where
   pub spans-wrong : (out : List ℕ) → f .wrong ≡ true → Answers s L out answer.Wrong out
-  spans-wrong out q = (refl, λ w e. let j = h w e in (j .0, j .1, sym (j .2 .wrong) ∙ q))
+  spans-wrong out q = (refl, (h .0, h .1, sym (h .2 .wrong) ∙ q))
 
   module _ (q : f .wrong ≡ false) where
-    asked : (w : List ℕ) (e : s ≡ raw w) → Asked L w (h w e .0)
-    asked w e = let j = h w e in record { located = j .1; right = sym (j .2 .wrong) ∙ q }
+    asked : Asked s L (h .0)
+    asked = record { spelled = h .1; right = sym (h .2 .wrong) ∙ q }
 
     pub spans-short : (out : List ℕ) → length out / 3 < f .count → Answers s L out answer.Short out
-    spans-short out l =
-        (refl, λ w e. let j = h w e in (j .0, asked w e, omega (arith, j .2 .count, triples-size (spans (j .0)))))
+    spans-short out l = (refl, (h .0, asked, omega (arith, h .2 .count, triples-size (spans (h .0)))))
 
     pub spans-are : (out : List ℕ) (from : Walk) {after : List ℕ} → f .count ≤ length out / 3 → Starts s from → Puts s L from (f .count) out after
         → Answers s L out (answer.Are (f .operator) (f .count)) after
-    spans-are out from l st p w e =
-        let j = h w e in
-        let a = asked w e in (
-          j .0,
-          a,
-          j .2 .operator,
-          j .2 .count,
-          omega (arith, j .2 .count, triples-size (spans (j .0))),
-          p (spans (j .0)) (st L w (j .0) e (j .1) (a .right)) (sym (j .2 .count)),
-        )
+    spans-are out from l st p = (
+      h .0,
+      asked,
+      h .2 .operator,
+      h .2 .count,
+      omega (arith, h .2 .count, triples-size (spans (h .0))),
+      p (spans (h .0)) (st L (h .1 .text) (h .0) (h .1 .written) (h .1 .located) (asked .right)) (sym (h .2 .count)),
+    )
 
--- ---- two answers that are allowed are equal: each is this one
+-- ---- two answers that are allowed are equal
+
+-- the location that the bytes are, if they are one
+abbrev Spelled : List ℕ → Option Location → Type 0
+Spelled s none = (t : Location) → Spells s t → ⊥
+Spelled s (some t) = Spells s t
+
+spelled-once : (s : List ℕ) (o p : Option Location) → Spelled s o → Spelled s p → o ≡ p
+spelled-once s none none h k = refl
+spelled-once s none (some u) h k = absurd (h u k)
+spelled-once s (some t) none h k = absurd (k t h)
+spelled-once s (some t) (some u) h k = ap some (spells-once h k)
 
 abbrev answerOf : ℕ → List ℕ → Option Location → Answer × List ℕ
 answerOf L out none = (answer.Bad, out)
@@ -155,26 +161,26 @@ answerOf L out (some t) =
     (cond (ltb (length out) (length (triples (spans t)))) (answer.Short, out)
     (answer.Are (operatorNumber t) (length (spans t)), front (triples (spans t)) out))
 
-module _ (w : List ℕ) (L : ℕ) (out : List ℕ) where
-  found : {t : Location} → Locates t w → answerOf L out (locate w) ≡ answerOf L out (some t)
-  found {t} x = ap (answerOf L out) (locate-complete w t x)
-
-  is-answer : (r : Answer) (after : List ℕ) → Answers (raw w) L out r after → _≡_ {A = Answer × List ℕ} (r, after) (answerOf L out (locate w))
-  is-answer answer.Bad after h = (λ i. (answer.Bad, h .0 i)) ∙ sym (ap (answerOf L out) (go (locate w) refl))
-    where
-      go : (o : Option Location) → locate w ≡ o → locate w ≡ none
-      go none e = e
-      go (some t) e = absurd (h .1 w refl t (locate-sound w t e))
-  is-answer answer.Wrong after h =
-      let j = h .1 w refl in
-      (λ i. (answer.Wrong, h .0 i)) ∙ sym (found (j .1) ∙ rw (j .2))
+module _ (s : List ℕ) (L : ℕ) (out : List ℕ) where
+  -- an answer is the one of what the bytes are
+  is-answer : (r : Answer) (after : List ℕ) → Answers s L out r after
+      → (o : Option Location) × Spelled s o × (_≡_ {A = Answer × List ℕ} (r, after) (answerOf L out o))
+  is-answer answer.Bad after h = (none, h .1, λ i. (answer.Bad, h .0 i))
+  is-answer answer.Wrong after h = let j = h .1 in (some (j .0), j .1, (λ i. (answer.Wrong, h .0 i)) ∙ sym (rw (j .2)))
   is-answer answer.Short after h =
-      let j = h .1 w refl in
-      (λ i. (answer.Short, h .0 i)) ∙ sym (found (j .1 .located) ∙ rw (j .1 .right, lt-ltb (length out) (length (triples (spans (j .0)))) (j .2)))
-  is-answer (answer.Are operator count) after h =
-      let j = h w refl in
-      (λ i. (answer.Are (j .2 i) (j .3 i), j .5 i))
-      ∙ sym (found (j .1 .located) ∙ rw (j .1 .right, le-ltb (length out) (length (triples (spans (j .0)))) (j .4)))
+      let j = h .1 in (
+        some (j .0),
+        j .1 .spelled,
+        (λ i. (answer.Short, h .0 i)) ∙ sym (rw (j .1 .right, lt-ltb (length out) (length (triples (spans (j .0)))) (j .2))),
+      )
+  is-answer (answer.Are operator count) after h = (
+    some (h .0),
+    h .1 .spelled,
+    (λ i. (answer.Are (h .2 i) (h .3 i), h .5 i)) ∙ sym (rw (h .1 .right, le-ltb (length out) (length (triples (spans (h .0)))) (h .4))),
+  )
 
-  pub answers-once : (r q : Answer) (a b : List ℕ) → Answers (raw w) L out r a → Answers (raw w) L out q b → _≡_ {A = Answer × List ℕ} (r, a) (q, b)
-  answers-once r q a b h k = is-answer r a h ∙ sym (is-answer q b k)
+  pub answers-once : (r q : Answer) (a b : List ℕ) → Answers s L out r a → Answers s L out q b → _≡_ {A = Answer × List ℕ} (r, a) (q, b)
+  answers-once r q a b h k =
+      let x = is-answer r a h in
+      let y = is-answer q b k in
+      x .2 ∙ ap (answerOf L out) (spelled-once s (x .0) (y .0) (x .1) (y .1)) ∙ sym (y .2)

@@ -11,7 +11,7 @@ use Rattle.paper.specs.Bytes.{bytes, raw}
 use Rattle.paper.specs.Locations.{Piece, isSegment, isOdd, isWrong, Member, Operator, join, order, operatorName, Location, one, many, memberSpan, spanOf}
 use Rattle.paper.specs.Locations.{spans, membersOf, operatorNumber}
 use Rattle.paper.proofs.Locate.Model.{Got, then, uncomplemented, turn, leaf, close, gather, within, read}
-use Rattle.location.specs.Places.{Stands, Has}
+use Rattle.location.specs.Places.{Stands, Stretch, Has}
 use Rattle.location.specs.Judging.{AreFacts}
 use Rattle.location.specs.Readings.{Keeps, Pieces, wrongOf, outWithin, OutSays, Outs, numberOf, Lists}
 use Rattle.location.specs.declared.pieces.Reach.{Reach}
@@ -22,7 +22,7 @@ use Rattle.location.specs.declared.judging.Out.{Out}
 use Rattle.location.specs.declared.judging.Out.the-variants as out-is
 use Rattle.location.specs.declared.operators.Listed.{Listed}
 use Rattle.location.specs.declared.operators.Listed.the-variants as list-is
-use Rattle.location.proofs.Stand.{Lacks, begun, not-begun, room}
+use Rattle.location.proofs.Stand.{Lacks, begun, not-begun, stretch-text, stretch-join}
 use Rattle.location.proofs.Rule25.{keeps-segment, keeps-wrong}
 use Rattle.location.proofs.Words.{within-else, within-list, close-else}
 
@@ -65,7 +65,7 @@ module _ {s : List ℕ} {at top : ℕ} (far : Bool) where
         → Outs s at top (leaf far) (out-is.Read n (leafFacts wrong odd))
     leaf-read l e t =
         record {
-          within = (h .within .0, h .within .1);
+          within = h .within .0;
           says = λ w st.
               let m = h .says w st in
               let q : (far || isSegment (m .value)) ≡ true = rw (keeps-segment (m .holds)) at t in
@@ -88,7 +88,7 @@ module _ {s : List ℕ} {at : ℕ} {t : Bool} (is-join : Has s at (raw (bytes "j
   pub list-join : t ≡ true → Lists s at (list-is.At 1 (at + 5))
   list-join e =
       record {
-        within = (omega arith, room (bytes "join(") is-join e);
+        within = (omega arith, stretch-text (bytes "join(") is-join e);
         says = λ w st. let p = begun (bytes "join(") is-join st e in (join, refl, p .0, p .1, p .2);
       }
 
@@ -96,7 +96,7 @@ module _ {s : List ℕ} {at : ℕ} {t : Bool} (is-join : Has s at (raw (bytes "j
     pub list-order : u ≡ true → Lists s at (list-is.At 2 (at + 6))
     list-order f =
         record {
-          within = (omega arith, room (bytes "order(") is-order f);
+          within = (omega arith, stretch-text (bytes "order(") is-order f);
           says = λ w st. let p = begun (bytes "order(") is-order st f in (order, refl, p .0, p .1, p .2);
         }
 
@@ -108,6 +108,11 @@ module _ {s : List ℕ} {at : ℕ} {t : Bool} (is-join : Has s at (raw (bytes "j
         lacks w st order = not-begun (bytes "order(") is-order st f
 
 -- ---- complements
+
+pub complement-stretch : {s : List ℕ} {at n : ℕ} {t u : Bool} → Has s at (raw (bytes "complement(")) t → t ≡ true → Stretch s (at + 11) n
+    → Has s n (raw (bytes ")")) u → u ≡ true → Stretch s at (n + 1)
+complement-stretch word e inside bracket b =
+    stretch-join (stretch-text (bytes "complement(") word e) (stretch-join inside (stretch-text (bytes ")") bracket b))
 
 pub spans-count : (t : Location) → length (spans t) ≡ length (membersOf t)
 spans-count (one m) = refl
@@ -147,7 +152,7 @@ module _ {s : List ℕ} {at top : ℕ} {c l : Bool} {fc fl : List ℕ → Got Lo
       }
 
   -- what is read inside, and `)`
-  comp-by : c ≡ true → (r : Out) → outWithin at (length s) r → ((z : List ℕ) → Stands s (at + 11) z → OutSays s top (then (fc z) close) r)
+  comp-by : c ≡ true → (r : Out) → outWithin s at r → ((z : List ℕ) → Stands s (at + 11) z → OutSays s top (then (fc z) close) r)
       → Outs s at top (within fc fl c l) r
   comp-by k r i f =
       record {
@@ -170,7 +175,7 @@ module _ {s : List ℕ} {at top : ℕ} {c l : Bool} {fc fl : List ℕ → Got Lo
 
     pub comp-good : u ≡ true → Outs s at top (within fc fl c l) (out-is.Read (n + 1) (turnedFacts f))
     comp-good b =
-        comp-by k (out-is.Read (n + 1) (turnedFacts f)) (omega (arith, h .within .0), room (bytes ")") bracket b)
+        comp-by k (out-is.Read (n + 1) (turnedFacts f)) (complement-stretch word e (h .within) bracket b)
         (λ z st.
         let m = h .says z st in
         let p = begun (bytes ")") bracket (m .stands) b in
@@ -193,7 +198,7 @@ module _ {s : List ℕ} {at top : ℕ} {c l : Bool} {fc fl : List ℕ → Got Lo
       }
 
 module _ {s : List ℕ} {at top : ℕ} {c l : Bool} {fc fl : List ℕ → Got Location} {op from : ℕ} (h : Lists s at (list-is.At op from)) where
-  pub list-by : l ≡ true → (r : Out) → outWithin at (length s) r
+  pub list-by : l ≡ true → (r : Out) → outWithin s at r
       → ((o : Operator) → op ≡ numberOf o → (z : List ℕ) → Stands s from z → OutSays s top (gather fl o z) r) → Outs s at top (within fc fl c l) r
   list-by k r i f =
       record {

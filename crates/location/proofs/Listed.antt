@@ -2,9 +2,8 @@
 use Prim.Native.Nat.{ℕ}
 use mathlib.Core.Path.{_≡_, subst}
 use mathlib.Core.List.{List}
-use Rattle.paper.specs.Bytes.{raw}
 use Rattle.scan.specs.Parts.{Shows}
-use Rattle.scan.proofs.Parts.{shows-once}
+use Rattle.scan.proofs.Parts.{shows-any, shows-once}
 use Rattle.location.specs.Judging.{Judges, JudgesPart}
 use Rattle.location.specs.Room.{Answers, AnswersPart}
 use Rattle.location.specs.declared.judging.Verdict.{Verdict}
@@ -21,10 +20,11 @@ module _ {s : List ℕ} {from to L : ℕ} where
       record { is = λ v y. subst (λ (u : List ℕ). Answers u L out r after) (shows-once x y) j }
 
   -- two results that are allowed are equal
-  module _ (w : List ℕ) (x : Shows s from to (raw w)) where
-    pub part-judges-once : (r q : Verdict) → JudgesPart s from to L r → JudgesPart s from to L q → r ≡ q
-    part-judges-once r q h k = judges-once w L r q (h .is (raw w) x) (k .is (raw w) x)
+  pub part-judges-once : (r q : Verdict) → JudgesPart s from to L r → JudgesPart s from to L q → r ≡ q
+  part-judges-once r q h k = let x = shows-any s from to in judges-once (x .0) L r q (h .is (x .0) (x .1)) (k .is (x .0) (x .1))
 
-    pub part-answers-once : (out : List ℕ) (r q : Answer) (a b : List ℕ) → AnswersPart s from to L out r a → AnswersPart s from to L out q b
-        → _≡_ {A = Answer × List ℕ} (r, a) (q, b)
-    part-answers-once out r q a b h k = answers-once w L out r q a b (h .is (raw w) x) (k .is (raw w) x)
+  pub part-answers-once : (out : List ℕ) (r q : Answer) (a b : List ℕ) → AnswersPart s from to L out r a → AnswersPart s from to L out q b
+      → _≡_ {A = Answer × List ℕ} (r, a) (q, b)
+  part-answers-once out r q a b h k =
+      let x = shows-any s from to in
+      answers-once (x .0) L out r q a b (h .is (x .0) (x .1)) (k .is (x .0) (x .1))

@@ -9,7 +9,7 @@ use lib.ListN.{length, getD, drop, drop-of-length-le, length-append, length-drop
 use lib.Seq.{drop-cons, drop-drop, drop-append-seam}
 use Rattle.paper.specs.Bytes.{spell, raw}
 use Rattle.paper.proofs.Texts.{unspell, unspell-spell, spell-some, raw-append}
-use Rattle.location.specs.Places.{Stands, Has}
+use Rattle.location.specs.Places.{Stands, Stretch, Has}
 
 -- a text whose bytes start with those of u starts with u
 raw-strip : (u w y : List ℕ) → raw w ≡ raw u ++ y → (z : List ℕ) × (w ≡ u ++ z) × (raw z ≡ y)
@@ -42,6 +42,25 @@ module _ (u : List ℕ) {s : List ℕ} {at : ℕ} {t : Bool} (h : Has s at (raw 
 
     pub not-begun : t ≡ false → Lacks u w
     not-begun e z q = h .no e (st .inside) (raw z) (st .is ∙ ap raw q ∙ raw-append u z)
+
+  -- what a test has found is text
+  pub stretch-text : t ≡ true → Stretch s at (at + length (raw u))
+  stretch-text e = record { onward = omega arith; inside = room e; text = u; is = h .yes e .1 }
+
+-- from a place to itself: no text
+pub stretch-none : {s : List ℕ} {at : ℕ} → at ≤ length s → Stretch s at at
+stretch-none h = record { onward = omega arith; inside = h; text = []; is = refl }
+
+-- one stretch after another
+pub stretch-join : {s : List ℕ} {i j k : ℕ} → Stretch s i j → Stretch s j k → Stretch s i k
+stretch-join {s} {k = k} a b =
+    record {
+      onward = omega (arith, a .onward, b .onward);
+      inside = b .inside;
+      text = a .text ++ b .text;
+      is = a .is ∙ ap (λ (z : List ℕ). raw (a .text) ++ z) (b .is) ∙ sym (append-assoc (raw (a .text)) (raw (b .text)) (drop k s))
+          ∙ ap (λ (z : List ℕ). z ++ drop k s) (sym (raw-append (a .text) (b .text)));
+    }
 
 -- what stands behind a text
 pub behind-text : {s : List ℕ} {at : ℕ} (u z : List ℕ) → Stands s at (u ++ z) → Stands s (at + length (raw u)) z

@@ -4,15 +4,16 @@ use native.Mathlib.Omega.{arith}
 use mathlib.Core.Path.{_≡_, refl, sym, ap, _∙_, subst}
 use mathlib.Core.Bool.{true}
 use mathlib.Core.Option.{none, some, Option·none-ne-some}
-use mathlib.Core.List.{List, [], _∷_}
-use lib.ListN.{length, length-drop}
+use mathlib.Core.List.{List, [], _∷_, _++_, append-nil}
+use lib.ListN.{length, length-drop, drop-of-length-le}
 use Rattle.paper.specs.Bytes.{raw}
 use Rattle.paper.specs.Locations.{Location, Locates}
+use Rattle.paper.proofs.Texts.{raw-once}
 use Rattle.paper.proofs.Locate.{locate-sound, locate-complete, locates-once}
 use Rattle.paper.proofs.Locate.Model.{read, wholly, locate}
 use Rattle.location.specs.Places.{Stands}
-use Rattle.location.specs.Judging.{AreFacts, Judges}
-use Rattle.location.specs.Readings.{Reads, Outs}
+use Rattle.location.specs.Judging.{AreFacts, Judged, Spells, Judges}
+use Rattle.location.specs.Readings.{Outs}
 use Rattle.location.specs.declared.judging.Facts.{Facts}
 use Rattle.location.specs.declared.judging.Out.the-variants as out-is
 use Rattle.location.specs.declared.judging.Verdict.{Verdict}
@@ -23,29 +24,42 @@ use Rattle.location.proofs.Stand.{at-end}
 pub whole : {s w : List ℕ} → s ≡ raw w → Stands s 0 w
 whole e = record { inside = omega arith; is = e }
 
-unlocated : (w : List ℕ) → locate w ≡ none → (t : Location) → Locates t w → ⊥
-unlocated w e t x = Option·none-ne-some t (sym e ∙ locate-complete w t x)
+-- bytes are no location if the model reads none of any text that they are written from
+unlocated : {s : List ℕ} → ((w : List ℕ) → Stands s 0 w → locate w ≡ none) → (t : Location) → Spells s t → ⊥
+unlocated h t x = Option·none-ne-some t (sym (h (x .text) (whole (x .written))) ∙ locate-complete (x .text) t (x .located))
 
 module _ {s : List ℕ} {top : ℕ} where
   pub judge-bad : Outs s 0 top (read 2 true true) out-is.Bad → Judges s top Bad
-  judge-bad h w e = unlocated w (ap wholly (h .says w (whole e)))
+  judge-bad h = unlocated (λ w st. ap wholly (h .says w st))
 
   module _ {n : ℕ} {f : Facts} (h : Outs s 0 top (read 2 true true) (out-is.Read n f)) where
     pub judge-left : n < length s → Judges s top Bad
-    judge-left l w e = go (m .rest) (m .stands) (m .is)
+    judge-left l = unlocated (λ w st. let m = h .says w st in go w (m .value) (m .rest) (m .stands) (m .is))
       where
-        m : Reads s (λ (t : Location). AreFacts top t f) (read 2 true true w) n
-        m = h .says w (whole e)
-
-        go : (z : List ℕ) → Stands s n z → read 2 true true w ≡ some (m .value, z) → (t : Location) → Locates t w → ⊥
-        go [] st q = absurd (omega (arith, ap length (st .is), length-drop n s))
-        go (b ∷ z) st q = unlocated w (ap wholly q)
+        go : (w : List ℕ) (t : Location) (z : List ℕ) → Stands s n z → read 2 true true w ≡ some (t, z) → locate w ≡ none
+        go w t [] st q = absurd (omega (arith, ap length (st .is), length-drop n s))
+        go w t (b ∷ z) st q = ap wholly q
 
     pub judge-is : length s ≤ n → Judges s top (Is f)
-    judge-is l w e =
+    judge-is l =
+        let w = h .within .text in
+        let e : s ≡ raw w = h .within .is ∙ ap (λ (z : List ℕ). raw w ++ z) (drop-of-length-le s l) ∙ append-nil (raw w) in
         let m = h .says w (whole e) in
         let q : read 2 true true w ≡ some (m .value, []) = m .is ∙ ap (λ (z : List ℕ). some (m .value, z)) (at-end (m .rest) (m .stands) l) in
-        (m .value, locate-sound w (m .value) (ap wholly q), m .holds)
+        (m .value, record { text = w; written = e; located = locate-sound w (m .value) (ap wholly q) }, m .holds)
+
+-- ---- bytes that are a location are one text and no other
+
+pub read-as : {s : List ℕ} {t : Location} → Spells s t → (w : List ℕ) → s ≡ raw w → Locates t w
+read-as {t = t} x w e = subst (Locates t) (raw-once (x .text) w (sym (x .written) ∙ e)) (x .located)
+
+pub spells-once : {s : List ℕ} {t u : Location} → Spells s t → Spells s u → t ≡ u
+spells-once {t = t} {u} x y = locates-once t u (x .located) (read-as y (x .text) (x .written))
+
+-- the verdict on the text as read
+pub judged-by : {s : List ℕ} (L : ℕ) (r : Verdict) → Judges s L r → (w : List ℕ) → s ≡ raw w → Judged L w r
+judged-by L Bad j w e = λ t x. j t (record { text = w; written = e; located = x })
+judged-by L (Is f) j w e = (j .0, read-as (j .1) w e, j .2)
 
 -- ---- two verdicts that are allowed are equal
 
@@ -60,12 +74,9 @@ facts-once h k =
       unjudged = (h .unjudged ∙ sym (k .unjudged)) i;
     }
 
-pub judges-once : (w : List ℕ) (L : ℕ) (r q : Verdict) → Judges (raw w) L r → Judges (raw w) L q → r ≡ q
-judges-once w L Bad Bad h k = refl
-judges-once w L Bad (Is g) h k = absurd (h w refl (k w refl .0) (k w refl .1))
-judges-once w L (Is f) Bad h k = absurd (k w refl (h w refl .0) (h w refl .1))
-judges-once w L (Is f) (Is g) h k =
-    let a = h w refl in
-    let b = k w refl in
-    let same : AreFacts L (a .0) g = subst (λ (t : Location). AreFacts L t g) (locates-once (b .0) (a .0) (b .1) (a .1)) (b .2) in
-    ap Is (facts-once (a .2) same)
+pub judges-once : (s : List ℕ) (L : ℕ) (r q : Verdict) → Judges s L r → Judges s L q → r ≡ q
+judges-once s L Bad Bad h k = refl
+judges-once s L Bad (Is g) h k = absurd (h (k .0) (k .1))
+judges-once s L (Is f) Bad h k = absurd (k (h .0) (h .1))
+judges-once s L (Is f) (Is g) h k =
+    ap Is (facts-once (h .2) (subst (λ (t : Location). AreFacts L t g) (spells-once (k .1) (h .1)) (k .2)))

@@ -28,6 +28,7 @@ use Rattle.location.specs.declared.walking.Next.{Next}
 use Rattle.location.specs.declared.walking.Next.the-variants as next
 use Rattle.location.proofs.Stand.{begun, not-begun, room}
 use Rattle.location.proofs.Rule25.{keeps-wrong}
+use Rattle.location.proofs.Levels.{complement-stretch}
 use Rattle.location.proofs.Commas.{written-order, start-first, start-more}
 
 -- ---- members
@@ -91,7 +92,7 @@ module _ {s : List ℕ} {at : ℕ} {t : Bool} (word : Has s at (raw (bytes "comp
       member-closed b =
           let i = h .within in
           record {
-            within = (omega (arith, i .0), room (bytes ")") bracket b, i .2, i .3);
+            within = (complement-stretch word e (i .0) bracket b, i .1, i .2);
             says = λ c p v z x st f.
                 let m = inside (found-is.At n a odd) h c p v z x st in
                 let y = begun (bytes ")") bracket (m .1 .1) b in
@@ -160,7 +161,7 @@ module _ {s : List ℕ} {L at : ℕ} where
     ahead-next b r g =
         let i = h .within in
         record {
-          within = within-give (length s) (walk.Ahead at) r (i .2) (i .3) (omega (arith, i .0, room (bytes ",") comma b)) g;
+          within = within-give (length s) (walk.Ahead at) r (i .1) (i .2) (omega (arith, i .0 .onward, room (bytes ",") comma b)) g;
           yields = λ l x. go x;
         }
       where
@@ -175,7 +176,7 @@ module _ {s : List ℕ} {L at : ℕ} where
     pub ahead-last : t ≡ false → (r : Next) → Gives L a walk.Done r → Steps s L (walk.Ahead at) r
     ahead-last b r g =
         let i = h .within in
-        record { within = within-give (length s) (walk.Ahead at) r (i .2) (i .3) (omega (arith, i .0, i .1)) g; yields = λ l x. go x }
+        record { within = within-give (length s) (walk.Ahead at) r (i .1) (i .2) (omega (arith, i .0 .onward, i .0 .inside)) g; yields = λ l x. go x }
       where
         go : {l : List paper.Span} → Ahead s L at l → Yields s L l r
         go (walking.Ahead.last {c} {p} {z = z} w e) =
@@ -235,7 +236,7 @@ module _ {s : List ℕ} {L low at : ℕ} where
           → ((l : List paper.Span) (b : Back s L low at i l) → Left s L v (b .others)) → (r : Next) → Gives L a v r → Steps s L (walk.Behind low at) r
       behind-by v less left r g =
           record {
-            within = within-give (length s) (walk.Behind low at) r (k .within .2) (k .within .3) less g;
+            within = within-give (length s) (walk.Behind low at) r (k .within .1) (k .within .2) less g;
             yields = λ l x.
                 let b = back x in
                 let m = said (found-is.At n a odd) k b in

@@ -18,14 +18,21 @@ pub record AreFacts (L : ℕ) (t : Location) (f : Facts) : Type 0 where
   pub complemented : f .complemented ≡ hasComplement t
   pub unjudged : f .unjudged ≡ leavesUnjudged t
 
--- rule 24 is broken: no location is written so; or one is, with these facts
+-- of the text as read w, rule 24 is broken: no location is written so; or one is, with these facts
 abbrev pub Judged : ℕ → List ℕ → Verdict → Type 0
 Judged L w Bad = (t : Location) → Locates t w → ⊥
 Judged L w (Is f) = (t : Location) × Locates t w × AreFacts L t f
 
--- the verdict on whichever text as read the bytes are written from
+-- the bytes s are the location t, as it is written
+pub record Spells (s : List ℕ) (t : Location) : Type 0 where
+  pub text : List ℕ
+  pub written : s ≡ raw text
+  pub located : Locates t text
+
+-- of whatever bytes: rule 24 is broken, since they are no location; or they are one, with these facts
 abbrev pub Judges : List ℕ → ℕ → Verdict → Type 0
-Judges s L r = (w : List ℕ) → s ≡ raw w → Judged L w r
+Judges s L Bad = (t : Location) → Spells s t → ⊥
+Judges s L (Is f) = (t : Location) × Spells s t × AreFacts L t f
 
 -- the verdict on the part that stands from here to there
 pub record JudgesPart (s : List ℕ) (from to L : ℕ) (r : Verdict) : Type 0 where

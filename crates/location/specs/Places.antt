@@ -11,6 +11,13 @@ pub record Stands (s : List ℕ) (at : ℕ) (w : List ℕ) : Type 0 where
   pub inside : at ≤ length s
   pub is : drop at s ≡ raw w
 
+-- the bytes from `at` to before n are a text as read, as it is written
+pub record Stretch (s : List ℕ) (at n : ℕ) : Type 0 where
+  pub onward : at ≤ n
+  pub inside : n ≤ length s
+  pub text : List ℕ
+  pub is : drop at s ≡ raw text ++ drop n s
+
 -- t says whether the bytes x stand at a place
 pub record Has (s : List ℕ) (at : ℕ) (x : List ℕ) (t : Bool) : Type 0 where
   pub yes : t ≡ true → (at + length x ≤ length s) × (drop at s ≡ x ++ drop (at + length x) s)

@@ -4,10 +4,10 @@ use mathlib.Core.Path.{_≡_}
 use mathlib.Core.Bool.{true, false}
 use mathlib.Core.List.{List}
 use lib.ListN.{length}
-use Rattle.paper.specs.Bytes.{raw}
-use Rattle.paper.specs.Locations.{Location, Locates, Span, spans, operatorNumber, breaks25}
+use Rattle.paper.specs.Locations.{Location, Span, spans, operatorNumber, breaks25}
 use Rattle.paper.specs.Answers.{triples, front}
 use Rattle.scan.specs.Parts.{Shows}
+use Rattle.location.specs.Judging.{Spells}
 use Rattle.location.specs.Walking.{Left}
 use Rattle.location.specs.declared.walking.Walk.{Walk}
 use Rattle.location.specs.declared.room.Answer.{Answer}
@@ -18,19 +18,17 @@ abbrev pub Puts : List ℕ → ℕ → Walk → ℕ → List ℕ → List ℕ �
 Puts s L w count out after = (l : List Span) → Left s L w l → length l ≡ count → after ≡ front (triples l) out
 
 -- the spans of a location that keeps rule 25 are asked
-pub record Asked (L : ℕ) (w : List ℕ) (t : Location) : Type 0 where
-  pub located : Locates t w
+pub record Asked (s : List ℕ) (L : ℕ) (t : Location) : Type 0 where
+  pub spelled : Spells s t
   pub right : breaks25 L t ≡ false
 
--- of whichever text as read the bytes are written from; a refusal "changes no lent output"
+-- of whatever bytes; a refusal "changes no lent output"
 abbrev pub Answers : List ℕ → ℕ → List ℕ → Answer → List ℕ → Type 0
-Answers s L out answer.Bad after = (after ≡ out) × ((w : List ℕ) → s ≡ raw w → (t : Location) → Locates t w → ⊥)
-Answers s L out answer.Wrong after = (after ≡ out) × ((w : List ℕ) → s ≡ raw w → (t : Location) × Locates t w × (breaks25 L t ≡ true))
-Answers s L out answer.Short after =
-    (after ≡ out) × ((w : List ℕ) → s ≡ raw w → (t : Location) × Asked L w t × (length out < length (triples (spans t))))
+Answers s L out answer.Bad after = (after ≡ out) × ((t : Location) → Spells s t → ⊥)
+Answers s L out answer.Wrong after = (after ≡ out) × ((t : Location) × Spells s t × (breaks25 L t ≡ true))
+Answers s L out answer.Short after = (after ≡ out) × ((t : Location) × Asked s L t × (length out < length (triples (spans t))))
 Answers s L out (answer.Are operator count) after =
-    (w : List ℕ) → s ≡ raw w
-    → (t : Location) × Asked L w t × (operator ≡ operatorNumber t) × (count ≡ length (spans t)) × (length (triples (spans t)) ≤ length out)
+    (t : Location) × Asked s L t × (operator ≡ operatorNumber t) × (count ≡ length (spans t)) × (length (triples (spans t)) ≤ length out)
     × (after ≡ front (triples (spans t)) out)
 
 -- the answer on the part that stands from here to there

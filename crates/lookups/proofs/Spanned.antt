@@ -6,7 +6,7 @@ use mathlib.Core.Logic.{inl}
 use mathlib.Core.List.{List}
 use lib.ListN.{length}
 use Rattle.paper.specs.Bytes.{raw}
-use Rattle.paper.specs.Locations.{Location, spans, operatorNumber, breaks25}
+use Rattle.paper.specs.Locations.{Location, Locates, spans, operatorNumber, breaks25}
 use Rattle.paper.specs.Answers.{refuse, give, triples, front, FindsFeature, FindsLocation, SpansSays}
 use Rattle.paper.specs.Answers as paper
 use Rattle.walk.specs.declared.FoundSequence.{FoundSequence}
@@ -15,9 +15,11 @@ use Rattle.judging.specs.Sets.{rule-24, rule-25}
 use Rattle.judging.specs.Known.{Knows}
 use Rattle.judging.specs.declared.Known.{Known}
 use Rattle.judging.proofs.Bytes.{text-shown}
+use Rattle.location.specs.Judging.{Spells}
 use Rattle.location.specs.Room.{Answers, AnswersPart}
 use Rattle.location.specs.declared.room.Answer.{Answer}
 use Rattle.location.specs.declared.room.Answer.the-variants as answer
+use Rattle.location.proofs.Verdicts.{read-as}
 use Rattle.translating.specs.Plans.{Keeps}
 use Rattle.finding.specs.Finds.{FeatureIs}
 use Rattle.lookups.specs.Shows.{KnowsSequence, noSpans}
@@ -46,6 +48,10 @@ module _ {w : List ℕ} {k j : ℕ} {s : FoundSequence} {f : FoundFeature} (i : 
   pub feature-keeps : Keeps (i .sequence .asked) (i .feature .asked)
   feature-keeps = keeps-feature (accepts (i .sequence .finds)) (i .feature .asked) (i .feature .numbered .0, i .feature .numbered .2)
 
+  -- what its bytes are is what its text as read is
+  located : {t : Location} → Spells (raw (i .feature .asked .location .read)) t → Locates t (i .feature .asked .location .read)
+  located x = read-as x (i .feature .asked .location .read) refl
+
   module _ {known : Known} (h : KnowsSequence w s known) {r : Answer} {out after : List ℕ}
       (a : AnswersPart w (f .location .from) (f .location .to) (known .top) out r after) where
     answered : {q : Answer} → r ≡ q → Answers (raw (i .feature .asked .location .read)) (known .top) out q after
@@ -55,14 +61,14 @@ module _ {w : List ℕ} {k j : ℕ} {s : FoundSequence} {f : FoundFeature} (i : 
 
     pub spans-found : {o c : ℕ} → r ≡ answer.Are o c → SpansSays w k j out 0 0 o c after
     spans-found e =
-        let z = answered e (i .feature .asked .location .read) refl in
-        spans-are (paper.location feature-found (z .1 .located)) (z .2) (z .3) (z .4) (z .5)
+        let z = answered e in
+        spans-are (paper.location feature-found (located (z .1 .spelled))) (z .2) (z .3) (z .4) (z .5)
 
     pub spans-short : {v : SpansAnswer} → r ≡ answer.Short → v ≡ noSpans 34 0 → SpansSays w k j out (v .number) (v .place) (v .operator) (v .count) after
     spans-short e n =
         let b = answered e in
-        let z = b .1 (i .feature .asked .location .read) refl in
-        subst (SaysSpans w k j out after) (sym n) (rw (b .0) (paper.short (paper.location feature-found (z .1 .located)) (z .2)))
+        let z = b .1 in
+        subst (SaysSpans w k j out after) (sym n) (rw (b .0) (paper.short (paper.location feature-found (located (z .1 .spelled))) (z .2)))
 
     -- rule 24 isn't broken, nor is rule 25
     pub spans-none : {n p o c : ℕ} → r ≡ answer.Bad → SpansSays w k j out n p o c after
@@ -70,12 +76,11 @@ module _ {w : List ℕ} {k j : ℕ} {s : FoundSequence} {f : FoundFeature} (i : 
         let b = answered e in
         absurd
         (feature-keeps .feature 24 (i .feature .asked .location .place)
-        (inl (rule-24 (λ t l. b .1 (i .feature .asked .location .read) refl t l))))
+        (inl (rule-24 (λ t l. b .1 t (record { text = i .feature .asked .location .read; written = refl; located = l })))))
 
     pub spans-wrong : {n p o c : ℕ} → r ≡ answer.Wrong → SpansSays w k j out n p o c after
     spans-wrong e =
-        let b = answered e in
-        let z = b .1 (i .feature .asked .location .read) refl in
+        let z = answered e .1 in
         absurd
         (feature-keeps .feature 25 (i .feature .asked .location .place)
-        (inl (rule-25 (z .0) (z .1) (subst (λ (n : ℕ). breaks25 n (z .0) ≡ true) (found-knows h .size) (z .2)))))
+        (inl (rule-25 (z .0) (located (z .1)) (subst (λ (n : ℕ). breaks25 n (z .0) ≡ true) (found-knows h .size) (z .2)))))

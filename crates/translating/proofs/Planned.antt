@@ -16,6 +16,7 @@ use Rattle.walk.specs.declared.FoundFeature.{FoundFeature}
 use Rattle.location.specs.Judging.{JudgesPart, Judged as Placed}
 use Rattle.location.specs.declared.judging.Verdict.{Verdict}
 use Rattle.location.specs.declared.judging.Verdict.the-variants.{Bad, Is}
+use Rattle.location.proofs.Verdicts.{judged-by}
 use Rattle.translation.specs.Reading.{Codes}
 use Rattle.translation.specs.Translating.{lettersOf}
 use Rattle.judging.specs.Sets.{rule-18, rule-24, rule-25, rule-27}
@@ -59,7 +60,7 @@ module _ {s wk : List ℕ} {known : Known} {g : FoundFeature} {named : Bool} (sk
     planned : (q : Sequence ℕ) (f : Feature ℕ) (e : ℕ) → Knows s q known → IsFeature s f e g → Keeps q f → Coding q f × Placed (L q) (f .location .read) v × StartIs f r
     planned q f e k i keeps =
         let c = tells-true named h (nc .says q f (k .kind) (part-shows (i .key) sk)) in
-        let j = subst (λ (n : ℕ). Placed n (f .location .read) v) (k .size) (jl .is (raw (f .location .read)) (text-shown (i .location)) (f .location .read) refl) in
+        let j = subst (λ (n : ℕ). Placed n (f .location .read) v) (k .size) (judged-by (known .top) v (jl .is (raw (f .location .read)) (text-shown (i .location))) (f .location .read) refl) in
         (c, j, st .says (L q) f (i .stop) (i .quals) (i .closes) j (λ n. keeps .feature 27 (f .key .place) (inr (rule-27 c n))))
 
     pub plan-unjudged : r ≡ start.Unjudged → Plans s known g plan.Unjudged

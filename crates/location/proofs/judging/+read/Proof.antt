@@ -9,7 +9,7 @@ use Rattle.paper.specs.Bytes.{bytes}
 use Rattle.location.specs.declared.judging.Out.the-variants.{Bad, Read}
 use Rattle.location.proofs.Stand.{room}
 use Rattle.location.proofs.Levels.{lists-are, outs-are, no-depth, deep, comp-not, comp-bad, comp-open, comp-good, level-leaf, list-by, list-not}
-use Rattle.location.proofs.Gather.{Run, run-start, run-bad, run-one, run-closed, run-other, run-next}
+use Rattle.location.proofs.Gather.{Run, run-start, run-bad, run-one, passed-by, run-closed, run-other, run-next}
 use Rattle.location.proofs.judging.read.Reads as read
 use Rattle.location.proofs.judging.read.Kinds as read-kinds
 use Rattle.location.proofs.judging.+read.Lts-read as read-lts
@@ -157,7 +157,7 @@ module _ (t : ℕ) where
   enum-known-n-2 c = search needs
 
   add-member-requires : read-lts.Need-add-member-requires (claims t) (read-at t) read.Post Inv-loop μ-loop
-  add-member-requires c κs = omega (arith, c .before .before .before .before .loop .inv .few, c .before .before .before .before .loop .inv .inside)
+  add-member-requires c κs = omega (arith, c .before .before .before .before .loop .inv .few, c .before .before .before .before .loop .inv .passed .inside)
 
   byte-is-requires-2 : read-lts.Need-byte-is-requires-2 (claims t) (read-at t) read.Post Inv-loop μ-loop
   byte-is-requires-2 c κs = search needs
@@ -201,11 +201,9 @@ module _ (t : ℕ) where
       (list-by
       (lists-are (c .before .before .before .before .before .before .before .before .before .before .before .before .before .before .list-at .ensures)
       (c .before .before .before .before .before .before .before .before .before .before .before .before .operator .given .1))
-      (c .before .before .before .before .before .before .before .before .before .before .if5 .taken) (Read _ _) (
-        omega (arith, c .before .before .before .before .before .before .before .before .before .loop .inv .after, h .within .0),
-        room (bytes ")")
-            (c .before .before .before .byte-is2 .ensures) (c .before .before .if6 .taken),
-      )
+      (c .before .before .before .before .before .before .before .before .before .before .if5 .taken) (Read _ _)
+      (passed-by (c .before .before .before .before .before .before .before .before .before .loop .inv) h (bytes ")")
+      (c .before .before .before .byte-is2 .ensures) (c .before .before .if6 .taken))
       (run-closed (c .before .before .before .before .before .before .before .before .before .loop .inv) h
       (c .before .before .before .byte-is2 .ensures) (c .before .before .if6 .taken)
       (rw (c .before .before .before .before .add-member .ensures) at (c .if7 .left)))))
@@ -227,7 +225,7 @@ module _ (t : ℕ) where
       omega (
         arith,
         outs-are (c .before .before .before .before .before .before .before .before .read2 .ensures)
-            (c .before .before .before .before .before .before .n2 .given .1) .within .0,
+            (c .before .before .before .before .before .before .n2 .given .1) .within .onward,
         room (bytes ",") (c .before .byte-is3 .ensures) (c .if8 .taken),
       )
 

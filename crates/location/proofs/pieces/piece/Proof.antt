@@ -89,8 +89,8 @@ add-tail c =
 tail-requires : tie.Need-tail-requires
 tail-requires c κs =
     let h = number-is (c .before .before .before .number2 .ensures) (c .before .n2 .given .1) .within in (
-      h .2,
       h .1,
+      h .0 .inside,
       omega (
         arith,
         c .before .before .before .before .before .before .before .before .before .before .mark-if .ensures,
@@ -142,7 +142,7 @@ add-pair-2 c =
     )
 
 pair-requires : tie.Need-pair-requires
-pair-requires c κs = number-is (c .before .before .before .before .before .number3 .ensures) (c .before .before .before .n3 .given .1) .within .2
+pair-requires c κs = number-is (c .before .before .before .before .before .number3 .ensures) (c .before .before .before .n3 .given .1) .within .1
 
 returns-6 : tie.Need-returns-6
 returns-6 c =
@@ -157,8 +157,8 @@ returns-6 c =
 tail-requires-2 : tie.Need-tail-requires-2
 tail-requires-2 c κs =
     let h = number-is (c .before .before .before .before .before .number3 .ensures) (c .before .before .before .n3 .given .1) .within in (
-      h .2,
       h .1,
+      h .0 .inside,
       omega (
         arith,
         c .before .before .before .before .before .before .before .before .before .before .before .before .mark-if .ensures,

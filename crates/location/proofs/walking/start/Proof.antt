@@ -24,7 +24,7 @@ enum-known-from : tie.Need-enum-known-from
 enum-known-from c = search needs
 
 sub-end : tie.Need-sub-end
-sub-end c = let h = lists-are (c .before .before .before .list-at .ensures) (c .before .from .given .1) .within in omega (arith, h .0, h .1)
+sub-end c = let h = lists-are (c .before .before .before .list-at .ensures) (c .before .from .given .1) .within in omega (arith, h .0, h .1 .inside)
 
 returns-2 : tie.Need-returns-2
 returns-2 c =
