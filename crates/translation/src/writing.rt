@@ -52,7 +52,7 @@ fn sized(a: Count) -> Size
     Size::Is(a.n)
 }
 
-// The bits that all letters of 256 codons of a span share, from the codon `from` on. A stop is below 64, so what is 64 or more has met none;
+// The bits that all letters of 64 codons of a span share, from the codon `from` on. A stop is below 64, so what is 64 or more has met none;
 // one test for so many codons, and no exit from the loop.
 fn shared_bits(
     r: &[u8],
@@ -64,14 +64,14 @@ fn shared_bits(
     turns: &[u8; 256],
     table: &[u8; 4096],
 ) -> u8
-    requires { ⌜ low + 3 * (from + 256) ≤ high ⌝ }
+    requires { ⌜ low + 3 * (from + 64) ≤ high ⌝ }
     requires { ⌜ high ≤ length (now r) ⌝ }
     requires { ⌜ SetTable (now sets) ⌝ }
     requires { ⌜ TurnTable (now turns) ⌝ }
     requires { ⌜ LetterTable (now table) ⌝ }
-    ensures { λ y. ⌜ (64 ≤ y → NoStops (spanLetters (now (r .entry)) low high turned) from (from + 256)) ⌝ }
+    ensures { λ y. ⌜ (64 ≤ y → NoStops (spanLetters (now (r .entry)) low high turned) from (from + 64)) ⌝ }
 {
-    let end = from + 256;
+    let end = from + 64;
     let mut bits: u8 = 255;
     let mut k = from;
     while k < end {
@@ -100,11 +100,11 @@ fn clear_blocks(
 {
     let whole = (high - low) / 3;
     let mut k: usize = 0;
-    while 256 <= whole - k {
+    while 64 <= whole - k {
         if shared_bits(r, low, high, turned, k, sets, turns, table) < 64 {
             return k;
         }
-        k += 256;
+        k += 64;
     }
     k
 }

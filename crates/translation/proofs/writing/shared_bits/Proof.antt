@@ -34,7 +34,7 @@ loop-again : tie.Need-loop-again Inv-loop μ-loop
 loop-again c = (omega arith, none-shared (c .before .before .loop .inv .1) (c .letter-at .ensures))
 
 returns : tie.Need-returns Inv-loop μ-loop
-returns c = λ h. let e : c .before .loop .k ≡ c .before .before .before .args .from + 256 = omega arith in subst (NoStops (spanLetters (c .before .before .before .args .r .now) (c .before .before .before .args .low) (c .before .before .before .args .high) (c .before .before .before .args .turned)) (c .before .before .before .args .from)) e (c .before .loop .inv .1 h)
+returns c = λ h. let e : c .before .loop .k ≡ c .before .before .before .args .from + 64 = omega arith in subst (NoStops (spanLetters (c .before .before .before .args .r .now) (c .before .before .before .args .low) (c .before .before .before .args .high) (c .before .before .before .args .turned)) (c .before .before .before .args .from)) e (c .before .loop .inv .1 h)
 
 pub shared-bits-spec : {M : Type 1} → statement M
 shared-bits-spec =
