@@ -11,7 +11,7 @@ bool libxml2_open(const char *dtd_file);
 /* Reads and validates a listing; false if the peer refuses it. The tree is kept until libxml2_forget. */
 bool libxml2_read(const char *listing, size_t length);
 
-/* Frees the tree, outside the time that is measured. */
+/* Frees the tree. */
 void libxml2_forget(void);
 
 void libxml2_close(void);
