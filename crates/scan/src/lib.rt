@@ -20,14 +20,14 @@ pub enum Step {
     Fail(usize),
 }
 
-pub fn most(a: usize, b: usize) -> usize
+fn most(a: usize, b: usize) -> usize
     ensures { λ r. ⌜ r ≡ max a b ⌝ }
 {
     if a < b { b } else { a }
 }
 
 // What `st` says, where some layout goes to `far` at least.
-pub fn raise(far: usize, st: Step) -> Step
+fn raise(far: usize, st: Step) -> Step
     ensures { λ r. ⌜ r ≡ raised far st ⌝ }
 {
     match st {
@@ -40,7 +40,7 @@ pub fn raise(far: usize, st: Step) -> Step
 }
 
 // The first of two readings that succeeds.
-pub fn either(a: Step, b: Step) -> Step
+fn either(a: Step, b: Step) -> Step
     ensures { λ r. ⌜ r ≡ chosen a b ⌝ }
 {
     match a {
@@ -219,7 +219,7 @@ pub fn blanks(s: &[u8], st: Step) -> Step
 }
 
 // One blank.
-pub fn blank(s: &[u8], st: Step) -> Step
+fn blank(s: &[u8], st: Step) -> Step
     ensures { λ r. ⌜ Passes (one isBlank) anything (now (s .entry)) st r ⌝ }
 {
     let Step::Ok { next, far } = st else {
@@ -245,7 +245,7 @@ pub fn gap(s: &[u8], st: Step) -> Step
 }
 
 // Whether b stands for itself, in a text that may hold high bytes or not, by the lent table.
-pub fn plain_by(t: &[u8; 256], high: bool, b: u8) -> bool
+fn plain_by(t: &[u8; 256], high: bool, b: u8) -> bool
     requires { ⌜ ClassTable (now t) ⌝ }
     ensures { λ r. ⌜ r ≡ isPlain high b ⌝ }
 {
@@ -253,7 +253,7 @@ pub fn plain_by(t: &[u8; 256], high: bool, b: u8) -> bool
 }
 
 // One byte that stands for itself.
-pub fn plain(s: &[u8], st: Step, high: bool, t: &[u8; 256]) -> Step
+fn plain(s: &[u8], st: Step, high: bool, t: &[u8; 256]) -> Step
     requires { ⌜ ClassTable (now t) ⌝ }
     ensures { λ r. ⌜ Reads (One (isPlain high)) anything (now (s .entry)) st r ⌝ }
 {
@@ -273,7 +273,7 @@ pub fn plain(s: &[u8], st: Step, high: bool, t: &[u8; 256]) -> Step
 }
 
 // One character of a text.
-pub fn character(s: &[u8], st: Step, high: bool, t: &[u8; 256]) -> Step
+fn character(s: &[u8], st: Step, high: bool, t: &[u8; 256]) -> Step
     requires { ⌜ ClassTable (now t) ⌝ }
     ensures { λ r. ⌜ Reads (letter high) anything (now (s .entry)) st r ⌝ }
 {
@@ -286,7 +286,7 @@ pub fn character(s: &[u8], st: Step, high: bool, t: &[u8; 256]) -> Step
 }
 
 // The first place from `start` to `stop` whose byte does not stand for itself, byte by byte.
-pub fn scan(s: &[u8], start: usize, stop: usize, high: bool, t: &[u8; 256]) -> usize
+fn scan(s: &[u8], start: usize, stop: usize, high: bool, t: &[u8; 256]) -> usize
     requires { ⌜ ClassTable (now t) ⌝ }
     requires { ⌜ stop ≤ length (now s) ⌝ }
     ensures { λ r. ⌜ Scanned (isPlain high) (now (s .entry)) start stop r ⌝ }
@@ -302,13 +302,13 @@ pub fn scan(s: &[u8], start: usize, stop: usize, high: bool, t: &[u8; 256]) -> u
     at
 }
 
-pub fn below(a: u8, b: u8) -> u8
+fn below(a: u8, b: u8) -> u8
     ensures { λ r. ⌜ Below a b r ⌝ }
 {
     if a < b { 1 } else { 0 }
 }
 
-pub fn equal(a: u8, b: u8) -> u8
+fn equal(a: u8, b: u8) -> u8
     ensures { λ r. ⌜ Equal a b r ⌝ }
 {
     if a == b { 1 } else { 0 }
@@ -316,7 +316,7 @@ pub fn equal(a: u8, b: u8) -> u8
 
 // 0 only where b stands for itself in every text. Where not all of these are asked for, only a letter or what is near the letters:
 // that takes two tests.
-pub fn odd(b: u8, all: bool) -> u8
+fn odd(b: u8, all: bool) -> u8
     ensures { λ r. ⌜ Odd b r ⌝ }
 {
     if all {
@@ -367,7 +367,7 @@ pub fn blocks(s: &[u8], start: usize) -> usize
 }
 
 // The first place from `start` on whose byte does not stand for itself: 32 bytes by the table, and then by blocks.
-pub fn plains(s: &[u8], start: usize, high: bool, t: &[u8; 256]) -> usize
+fn plains(s: &[u8], start: usize, high: bool, t: &[u8; 256]) -> usize
     requires { ⌜ ClassTable (now t) ⌝ }
     ensures { λ r. ⌜ Scanned (isPlain high) (now (s .entry)) start (length (now (s .entry))) r ⌝ }
 {
@@ -386,7 +386,7 @@ pub fn plains(s: &[u8], start: usize, high: bool, t: &[u8; 256]) -> usize
 }
 
 // A text: any number of characters.
-pub fn text(s: &[u8], next: usize, far: usize, high: bool, t: &[u8; 256]) -> Step
+fn text(s: &[u8], next: usize, far: usize, high: bool, t: &[u8; 256]) -> Step
     requires { ⌜ ClassTable (now t) ⌝ }
     ensures { λ r. ⌜ Reads (Layout.text (allowedIn high)) (Not (isText high)) (now (s .entry)) (Step.Ok next far) r ⌝ }
 {
@@ -486,7 +486,7 @@ pub fn attribute_maybe(s: &[u8], st: Step, name: &[u8], t: &[u8; 256]) -> Step
 }
 
 // The rest of a start tag, a text and the end tag. `start` is where the element starts: the place of the text of `<X/>`.
-pub fn content(s: &[u8], st: Step, start: usize, name: &[u8], high: bool, t: &[u8; 256]) -> Step
+fn content(s: &[u8], st: Step, start: usize, name: &[u8], high: bool, t: &[u8; 256]) -> Step
     requires { ⌜ ClassTable (now t) ⌝ }
     ensures { λ r. ⌜ Reads (Layout.content (now (name .entry)) (allowedIn high) start) anything (now (s .entry)) st r ⌝ }
 {
@@ -506,7 +506,7 @@ pub fn content(s: &[u8], st: Step, start: usize, name: &[u8], high: bool, t: &[u
 }
 
 // What follows a leaf's tag, and the blanks after the leaf.
-pub fn leaf_rest(
+fn leaf_rest(
     s: &[u8],
     next: usize,
     far: usize,
