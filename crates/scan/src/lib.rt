@@ -506,14 +506,7 @@ fn content(s: &[u8], st: Step, start: usize, name: &[u8], high: bool, t: &[u8; 2
 }
 
 // What follows a leaf's tag, and the blanks after the leaf.
-fn leaf_rest(
-    s: &[u8],
-    next: usize,
-    far: usize,
-    start: usize,
-    name: &[u8],
-    t: &[u8; 256],
-) -> Step
+fn leaf_rest(s: &[u8], next: usize, far: usize, start: usize, name: &[u8], t: &[u8; 256]) -> Step
     requires { ⌜ ClassTable (now t) ⌝ }
     ensures { λ r. ⌜ Followed (Layout.content (now (name .entry)) (allowedIn false) start) Layout.blanks (now (s .entry)) (Step.Ok next far) r ⌝ }
 {
