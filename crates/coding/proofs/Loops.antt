@@ -9,10 +9,11 @@ use Rattle.paper.specs.Form.{each}
 use Rattle.paper.specs.Tree.{Qualifier}
 use Rattle.paper.specs.Layout.{child, qualifier}
 use Rattle.scan.specs.Follow.{Starts, closing}
-use Rattle.walk.specs.Stands.{Stands, There, IsPart, MaybeIs, FindsQualifier}
-use Rattle.walk.specs.declared.FoundQualifier.{FoundQualifier}
-use Rattle.walk.proofs.Items.{qualifier-leads}
-use Rattle.walk.proofs.Sequences.{qualifier-over}
+use Rattle.walk.specs.Stands.{Stands, There, IsPart, MaybeIs}
+use Rattle.items.specs.Items.{FindsQualifier}
+use Rattle.items.specs.declared.FoundQualifier.{FoundQualifier}
+use Rattle.items.proofs.Features.{qualifier-leads}
+use Rattle.items.proofs.Sequences.{qualifier-over}
 use Rattle.judging.proofs.Seen.{Seen, seen-next, seen-stuck, seen-all}
 
 -- R holds of the qualifiers from `first` up to `at`

@@ -23,9 +23,10 @@ use Rattle.scan.specs.Follow.{closing}
 use Rattle.scan.specs.Parts.{Shows}
 use Rattle.value.proofs.Tests.{tells-true, tells-false}
 use Rattle.value.proofs.Residues.{raw-symbols}
-use Rattle.walk.specs.Stands.{There, FindsQualifier}
+use Rattle.walk.specs.Stands.{There}
 use Rattle.walk.specs.declared.Part.{Part}
-use Rattle.walk.specs.declared.FoundQualifier.{FoundQualifier}
+use Rattle.items.specs.Items.{FindsQualifier}
+use Rattle.items.specs.declared.FoundQualifier.{FoundQualifier}
 use Rattle.location.specs.Judging.{Judged as Placed}
 use Rattle.location.specs.declared.judging.Facts.{Facts}
 use Rattle.location.specs.declared.judging.Verdict.{Verdict}

@@ -21,11 +21,12 @@ use Rattle.scan.specs.Parts.{Shows}
 use Rattle.value.specs.Reading.{Tells}
 use Rattle.value.proofs.Tests.{tells-true, tells-false}
 use Rattle.value.proofs.Read.{tells-word}
-use Rattle.walk.specs.Stands.{There, IsPart, MaybeIs, FindsQualifier}
+use Rattle.walk.specs.Stands.{There, IsPart, MaybeIs}
 use Rattle.walk.specs.declared.Part.{Part}
 use Rattle.walk.specs.declared.Maybe.{Maybe}
 use Rattle.walk.specs.declared.Maybe.the-variants.{Absent, Present}
-use Rattle.walk.specs.declared.FoundQualifier.{FoundQualifier}
+use Rattle.items.specs.Items.{FindsQualifier}
+use Rattle.items.specs.declared.FoundQualifier.{FoundQualifier}
 use Rattle.translation.specs.Reading.{Codes}
 use Rattle.translation.specs.Translating.{lettersOf, RightValue, RightIf, Compares}
 use Rattle.judging.specs.Sets.{Firsts, Some}

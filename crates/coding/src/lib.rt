@@ -1,5 +1,6 @@
 // One coding region of DNA or RNA: rules 27 and 28, and whether it is judged.
 // Relies on the walk along its qualifiers, the values, the judged location and the translation.
+use items::FoundQualifier;
 use judging::Known;
 use judging::earlier;
 use location::judging::Verdict;
@@ -8,7 +9,6 @@ use scan::bytes_of;
 use translation::comparing::is_right;
 use value::Kind;
 use value::same;
-use walk::FoundQualifier;
 use walk::Maybe;
 use walk::Part;
 ghost use Rattle.codon.specs.Tables.{SetTable, TurnTable, LetterTable};
@@ -142,8 +142,8 @@ fn gather(s: &[u8], first: usize) -> Noted
     let mut frame = Frame::Unstated;
     let mut excepted = false;
     loop {
-        if walk::qualifier_here(s, at) {
-            let FoundQualifier { name, value, next } = walk::qualifier(s, at);
+        if items::qualifier_here(s, at) {
+            let FoundQualifier { name, value, next } = items::qualifier(s, at);
             if next <= at {
                 return Noted {
                     frame,
@@ -340,8 +340,8 @@ fn translations(
     let mut fault = Fault::Clean;
     let mut right = Maybe::Absent;
     loop {
-        if walk::qualifier_here(s, at) {
-            let FoundQualifier { name, value, next } = walk::qualifier(s, at);
+        if items::qualifier_here(s, at) {
+            let FoundQualifier { name, value, next } = items::qualifier(s, at);
             if next <= at {
                 return fault;
             }

@@ -14,9 +14,10 @@ use Rattle.paper.specs.declared.Fault.{Fault}
 use Rattle.paper.specs.declared.Fault.the-variants.{Clean, At}
 use Rattle.scan.specs.Follow.{Not, Starts, closing}
 use Rattle.scan.specs.Parts.{Shows}
-use Rattle.walk.specs.Stands.{Stands, Ends, Over, FindsFeature, IsFeature, featureTail}
-use Rattle.walk.specs.declared.FoundFeature.{FoundFeature}
+use Rattle.walk.specs.Stands.{Stands, Ends, Over}
 use Rattle.walk.proofs.Places.{from}
+use Rattle.items.specs.Items.{FindsFeature, IsFeature, featureTail}
+use Rattle.items.specs.declared.FoundFeature.{FoundFeature}
 use Rattle.value.specs.Reading.{Tells}
 use Rattle.value.proofs.Tests.{told}
 use Rattle.location.specs.Judging.{Judged, JudgesPart}

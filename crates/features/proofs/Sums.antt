@@ -14,9 +14,10 @@ use Rattle.paper.specs.Tree.{Text, Table, Sequence, Feature, featuresIn, featur
 use Rattle.paper.specs.Rules.{tablePlace}
 use Rattle.paper.specs.declared.Fault.{Fault}
 use Rattle.scan.specs.Follow.{Not, closing}
-use Rattle.walk.specs.Stands.{There, Over, TableIs}
-use Rattle.walk.specs.declared.FoundTable.{FoundTable}
-use Rattle.walk.proofs.Sequences.{feature-leads}
+use Rattle.walk.specs.Stands.{There, Over}
+use Rattle.items.specs.Items.{TableIs}
+use Rattle.items.specs.declared.FoundTable.{FoundTable}
+use Rattle.items.proofs.Sequences.{feature-leads}
 use Rattle.judging.specs.Known.{Knows}
 use Rattle.judging.specs.declared.Known.{Known}
 use Rattle.judging.proofs.Seen.{Seen, seen-none, seen-next, seen-stuck, seen-all}

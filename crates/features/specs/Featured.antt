@@ -14,8 +14,9 @@ use Rattle.paper.specs.Rules.{L, Kind, IsKind, Keyed, sourceName, Coding, Unjud
 use Rattle.paper.specs.declared.Fault.{Fault}
 use Rattle.paper.specs.declared.Fault.the-variants.{Clean, At}
 use Rattle.scan.specs.Follow.{Not, Starts, closing}
-use Rattle.walk.specs.Stands.{Stands, TableIs}
-use Rattle.walk.specs.declared.FoundTable.{FoundTable}
+use Rattle.walk.specs.Stands.{Stands}
+use Rattle.items.specs.Items.{TableIs}
+use Rattle.items.specs.declared.FoundTable.{FoundTable}
 use Rattle.value.specs.Reading.{Tells, KindIs}
 use Rattle.value.specs.declared.Kind as code
 use Rattle.value.specs.declared.Kind.the-variants as kind

@@ -1,13 +1,13 @@
 // The features of a sequence: rules 21 to 28, and the counts of features and coding regions.
 // Relies on the walk along the table, the judged location, and the crates for a source and a coding region.
 use coding::Region;
+use items::FoundFeature;
+use items::FoundTable;
 use judging::Known;
 use location::judging::Verdict;
 use paper::Fault;
 use source::Sourced;
 use value::Kind;
-use walk::FoundFeature;
-use walk::FoundTable;
 ghost use mathlib.Core.Path.{_≡_};
 ghost use Rattle.codon.specs.Tables.{SetTable, TurnTable, LetterTable};
 ghost use Rattle.features.specs.Featured.{placeFault, NamesSource, roleOf, nothingYet, upTo, Adds, Finishes, WithSource, Tables, JudgesFeature, JudgesFeatures, JudgesTable};
@@ -231,7 +231,7 @@ fn judge_feature(
         location,
         quals,
         long,
-    } = walk::feature(s, at);
+    } = items::feature(s, at);
     let kind = known.kind;
     let verdict = location::judging::judge_location(s, location.from, location.to, known.top);
     let place = judge_place(verdict, kind, location.from);
@@ -242,7 +242,7 @@ fn judge_feature(
             fault: place,
             source: fault,
             role: Role::Source,
-            next: walk::feature_end(s, next, long),
+            next: items::feature_end(s, next, long),
         };
     }
     if coding::is_coding(name, kind) {
@@ -265,15 +265,15 @@ fn judge_feature(
             fault: judging::earlier(place, fault),
             source: Fault::Clean,
             role: role_of(unjudged),
-            next: walk::feature_end(s, next, long),
+            next: items::feature_end(s, next, long),
         };
     }
-    let a = walk::qualifiers_over(s, quals);
+    let a = items::qualifiers_over(s, quals);
     Featured {
         fault: place,
         source: Fault::Clean,
         role: Role::Plain,
-        next: walk::feature_end(s, a, long),
+        next: items::feature_end(s, a, long),
     }
 }
 
@@ -294,7 +294,7 @@ fn judge_features(
     let mut at = first;
     let mut tally = no_features();
     loop {
-        if walk::feature_here(s, at) {
+        if items::feature_here(s, at) {
             let x = judge_feature(s, at, known, sets, turns, table);
             let next = x.next;
             if next <= at {

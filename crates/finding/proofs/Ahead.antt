@@ -13,13 +13,14 @@ use Rattle.paper.specs.Layout.{child}
 use Rattle.paper.specs.Layout as layout
 use Rattle.scan.specs.Follow.{Not, Starts, Before, closing}
 use Rattle.scan.proofs.Fronts.{Leads}
-use Rattle.walk.specs.Stands.{Stands, There, tagOf, Over, FindsSequence}
-use Rattle.walk.specs.declared.FoundSequence.{FoundSequence}
+use Rattle.walk.specs.Stands.{Stands, There, tagOf, Over}
 use Rattle.walk.proofs.Places.{from}
-use Rattle.walk.proofs.Items.{qualifier-leads}
-use Rattle.walk.proofs.Sequences.{sequence-leads, feature-leads}
 use Rattle.walk.proofs.Loops.{left-none, left-some}
 use Rattle.walk.proofs.Loops as loops
+use Rattle.items.specs.Items.{FindsSequence}
+use Rattle.items.specs.declared.FoundSequence.{FoundSequence}
+use Rattle.items.proofs.Features.{qualifier-leads}
+use Rattle.items.proofs.Sequences.{sequence-leads, feature-leads}
 use Rattle.finding.specs.Items.{Asked, nameOf, formOf, Seeks}
 use Rattle.finding.specs.declared.Item.{Item}
 use Rattle.finding.specs.declared.Item.the-variants.{Sequence, Feature, Qualifier}

@@ -15,12 +15,12 @@ use Rattle.paper.specs.Answers as paper
 use Rattle.paper.specs.declared.Verdict.the-variants.{Accepted}
 use Rattle.value.specs.Reading.{Tells}
 use Rattle.value.proofs.Tests.{tells-true, tells-false}
-use Rattle.walk.specs.Stands.{IsSequence, TableIs}
-use Rattle.walk.specs.Stands as walk
-use Rattle.walk.specs.declared.FoundSequence.{FoundSequence}
-use Rattle.walk.specs.declared.FoundFeature.{FoundFeature}
-use Rattle.walk.specs.declared.FoundQualifier.{FoundQualifier}
-use Rattle.walk.specs.declared.FoundTable.{FoundTable}
+use Rattle.items.specs.Items.{IsSequence, TableIs}
+use Rattle.items.specs.Items as items
+use Rattle.items.specs.declared.FoundSequence.{FoundSequence}
+use Rattle.items.specs.declared.FoundFeature.{FoundFeature}
+use Rattle.items.specs.declared.FoundQualifier.{FoundQualifier}
+use Rattle.items.specs.declared.FoundTable.{FoundTable}
 use Rattle.header.specs.Headers.{JudgesHeader}
 use Rattle.header.specs.declared.Headed.{Headed}
 use Rattle.texts.specs.Texts.{TellsSkipped}
@@ -54,7 +54,7 @@ module _ {w : List ℕ} {first k : ℕ} (f : FirstIs w first) where
   pub no-sequence : SeeksIn (child layout.sequence) w first k Missing → FindsSequence w k (refuse 30 0)
   no-sequence n = paper.no-sequence (f .accepted) (sought n)
 
-  module _ {at : ℕ} {r : FoundSequence} {b : Bool} (n : SeeksIn (child layout.sequence) w first k (At at)) (found : walk.FindsSequence w at r)
+  module _ {at : ℕ} {r : FoundSequence} {b : Bool} (n : SeeksIn (child layout.sequence) w first k (At at)) (found : items.FindsSequence w at r)
       (tells : TellsSkipped w (r .residues) b) where
     here : Here (child layout.sequence) w (f .listing .sequences) k at
     here = sought n
@@ -92,7 +92,7 @@ module _ {w : List ℕ} {j : ℕ} where
     no-feature h n = record { says = λ q e x. (refl, refl, sought-in (r .table) h n (q .table) (x .table)) }
 
     pub feature-so : {at : ℕ} {f : FoundFeature} → not (r .table .present) ≡ false → SeeksIn (child layout.feature) w (r .table .first) j (At at)
-        → walk.FindsFeature w at f → FeatureFound w r j (feature.Found r f)
+        → items.FindsFeature w at f → FeatureFound w r j (feature.Found r f)
     feature-so h n found =
         record {
           says =
@@ -120,7 +120,7 @@ module _ {w : List ℕ} {g : FoundFeature} {i : ℕ} where
   pub no-qualifier : SeeksIn (child layout.qualifier) w (g .quals) i Missing → QualifierFound w g i (qualifier.Refused 33 0)
   no-qualifier n = record { says = λ f e x. (refl, refl, n .says (qualifiersOf f) (x .stop) (x .quals) (x .closes)) }
 
-  pub qualifier-so : {at : ℕ} {r : FoundQualifier} → SeeksIn (child layout.qualifier) w (g .quals) i (At at) → walk.FindsQualifier w at r
+  pub qualifier-so : {at : ℕ} {r : FoundQualifier} → SeeksIn (child layout.qualifier) w (g .quals) i (At at) → items.FindsQualifier w at r
       → QualifierFound w g i (qualifier.Found r)
   qualifier-so n found =
       record {

@@ -9,10 +9,11 @@ use Rattle.paper.specs.Tree.{Qualifier, Feature, Sequence, Listing, featuresOf,
 use Rattle.paper.specs.Layout.{child, sequence}
 use Rattle.paper.specs.Answers.{refuse, give, Checked, FindsSequence, FindsFeature, FindsQualifier}
 use Rattle.scan.specs.Follow.{Starts, closing}
-use Rattle.walk.specs.Stands.{Stands, IsSequence, IsFeature, IsQualifier}
-use Rattle.walk.specs.declared.FoundSequence.{FoundSequence}
-use Rattle.walk.specs.declared.FoundFeature.{FoundFeature}
-use Rattle.walk.specs.declared.FoundQualifier.{FoundQualifier}
+use Rattle.walk.specs.Stands.{Stands}
+use Rattle.items.specs.Items.{IsSequence, IsFeature, IsQualifier}
+use Rattle.items.specs.declared.FoundSequence.{FoundSequence}
+use Rattle.items.specs.declared.FoundFeature.{FoundFeature}
+use Rattle.items.specs.declared.FoundQualifier.{FoundQualifier}
 use Rattle.finding.specs.declared.First.{First}
 use Rattle.finding.specs.declared.First.the-variants as first
 use Rattle.finding.specs.declared.SequenceAt.{SequenceAt}

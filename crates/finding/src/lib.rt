@@ -1,10 +1,10 @@
 // Finds the sequence, the feature or the qualifier of a number in an accepted listing, with the refusals 30 to 33 in their order.
-// Relies on the check, the judged header for where the sequences stand, and the walk.
+// Relies on the check, the judged header for where the sequences stand, and the walk along the items.
 use header::Headed;
+use items::FoundFeature;
+use items::FoundQualifier;
+use items::FoundSequence;
 use paper::Verdict;
-use walk::FoundFeature;
-use walk::FoundQualifier;
-use walk::FoundSequence;
 ghost use Rattle.paper.specs.Bytes.{isBlank};
 ghost use Rattle.scan.specs.Follow.{Not};
 ghost use Rattle.walk.specs.Stands.{There, tagOf, Over};
@@ -23,9 +23,9 @@ fn item_here(s: &[u8], at: usize, item: Item) -> bool
     ensures { λ r. ⌜ There (tagOf (nameOf item)) (now (s .entry)) at r ⌝ }
 {
     match item {
-        Item::Sequence => walk::sequence_here(s, at),
-        Item::Feature => walk::feature_here(s, at),
-        Item::Qualifier => walk::qualifier_here(s, at),
+        Item::Sequence => items::sequence_here(s, at),
+        Item::Feature => items::feature_here(s, at),
+        Item::Qualifier => items::qualifier_here(s, at),
     }
 }
 
@@ -44,16 +44,16 @@ fn item_over(s: &[u8], at: usize, item: Item) -> usize
                 table: _,
                 residues: _,
                 next,
-            } = walk::sequence(s, at);
+            } = items::sequence(s, at);
             next
         }
-        Item::Feature => walk::feature_over(s, at),
+        Item::Feature => items::feature_over(s, at),
         Item::Qualifier => {
             let FoundQualifier {
                 name: _,
                 value: _,
                 next,
-            } = walk::qualifier(s, at);
+            } = items::qualifier(s, at);
             next
         }
     }
@@ -135,7 +135,7 @@ pub fn find_sequence(listing: &[u8], k: usize) -> SequenceAt
         First::At(first) => match nth(listing, first, k, Item::Sequence) {
             Place::Missing => SequenceAt::Refused { rule: 30, place: 0 },
             Place::At(at) => {
-                let found = walk::sequence(listing, at);
+                let found = items::sequence(listing, at);
                 if texts::is_skipped(listing, found.residues) {
                     return SequenceAt::Refused { rule: 31, place: 0 };
                 }
@@ -167,7 +167,7 @@ fn feature_in(listing: &[u8], sequence: FoundSequence, j: usize) -> FeatureAt
         Place::Missing => FeatureAt::Refused { rule: 32, place: 0 },
         Place::At(at) => FeatureAt::Found {
             sequence,
-            feature: walk::feature(listing, at),
+            feature: items::feature(listing, at),
         },
     }
 }
@@ -193,7 +193,7 @@ fn qualifier_in(listing: &[u8], feature: FoundFeature, i: usize) -> QualifierAt
 {
     match nth(listing, feature.quals, i, Item::Qualifier) {
         Place::Missing => QualifierAt::Refused { rule: 33, place: 0 },
-        Place::At(at) => QualifierAt::Found(walk::qualifier(listing, at)),
+        Place::At(at) => QualifierAt::Found(items::qualifier(listing, at)),
     }
 }
 

@@ -21,16 +21,16 @@ use Rattle.scan.specs.Follow.{Not, closing}
 use Rattle.scan.proofs.Fronts.{leads-by, whole, each-starts, starts-sharp}
 use Rattle.scan.specs.Parts.{Shows}
 use Rattle.walk.specs.Stands.{IsPart, MaybeIs, Finds, Over}
-use Rattle.walk.specs.Header.{officeIn, filedIn, languageIn, identifiedBy, FindsSpoken, Behind, FindsHeader}
 use Rattle.walk.specs.declared.Part.{Part}
 use Rattle.walk.specs.declared.Found.{Found}
-use Rattle.walk.specs.declared.FoundHeader.{FoundHeader}
 use Rattle.walk.specs.declared.Maybe.{Maybe}
 use Rattle.walk.specs.declared.Maybe.the-variants.{Absent, Present}
 use Rattle.walk.proofs.Places.{before, from}
-use Rattle.walk.proofs.Sequences.{sequence-leads}
 use Rattle.walk.proofs.Leaves.{starts-at}
-use Rattle.walk.proofs.Items.{leaf-leads}
+use Rattle.walk.proofs.Elements.{leaf-leads}
+use Rattle.items.proofs.Sequences.{sequence-leads}
+use Rattle.heading.specs.Header.{officeIn, filedIn, languageIn, identifiedBy, FindsSpoken, Behind, FindsHeader}
+use Rattle.heading.specs.declared.FoundHeader.{FoundHeader}
 use Rattle.judging.specs.Sets.{Firsts, Bad, InHeader, rule-10, rule-11, rule-12, rule-13, unlessOf}
 use Rattle.judging.proofs.Faults.{firsts-or, firsts-as, firsts-none}
 use Rattle.judging.proofs.Values.{text-fault}

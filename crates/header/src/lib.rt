@@ -1,7 +1,7 @@
 // The header: rules 10 to 13. Relies on the walk along it, the values and what the judge's parts share.
+use heading::FoundHeader;
 use paper::Fault;
 use walk::Found;
-use walk::FoundHeader;
 use walk::Maybe;
 use walk::Part;
 ghost use Rattle.paper.specs.Values.{Date, Two, isUpper, isLower};
@@ -86,8 +86,8 @@ fn judge_titles(s: &[u8], first: usize) -> Spoke
     let mut at = first;
     let mut fault = Fault::Clean;
     loop {
-        if walk::title_here(s, at) {
-            let Found { part, next } = walk::title(s, at);
+        if heading::title_here(s, at) {
+            let Found { part, next } = heading::title(s, at);
             if next <= at {
                 return Spoke { fault, next: at };
             }
@@ -133,7 +133,7 @@ pub fn judge_header(s: &[u8]) -> Headed
         applicant,
         inventor,
         titles,
-    } = walk::header(s);
+    } = heading::header(s);
     let a = judge_version(s, version);
     let b = judge_dates(s, produced, filed, first_filed);
     let c = judge_offices(s, office, first_office);
@@ -141,7 +141,7 @@ pub fn judge_header(s: &[u8]) -> Headed
     let Found {
         part: total,
         next: first,
-    } = walk::total(s, e);
+    } = heading::total(s, e);
     let f = judging::earlier(a, b);
     let g = judging::earlier(c, d);
     Headed {

@@ -9,9 +9,9 @@ use Rattle.scan.specs.Parts.{Shows}
 use Rattle.value.specs.Reading.{Moltypes}
 use Rattle.value.specs.declared.Kind.{Kind}
 use Rattle.judging.proofs.Bytes.{part-shows}
-use Rattle.walk.specs.declared.FoundSequence.{FoundSequence}
-use Rattle.walk.specs.declared.FoundFeature.{FoundFeature}
-use Rattle.walk.specs.declared.FoundQualifier.{FoundQualifier}
+use Rattle.items.specs.declared.FoundSequence.{FoundSequence}
+use Rattle.items.specs.declared.FoundFeature.{FoundFeature}
+use Rattle.items.specs.declared.FoundQualifier.{FoundQualifier}
 use Rattle.finding.specs.Finds.{SequenceIs, FeatureIs, QualifierIs}
 use Rattle.lookups.specs.Shows.{noStretch, partIs, Lies, StretchOf, IsPresent, ValueOf, kindIs}
 use Rattle.lookups.specs.declared.Stretch.{Stretch}

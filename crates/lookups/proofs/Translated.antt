@@ -3,8 +3,8 @@ use Prim.Native.Nat.{ℕ}
 use mathlib.Core.List.{List}
 use Rattle.paper.specs.Answers.{refuse, FindsSequence, FindsFeature, TranslationSays, TranslationsSays}
 use Rattle.paper.specs.Answers as paper
-use Rattle.walk.specs.declared.FoundSequence.{FoundSequence}
-use Rattle.walk.specs.declared.FoundFeature.{FoundFeature}
+use Rattle.items.specs.declared.FoundSequence.{FoundSequence}
+use Rattle.items.specs.declared.FoundFeature.{FoundFeature}
 use Rattle.judging.specs.declared.Known.{Known}
 use Rattle.finding.specs.Finds.{SequenceIs, FeatureIs}
 use Rattle.translating.specs.Lines.{TranslatesOne, TranslatesAll}

@@ -10,10 +10,11 @@ use Rattle.paper.specs.Answers.{limit, shown, partOf, isPresent, valuePart, Seq
 use Rattle.paper.specs.Answers as paper
 use Rattle.value.specs.declared.Kind.{Kind}
 use Rattle.value.specs.declared.Kind.the-variants.{Dna, Rna, Aa, Other}
-use Rattle.walk.specs.Stands.{IsPart, MaybeIs, IsSequence}
+use Rattle.walk.specs.Stands.{IsPart, MaybeIs}
 use Rattle.walk.specs.declared.Part.{Part}
 use Rattle.walk.specs.declared.Maybe.{Maybe}
-use Rattle.walk.specs.declared.FoundSequence.{FoundSequence}
+use Rattle.items.specs.Items.{IsSequence}
+use Rattle.items.specs.declared.FoundSequence.{FoundSequence}
 use Rattle.judging.specs.Known.{Knows}
 use Rattle.judging.specs.declared.Known.{Known}
 use Rattle.lookups.specs.declared.Stretch.{Stretch}

@@ -18,9 +18,10 @@ use Rattle.paper.specs.declared.Fault.{Fault}
 use Rattle.paper.specs.declared.Fault.the-variants.{Clean, At}
 use Rattle.paper.proofs.Firsts.{_or_}
 use Rattle.scan.specs.Follow.{Not}
-use Rattle.walk.specs.Stands.{Stands, FindsSequence, IsPart, TableIs, isThere}
-use Rattle.walk.specs.declared.FoundSequence.{FoundSequence}
-use Rattle.walk.specs.declared.FoundTable.{FoundTable}
+use Rattle.walk.specs.Stands.{Stands, IsPart, isThere}
+use Rattle.items.specs.Items.{FindsSequence, TableIs}
+use Rattle.items.specs.declared.FoundSequence.{FoundSequence}
+use Rattle.items.specs.declared.FoundTable.{FoundTable}
 use Rattle.value.specs.Reading.{Tells}
 use Rattle.value.proofs.Tests.{told}
 use Rattle.judging.specs.Sets.{Firsts, Bad, InTexts, InTable, InSequence, rule-15, rule-29, texts, table, Empty, unlessOf}

@@ -16,7 +16,7 @@ use Rattle.paper.specs.declared.Fault.{Fault}
 use Rattle.paper.proofs.Lists.{count-map, length-map}
 use Rattle.scan.specs.Follow.{Not, closing}
 use Rattle.walk.specs.Stands.{Stands, There, Over}
-use Rattle.walk.proofs.Sequences.{sequence-leads}
+use Rattle.items.proofs.Sequences.{sequence-leads}
 use Rattle.value.specs.Reading.{Tells}
 use Rattle.judging.specs.Sets.{Faults, Firsts, Some, InSequence}
 use Rattle.judging.proofs.Faults.{some-none, some-more, nth-front, nth-last}

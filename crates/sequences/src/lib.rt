@@ -1,7 +1,7 @@
-// The sequences of a listing: rules 15 to 29, and the counts. Relies on the walk, and on the crates texts and features.
+// The sequences of a listing: rules 15 to 29, and the counts. Relies on the walk along them, and on the crates texts and features.
 use features::Tabled;
+use items::FoundSequence;
 use paper::Fault;
-use walk::FoundSequence;
 ghost use mathlib.Core.Path.{_≡_};
 ghost use Rattle.codon.specs.Tables.{SetTable, TurnTable, LetterTable};
 ghost use Rattle.value.specs.Reading.{SymbolTable};
@@ -114,7 +114,7 @@ fn judge_sequence(
         table: found,
         residues,
         next,
-    } = walk::sequence(s, at);
+    } = items::sequence(s, at);
     let a = texts::judge_number(s, number, k);
     if texts::is_skipped(s, residues) {
         let ok = texts::is_empty(declared, moltype, division, ids, found.present);
@@ -165,7 +165,7 @@ pub fn judge_sequences(
     let mut at = first;
     let mut total = no_sequences();
     loop {
-        if walk::sequence_here(s, at) {
+        if items::sequence_here(s, at) {
             let k = plus(total.total, 1);
             let x = judge_sequence(s, at, k, symbols, sets, turns, table);
             let next = x.next;

@@ -1,8 +1,8 @@
 // A source feature: rules 22 and 23. Relies on the walk along its qualifiers, the values and what the judge's parts share.
+use items::FoundQualifier;
 use judging::Known;
 use paper::Fault;
 use value::Kind;
-use walk::FoundQualifier;
 use walk::Part;
 ghost use mathlib.Core.Path.{_≡_};
 ghost use Rattle.paper.specs.Bytes.{bytes};
@@ -70,12 +70,12 @@ fn count_names(s: &[u8], first: usize, aa: bool) -> Names
     let mut organisms: usize = 0;
     let mut moltypes: usize = 0;
     loop {
-        if walk::qualifier_here(s, at) {
+        if items::qualifier_here(s, at) {
             let FoundQualifier {
                 name,
                 value: _,
                 next,
-            } = walk::qualifier(s, at);
+            } = items::qualifier(s, at);
             if next <= at {
                 return Names {
                     organisms,

@@ -12,8 +12,9 @@ use Rattle.paper.specs.Layout.{child, feature}
 use Rattle.paper.specs.Tree.{Feature, Table, featuresIn}
 use Rattle.paper.specs.Answers.{give, Lent, Lines}
 use Rattle.scan.specs.Follow.{Starts, closing}
-use Rattle.walk.specs.Stands.{Stands, TableIs}
-use Rattle.walk.specs.declared.FoundTable.{FoundTable}
+use Rattle.walk.specs.Stands.{Stands}
+use Rattle.items.specs.Items.{TableIs}
+use Rattle.items.specs.declared.FoundTable.{FoundTable}
 use Rattle.judging.specs.declared.Known.{Known}
 use Rattle.translating.specs.Lines.{refusal, MeasuresLines, PutsLines, TranslatesAll}
 use Rattle.translating.specs.declared.Written.{Written}

@@ -8,7 +8,7 @@ use Rattle.paper.specs.Tree.{Sequence, Feature}
 use Rattle.paper.specs.Translation.{dropStop}
 use Rattle.paper.specs.Answers.{refuse, give, Translates, Lent}
 use Rattle.scan.specs.Parts.{Shows}
-use Rattle.walk.specs.declared.FoundFeature.{FoundFeature}
+use Rattle.items.specs.declared.FoundFeature.{FoundFeature}
 use Rattle.translation.specs.Translating.{lettersOf, Measured, afterOf, Writes}
 use Rattle.translation.specs.declared.writing.Size.{Size}
 use Rattle.translation.specs.declared.writing.Size.the-variants as size

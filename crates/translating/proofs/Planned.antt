@@ -11,8 +11,8 @@ use Rattle.paper.specs.Rules.{L, isSymbol, Coding, Judged}
 use Rattle.scan.specs.Parts.{Shows}
 use Rattle.value.specs.Reading.{Tells}
 use Rattle.value.proofs.Tests.{tells-true, tells-false}
-use Rattle.walk.specs.Stands.{IsFeature}
-use Rattle.walk.specs.declared.FoundFeature.{FoundFeature}
+use Rattle.items.specs.Items.{IsFeature}
+use Rattle.items.specs.declared.FoundFeature.{FoundFeature}
 use Rattle.location.specs.Judging.{JudgesPart, Judged as Placed}
 use Rattle.location.specs.declared.judging.Verdict.{Verdict}
 use Rattle.location.specs.declared.judging.Verdict.the-variants.{Bad, Is}

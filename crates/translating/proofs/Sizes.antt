@@ -11,8 +11,9 @@ use Rattle.paper.specs.Translation.{dropStop, hasStopInside}
 use Rattle.paper.specs.Answers.{Translates}
 use Rattle.paper.specs.Answers as paper
 use Rattle.scan.specs.Parts.{Shows}
-use Rattle.walk.specs.Stands.{There, FindsFeature}
-use Rattle.walk.specs.declared.FoundFeature.{FoundFeature}
+use Rattle.walk.specs.Stands.{There}
+use Rattle.items.specs.Items.{FindsFeature}
+use Rattle.items.specs.declared.FoundFeature.{FoundFeature}
 use Rattle.translation.specs.Translating.{lettersOf, Measured, Measures}
 use Rattle.translation.specs.declared.writing.Size.{Size}
 use Rattle.translation.specs.declared.writing.Size.the-variants as size

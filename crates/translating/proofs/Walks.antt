@@ -9,10 +9,11 @@ use Rattle.paper.specs.Form.{each}
 use Rattle.paper.specs.Layout.{child, qualifier, feature}
 use Rattle.paper.specs.Tree.{Sequence, Feature, qualifiersOf}
 use Rattle.scan.specs.Follow.{Not, Starts, closing}
-use Rattle.walk.specs.Stands.{Stands, There, Over, Ends, FindsFeature, IsFeature, featureTail}
-use Rattle.walk.specs.declared.FoundFeature.{FoundFeature}
+use Rattle.walk.specs.Stands.{Stands, There, Over, Ends}
 use Rattle.walk.proofs.Places.{from}
-use Rattle.walk.proofs.Sequences.{feature-leads}
+use Rattle.items.specs.Items.{FindsFeature, IsFeature, featureTail}
+use Rattle.items.specs.declared.FoundFeature.{FoundFeature}
+use Rattle.items.proofs.Sequences.{feature-leads}
 use Rattle.judging.proofs.Seen.{Seen, seen-none, seen-next, seen-stuck, seen-all}
 use Rattle.coding.proofs.Lists.{in-front}
 use Rattle.translating.specs.Lines.{PassesFeature, KeepAll}

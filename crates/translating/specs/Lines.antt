@@ -11,9 +11,10 @@ use Rattle.paper.specs.Tree.{Sequence, Feature, featuresOf}
 use Rattle.paper.specs.Answers.{Outcome, refuse, give, Translates, Lent}
 use Rattle.paper.specs.Answers as paper
 use Rattle.scan.specs.Follow.{Not, Starts, closing}
-use Rattle.walk.specs.Stands.{Stands, IsFeature, TableIs}
-use Rattle.walk.specs.declared.FoundFeature.{FoundFeature}
-use Rattle.walk.specs.declared.FoundTable.{FoundTable}
+use Rattle.walk.specs.Stands.{Stands}
+use Rattle.items.specs.Items.{IsFeature, TableIs}
+use Rattle.items.specs.declared.FoundFeature.{FoundFeature}
+use Rattle.items.specs.declared.FoundTable.{FoundTable}
 use Rattle.judging.specs.Known.{Knows}
 use Rattle.judging.specs.declared.Known.{Known}
 use Rattle.translating.specs.Plans.{Keeps}

@@ -6,8 +6,8 @@ use mathlib.Core.List.{List}
 use Rattle.paper.specs.Tree.{Sequence, Feature}
 use Rattle.paper.specs.Locations.{Location, Locates, breaks25}
 use Rattle.paper.specs.Rules.{L, Coding, Unjudged, Judged}
-use Rattle.walk.specs.Stands.{IsFeature}
-use Rattle.walk.specs.declared.FoundFeature.{FoundFeature}
+use Rattle.items.specs.Items.{IsFeature}
+use Rattle.items.specs.declared.FoundFeature.{FoundFeature}
 use Rattle.translation.specs.Translating.{lettersOf}
 use Rattle.judging.specs.Sets.{InTexts, InFeature}
 use Rattle.judging.specs.Known.{Knows}

@@ -3,6 +3,8 @@
 use coding::Start;
 use coding::is_coding;
 use coding::start_of;
+use items::FoundFeature;
+use items::FoundTable;
 use judging::Known;
 use location::judging::judge_location;
 use scan::bytes_of;
@@ -10,8 +12,6 @@ use translation::writing::Size;
 use translation::writing::measure;
 use translation::writing::pour;
 use translation::writing::write;
-use walk::FoundFeature;
-use walk::FoundTable;
 ghost use mathlib.Core.Path.{_≡_};
 ghost use Rattle.codon.specs.Tables.{SetTable, TurnTable, LetterTable};
 ghost use Rattle.translating.specs.Plans.{Plans};
@@ -142,8 +142,8 @@ fn line_size(
 fn past(s: &[u8], feature: FoundFeature) -> usize
     ensures { λ r. ⌜ PassesFeature (now (s .entry)) feature r ⌝ }
 {
-    let a = walk::qualifiers_over(s, feature.quals);
-    walk::feature_end(s, a, feature.long)
+    let a = items::qualifiers_over(s, feature.quals);
+    items::feature_end(s, a, feature.long)
 }
 
 // The length of two texts, one behind the other.
@@ -183,8 +183,8 @@ fn lines_size(
     let mut at = first;
     let mut size = Lined::Is(0);
     loop {
-        if walk::feature_here(s, at) {
-            let feature = walk::feature(s, at);
+        if items::feature_here(s, at) {
+            let feature = items::feature(s, at);
             let next = past(s, feature);
             if next <= at {
                 return Lined::Short;
@@ -264,8 +264,8 @@ fn put_lines(
     let mut at = first;
     let mut end: usize = 0;
     loop {
-        if walk::feature_here(s, at) {
-            let feature = walk::feature(s, at);
+        if items::feature_here(s, at) {
+            let feature = items::feature(s, at);
             let next = past(s, feature);
             if next <= at {
                 return;

@@ -1,8 +1,5 @@
 pub mod Places
 pub mod Leaves
-pub mod Items
+pub mod Elements
+pub mod Attributes
 pub mod Loops
-pub mod Quiet
-pub mod Sequences
-pub mod Entries
-pub mod Root

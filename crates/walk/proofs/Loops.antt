@@ -11,7 +11,7 @@ use Rattle.scan.specs.Follow.{Not, Starts, Before}
 use Rattle.scan.proofs.Fronts.{Leads, leads-by, leads-long, whole, each-starts, starts-sharp, starts-apart}
 use Rattle.walk.specs.Stands.{Stands, There, tagOf, Over}
 use Rattle.walk.proofs.Places.{part, before, from, nothing-stands}
-use Rattle.walk.proofs.Items.{tag-there}
+use Rattle.walk.proofs.Elements.{tag-there}
 
 -- bytes that stand here, one at least, stand within s
 pub there-inside : (b : ℕ) (x s : List ℕ) (at : ℕ) {q : Bool} → q ≡ true → There (b ∷ x) s at q → at < length s

@@ -9,7 +9,7 @@ use lib.ListN.{length, drop, getD, length-append, length-drop}
 use lib.Seq.{drop-drop, drop-append-seam, getD-drop, getD-append-add}
 use borrow.Author.Tests.{ne-eqb}
 use Rattle.paper.specs.Bytes.{all}
-use Rattle.paper.specs.Form.{Form, these, run, _·_}
+use Rattle.paper.specs.Form.{Form, these, run, _·_, each, each⁺}
 use Rattle.scan.specs.Follow.{Not}
 use Rattle.scan.specs.Texts.{Scanned, Upto, isPlain}
 use Rattle.scan.proofs.Fronts.{false-true}
@@ -47,6 +47,11 @@ join {F} {G} {s} {at} {b} {e} x y =
 -- as a text of a wider form
 pub wider : {F G : Form} {s : List ℕ} {at e : ℕ} → ((a : ℕ) (w : List ℕ) → F a w → G a w) → Stands F s at e → Stands G s at e
 wider {at = at} h x = record { word = x .word; laid = h at (x .word) (x .laid); size = x .size; here = x .here }
+
+-- one or more are any number
+pub some-each : {A : Type 0} (F : A → Form) (l : List A) (at : ℕ) (w : List ℕ) → each⁺ F l at w → each F l at w
+some-each F [] at w d = absurd d
+some-each F (a ∷ l) at w d = d
 
 -- where nothing stands, what follows is here
 pub nothing-stands : {s : List ℕ} {at e : ℕ} → Stands (these []) s at e → at ≡ e

@@ -1,2 +1,1 @@
 pub mod Stands
-pub mod Header

@@ -1,5 +1,5 @@
 -- `finding::item_over` meets its contract.
-use Rattle.walk.proofs.Sequences.{qualifier-over}
+use Rattle.items.proofs.Sequences.{qualifier-over}
 use Rattle.finding.proofs.Ahead.{sequence-over}
 use borrow.Author.Needs.{needs}
 use Rattle.finding.proofs.item_over.Statement.{statement}

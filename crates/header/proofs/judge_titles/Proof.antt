@@ -11,7 +11,7 @@ use Rattle.paper.specs.Layout.{child, spoken}
 use Rattle.paper.specs.Values.{Two, isLower}
 use Rattle.paper.specs.declared.Fault.the-variants.{Clean}
 use Rattle.walk.proofs.Loops.{there-inside}
-use Rattle.walk.proofs.Entries.{spoken-leads}
+use Rattle.heading.proofs.Entries.{spoken-leads}
 use Rattle.judging.specs.Sets.{Firsts}
 use Rattle.judging.proofs.Seen.{Seen, seen-none, seen-next, seen-stuck, seen-all}
 use Rattle.header.specs.Headers.{Wrong, codes, totalled}

@@ -10,8 +10,8 @@ use Rattle.paper.specs.Tree.{Qualifier}
 use Rattle.paper.specs.Layout.{child, qualifier}
 use Rattle.scan.specs.Follow.{closing}
 use Rattle.walk.proofs.Loops.{there-inside}
-use Rattle.walk.proofs.Items.{qualifier-leads}
-use Rattle.walk.proofs.Sequences.{qualifier-over}
+use Rattle.items.proofs.Features.{qualifier-leads}
+use Rattle.items.proofs.Sequences.{qualifier-over}
 use Rattle.judging.proofs.Seen.{Seen, seen-none, seen-next, seen-stuck, seen-all}
 use Rattle.source.specs.Sources.{AreNames}
 use Rattle.source.proofs.Counts.{names-none, names-more}

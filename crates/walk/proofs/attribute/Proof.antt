@@ -1,6 +1,6 @@
 -- `walk::attribute` meets its contract: up to the closing quote.
 use denote.Ref.{now}
-use Rattle.walk.proofs.Sequences.{attribute-found}
+use Rattle.walk.proofs.Attributes.{attribute-found}
 use borrow.Author.Needs.{needs}
 use Rattle.walk.proofs.attribute.Statement.{statement}
 use Rattle.walk.proofs.attribute.Tie as tie

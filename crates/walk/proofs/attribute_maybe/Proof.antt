@@ -1,6 +1,6 @@
 -- `walk::attribute_maybe` meets its contract: the attribute, or nothing.
 use denote.Ref.{now}
-use Rattle.walk.proofs.Entries.{attribute-absent, attribute-present}
+use Rattle.walk.proofs.Attributes.{attribute-absent, attribute-present}
 use borrow.Author.Needs.{needs}
 use Rattle.walk.proofs.attribute_maybe.Statement.{statement}
 use Rattle.walk.proofs.attribute_maybe.Tie as tie

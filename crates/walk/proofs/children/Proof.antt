@@ -1,5 +1,5 @@
 -- `walk::children` meets its contract.
-use Rattle.walk.proofs.Items.{opens-missing, opens-empty, opens-holds}
+use Rattle.walk.proofs.Elements.{opens-missing, opens-empty, opens-holds}
 use borrow.Author.Needs.{needs}
 use Rattle.walk.proofs.children.Statement.{statement}
 use Rattle.walk.proofs.children.Tie as tie

@@ -1,5 +1,5 @@
 -- `walk::enter` meets its contract.
-use Rattle.walk.proofs.Items.{enter-ends}
+use Rattle.walk.proofs.Elements.{enter-ends}
 use borrow.Author.Needs.{needs}
 use Rattle.walk.proofs.enter.Statement.{statement}
 use Rattle.walk.proofs.enter.Tie as tie

@@ -1,5 +1,5 @@
 -- `walk::leaf_maybe` meets its contract: the leaf, or nothing.
-use Rattle.walk.proofs.Items.{leaf-absent, leaf-present}
+use Rattle.walk.proofs.Elements.{leaf-absent, leaf-present}
 use borrow.Author.Needs.{needs}
 use Rattle.walk.proofs.leaf_maybe.Statement.{statement}
 use Rattle.walk.proofs.leaf_maybe.Tie as tie

@@ -1,5 +1,5 @@
 -- `walk::leave` meets its contract.
-use Rattle.walk.proofs.Items.{leave-ends}
+use Rattle.walk.proofs.Elements.{leave-ends}
 use borrow.Author.Needs.{needs}
 use Rattle.walk.proofs.leave.Statement.{statement}
 use Rattle.walk.proofs.leave.Tie as tie
