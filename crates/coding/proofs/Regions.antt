@@ -31,8 +31,8 @@ use Rattle.location.specs.Judging.{Judged as Placed}
 use Rattle.location.specs.declared.judging.Facts.{Facts}
 use Rattle.location.specs.declared.judging.Verdict.{Verdict}
 use Rattle.location.specs.declared.judging.Verdict.the-variants.{Bad, Is}
-use Rattle.translation.specs.Reading.{Codes}
-use Rattle.translation.specs.Translating.{lettersOf}
+use Rattle.reading.specs.Reading.{Codes}
+use Rattle.reading.specs.Letters.{lettersOf}
 use Rattle.judging.specs.Sets.{Firsts, Some, InCoding, rule-27, rule-28}
 use Rattle.judging.specs.Known.{Knows}
 use Rattle.judging.specs.declared.Known.{Known}

@@ -27,8 +27,9 @@ use Rattle.walk.specs.declared.Maybe.{Maybe}
 use Rattle.walk.specs.declared.Maybe.the-variants.{Absent, Present}
 use Rattle.items.specs.Items.{FindsQualifier}
 use Rattle.items.specs.declared.FoundQualifier.{FoundQualifier}
-use Rattle.translation.specs.Reading.{Codes}
-use Rattle.translation.specs.Translating.{lettersOf, RightValue, RightIf, Compares}
+use Rattle.reading.specs.Reading.{Codes}
+use Rattle.reading.specs.Letters.{lettersOf}
+use Rattle.comparing.specs.Comparing.{RightValue, RightIf, Compares}
 use Rattle.judging.specs.Sets.{Firsts, Some}
 use Rattle.judging.proofs.Bytes.{part-shows}
 use Rattle.judging.proofs.Faults.{firsts-none, some-none, some-more, some-later}

@@ -16,8 +16,9 @@ use Rattle.walk.specs.Stands.{Stands, IsPart, MaybeIs}
 use Rattle.walk.specs.declared.Part.{Part}
 use Rattle.walk.specs.declared.Maybe.{Maybe}
 use Rattle.walk.specs.declared.Maybe.the-variants.{Absent, Present}
-use Rattle.translation.specs.Reading.{Codes}
-use Rattle.translation.specs.Translating.{lettersOf, RightValue, RightIf}
+use Rattle.reading.specs.Reading.{Codes}
+use Rattle.reading.specs.Letters.{lettersOf}
+use Rattle.comparing.specs.Comparing.{RightValue, RightIf}
 use Rattle.judging.specs.Sets.{Firsts, Some}
 use Rattle.paper.specs.declared.Fault.{Fault}
 use Rattle.paper.specs.declared.Fault.the-variants.{Clean, At}

@@ -1,12 +1,12 @@
 // One coding region of DNA or RNA: rules 27 and 28, and whether it is judged.
-// Relies on the walk along its qualifiers, the values, the judged location and the translation.
+// Relies on the walk along its qualifiers, the values, the judged location and the comparison with the translation.
+use comparing::is_right;
 use items::FoundQualifier;
 use judging::Known;
 use judging::earlier;
 use location::judging::Verdict;
 use paper::Fault;
 use scan::bytes_of;
-use translation::comparing::is_right;
 use value::Kind;
 use value::same;
 use walk::Maybe;

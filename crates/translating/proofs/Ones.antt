@@ -9,9 +9,10 @@ use Rattle.paper.specs.Translation.{dropStop}
 use Rattle.paper.specs.Answers.{refuse, give, Translates, Lent}
 use Rattle.scan.specs.Parts.{Shows}
 use Rattle.items.specs.declared.FoundFeature.{FoundFeature}
-use Rattle.translation.specs.Translating.{lettersOf, Measured, afterOf, Writes}
-use Rattle.translation.specs.declared.writing.Size.{Size}
-use Rattle.translation.specs.declared.writing.Size.the-variants as size
+use Rattle.reading.specs.Letters.{lettersOf}
+use Rattle.writing.specs.Writing.{Measured, afterOf, Writes}
+use Rattle.writing.specs.declared.Size.{Size}
+use Rattle.writing.specs.declared.Size.the-variants as size
 use Rattle.judging.specs.declared.Known.{Known}
 use Rattle.translating.specs.Plans.{PlanIs, Plans}
 use Rattle.translating.specs.Lines.{refusal, TranslatesOne}

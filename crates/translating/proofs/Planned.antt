@@ -17,8 +17,8 @@ use Rattle.location.specs.Judging.{JudgesPart, Judged as Placed}
 use Rattle.location.specs.declared.judging.Verdict.{Verdict}
 use Rattle.location.specs.declared.judging.Verdict.the-variants.{Bad, Is}
 use Rattle.location.proofs.Verdicts.{judged-by}
-use Rattle.translation.specs.Reading.{Codes}
-use Rattle.translation.specs.Translating.{lettersOf}
+use Rattle.reading.specs.Reading.{Codes}
+use Rattle.reading.specs.Letters.{lettersOf}
 use Rattle.judging.specs.Sets.{rule-18, rule-24, rule-25, rule-27}
 use Rattle.judging.specs.Known.{Knows}
 use Rattle.judging.specs.declared.Known.{Known}

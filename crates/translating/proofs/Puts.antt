@@ -15,9 +15,10 @@ use Rattle.scan.specs.Parts.{Shows}
 use Rattle.walk.specs.Stands.{There}
 use Rattle.items.specs.Items.{FindsFeature}
 use Rattle.items.specs.declared.FoundFeature.{FoundFeature}
-use Rattle.translation.specs.Translating.{lettersOf, Poured, Pours}
-use Rattle.translation.specs.declared.writing.Size.{Size}
-use Rattle.translation.specs.declared.writing.Size.the-variants as size
+use Rattle.reading.specs.Letters.{lettersOf}
+use Rattle.writing.specs.Writing.{Poured, Pours}
+use Rattle.writing.specs.declared.Size.{Size}
+use Rattle.writing.specs.declared.Size.the-variants as size
 use Rattle.judging.specs.Known.{Knows}
 use Rattle.judging.specs.declared.Known.{Known}
 use Rattle.coding.proofs.Lists.{in-last}

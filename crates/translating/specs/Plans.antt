@@ -8,7 +8,7 @@ use Rattle.paper.specs.Locations.{Location, Locates, breaks25}
 use Rattle.paper.specs.Rules.{L, Coding, Unjudged, Judged}
 use Rattle.items.specs.Items.{IsFeature}
 use Rattle.items.specs.declared.FoundFeature.{FoundFeature}
-use Rattle.translation.specs.Translating.{lettersOf}
+use Rattle.reading.specs.Letters.{lettersOf}
 use Rattle.judging.specs.Sets.{InTexts, InFeature}
 use Rattle.judging.specs.Known.{Knows}
 use Rattle.judging.specs.declared.Known.{Known}

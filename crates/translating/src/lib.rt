@@ -1,5 +1,5 @@
 // The translations of an accepted listing: of one feature, and all of a sequence, into lent bytes.
-// Relies on the walk along the features, the coding regions, the judged location and the translation.
+// Relies on the walk along the features, the coding regions, the judged location and the writing of a translation.
 use coding::Start;
 use coding::is_coding;
 use coding::start_of;
@@ -8,10 +8,10 @@ use items::FoundTable;
 use judging::Known;
 use location::judging::judge_location;
 use scan::bytes_of;
-use translation::writing::Size;
-use translation::writing::measure;
-use translation::writing::pour;
-use translation::writing::write;
+use writing::Size;
+use writing::measure;
+use writing::pour;
+use writing::write;
 ghost use mathlib.Core.Path.{_≡_};
 ghost use Rattle.codon.specs.Tables.{SetTable, TurnTable, LetterTable};
 ghost use Rattle.translating.specs.Plans.{Plans};

@@ -11,9 +11,10 @@ use Rattle.location.specs.declared.judging.Facts.{Facts}
 use Rattle.location.specs.declared.judging.Verdict.the-variants.{Bad, Is}
 use Rattle.location.specs.declared.room.Answer.{Answer}
 use Rattle.location.specs.declared.room.Answer.the-variants as answer
-use Rattle.translation.specs.Translating.{Writes, Compares}
-use Rattle.translation.specs.declared.writing.Size.{Size}
-use Rattle.translation.specs.declared.writing.Size.the-variants as size
+use Rattle.comparing.specs.Comparing.{Compares}
+use Rattle.writing.specs.Writing.{Writes}
+use Rattle.writing.specs.declared.Size.{Size}
+use Rattle.writing.specs.declared.Size.the-variants as size
 
 pub data LayoutNumbers (w : List ℕ) : (number place : ℕ) → Type 0 where
   laid : Lays w → LayoutNumbers w 0 0

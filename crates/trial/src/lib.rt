@@ -3,7 +3,7 @@
 use layout::Shape;
 use location::judging::Verdict;
 use location::room::Answer;
-use translation::writing::Size;
+use writing::Size;
 ghost use mathlib.Core.Path.{_≡_};
 ghost use Rattle.paper.specs.Locations.{mark};
 ghost use Rattle.trial.specs.Numbers.{LayoutNumbers, LocationNumbers, SpansNumbers, TranslationNumbers, RightNumbers};
@@ -118,7 +118,7 @@ pub extern "C" fn trial_translation(
     let sets = codon::set_table();
     let turns = codon::turn_table();
     let table = codon::letter_table();
-    match translation::writing::write(r, loc, top, frame, &sets, &turns, &table, out) {
+    match writing::write(r, loc, top, frame, &sets, &turns, &table, out) {
         Size::Is(n) => {
             *size = n;
             0
@@ -142,6 +142,6 @@ pub extern "C" fn trial_is_right(r: &[u8], loc: &[u8], top: u32, frame: usize, v
     let sets = codon::set_table();
     let turns = codon::turn_table();
     let table = codon::letter_table();
-    let right = translation::comparing::is_right(r, loc, top, frame, value, &sets, &turns, &table);
+    let right = comparing::is_right(r, loc, top, frame, value, &sets, &turns, &table);
     flag(right, 1)
 }

@@ -1,0 +1,3 @@
+-- What the promises of the crate, and of those above it, cite.
+pub mod Reading
+pub mod Letters

@@ -1,3 +1,0 @@
--- What the crate's promises cite.
-pub mod Reading
-pub mod Translating

@@ -1,0 +1,45 @@
+-- Codons of one span, one after another: those passed are no stop, are laid.
+use Prim.Native.Nat.{ℕ, _+_, _*_, _≤_, _<_}
+use Prim.Native.Char.{code}
+use native.Mathlib.Numerals.{add-one}
+use native.Mathlib.Omega.{arith}
+use mathlib.Core.Path.{_≡_, refl}
+use mathlib.Core.Bool.{Bool, true, false}
+use mathlib.Core.List.{List}
+use lib.Bits.{bitAnd, and-le-l, and-le-r}
+use lib.ListN.{length, getD, set}
+use lib.Seq.{paste-zero, paste-suc}
+use lib.Dec.{ltb}
+use borrow.Author.Tests.{ltb-true, ltb-false}
+use Rattle.reading.specs.Letters.{NoStops}
+use Rattle.reading.proofs.Stops.{none-more}
+use Rattle.writing.specs.Writing.{Lays}
+
+-- ---- no stop
+
+module _ {l : List ℕ} {a b : ℕ} (h : NoStops l a b) where
+  pub none-join : {c : ℕ} → NoStops l b c → NoStops l a c
+  none-join {c} k = record { none = λ i below above. side i below above (ltb i b) refl }
+    where
+      side : (i : ℕ) → i < c → a ≤ i → (t : Bool) → ltb i b ≡ t → getD l i 0 ≡ code "*" → ⊥
+      side i below above true e = h .none i (ltb-true i b e) above
+      side i below above false e = k .none i below (ltb-false i b e)
+
+-- a stop is below 64, and what it shares with others is too
+pub none-shared : {l : List ℕ} {a b bits c : ℕ} → (64 ≤ bits → NoStops l a b) → c ≡ getD l b 0 → 64 ≤ bitAnd bits c → NoStops l a (b + 1)
+none-shared {bits = bits} {c} h e k =
+    none-more (h (omega (arith, and-le-l bits c))) e (λ z. omega (arith, and-le-r bits c))
+
+-- ---- laid
+
+pub lays-start : {low high from count : ℕ} (l out : List ℕ) → low ≤ high → from ≤ count → Lays low high l from count 0 out out
+lays-start {from = from} l out h i = record { within = omega arith; inside = omega arith; is = paste-zero out from l }
+
+pub lays-more : {low high from count n c : ℕ} {l out after : List ℕ} → Lays low high l from count n out after → low + 3 * (n + 1) ≤ high
+    → from + n < count → count ≤ length out → n < length l → c ≡ getD l n 0 → Lays low high l from count (n + 1) out (set after (from + n) c)
+lays-more {from = from} {n = n} {c} {l} {out} f h i j k e =
+    record {
+      within = h;
+      inside = omega arith;
+      is = rw (f .is, e, add-one n) (paste-suc out from l n 0 (omega arith) k);
+    }
