@@ -12,7 +12,7 @@ use Rattle.paper.specs.Layout.{blanks, tag, attribute, attribute?, content, lea
 use Rattle.scan.specs.Follow.{Not, anything, closing}
 use Rattle.scan.specs.Texts.{allowedIn, Scanned}
 use Rattle.scan.proofs.Fronts.{Leads, leads-seq, leads-less, leads-sharp, starts-sharp}
-use Rattle.scan.proofs.Tags.{spoken-element}
+use Rattle.tags.proofs.Tags.{spoken-element}
 use Rattle.walk.specs.Stands.{There, tagOf, Ends, Finds, FindsContent, FindsMaybe, FindsAttribute, entering, leaving, FindsAttributeMaybe}
 use Rattle.walk.specs.declared.Found.{Found}
 use Rattle.walk.specs.declared.FoundMaybe.{FoundMaybe}

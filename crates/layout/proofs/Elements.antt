@@ -16,7 +16,7 @@ use Rattle.scan.specs.declared.Step.{Step}
 use Rattle.scan.specs.declared.Step.the-variants.{Ok, Fail}
 use Rattle.scan.proofs.Steps.{as-reads, before, seq, pass-then, then-pass}
 use Rattle.scan.proofs.Fronts.{Ever, ev-these, ev-seq, Evers, evs-both, evs-after, Leads, leads-seq, leads-all, starts-sharp, starts-wider}
-use Rattle.scan.proofs.Tags.{Element, Children, leaf-element, spoken-element, holding-reads, holding?-element, ev-holding?, Void, tag-then, child-reads, optional-reads, items-stop, items-more, item-onwards, some-reads, ev-attribute, ev-holding}
+use Rattle.tags.proofs.Tags.{Element, Children, leaf-element, spoken-element, holding-reads, holding?-element, ev-holding?, Void, tag-then, child-reads, optional-reads, items-stop, items-more, item-onwards, some-reads, ev-attribute, ev-holding}
 use Rattle.scan.proofs.Soles.{Sole, sole-as}
 use Rattle.layout.specs.Parts.{Enters, Leaves, Held, numbered, held}
 use Rattle.layout.proofs.Runs.{Run, run-one, run-maybe, run-each, run-some, run-seq, run-reads, one-reads, run-children, Whole, whole-element, whole-reads}

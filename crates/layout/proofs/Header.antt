@@ -15,7 +15,7 @@ use Rattle.scan.specs.declared.Step.{Step}
 use Rattle.scan.specs.declared.Step.the-variants.{Ok, Fail}
 use Rattle.scan.proofs.Steps.{as-reads, before, seq, pass-then, then-pass, either-first, either-second, tried, failed-at, failed-again, step-is, step-to}
 use Rattle.scan.proofs.Fronts.{Ever, ev-these, Evers, evs-both, evs-after, evs-maybe, Leads, leads-seq, leads-all, leads-starts, starts-sharp, starts-wider, StartsBy, skip-blanks, skip-none, not-there, whole, leads-by}
-use Rattle.scan.proofs.Tags.{Element, leaf-element, spoken-element, holding-reads, ev-holding, tag-then, child-leads, child-ever, child-reads, sole-attribute, sole-holding, optional-reads, some-reads, ev-attribute, attribute-optional, attribute-starts, apart-leads}
+use Rattle.tags.proofs.Tags.{Element, leaf-element, spoken-element, holding-reads, ev-holding, tag-then, child-leads, child-ever, child-reads, sole-attribute, sole-holding, optional-reads, some-reads, ev-attribute, attribute-optional, attribute-starts, apart-leads}
 use Rattle.scan.proofs.Soles.{Sole, sure-these, sole-seq, sole-after, sole-as, sole-of, sole-or}
 use Rattle.layout.specs.Parts.{Enters, Leaves, MaybeParty, Held, numbered, held, Attributes, Parties, listing, attributed, introduced, titled, earlier}
 use Rattle.layout.proofs.Runs.{Run, run-one, run-maybe, run-each, run-some, run-seq, run-reads, one-reads, run-children, run-optional, optional-run-reads, tried-on, Whole, whole-element, whole-reads}

@@ -14,7 +14,7 @@ use Rattle.scan.specs.declared.Step.{Step}
 use Rattle.scan.specs.declared.Step.the-variants.{Ok, Fail}
 use Rattle.scan.proofs.Steps.{before, seq, skip-tried, failed}
 use Rattle.scan.proofs.Fronts.{Evers, evs-both, evs-maybe, evs-each, starts-sharp, leads-starts, Leads, leads-by, whole, maybe-starts, not-there}
-use Rattle.scan.proofs.Tags.{Element, Children, holding-element, holding-reads, tag-then, child-leads, child-ever, child-sole, child-reads, sole-optional, sole-items, sole-some-items, optional-reads, optional-starts, items-starts, some-starts, ev-some, ev-holding}
+use Rattle.tags.proofs.Tags.{Element, Children, holding-element, holding-reads, tag-then, child-leads, child-ever, child-sole, child-reads, sole-optional, sole-items, sole-some-items, optional-reads, optional-starts, items-starts, some-starts, ev-some, ev-holding}
 use Rattle.scan.proofs.Soles.{Sole, sole-seq, sole-maybe, sole-before}
 use Rattle.layout.specs.Parts.{Enters, Leaves}
 

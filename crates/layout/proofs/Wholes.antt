@@ -20,7 +20,7 @@ use Rattle.scan.specs.declared.Step.the-variants.{Ok, Fail}
 use Rattle.scan.proofs.Laws.{agree-le}
 use Rattle.scan.proofs.Steps.{as-reads, before, seq, pass-then, then-pass}
 use Rattle.scan.proofs.Fronts.{Ever, ev-seq, ev-these, ev-run, ev-gap, Evers, evs-both, evs-after, evs-maybe, evs-then, Leads, leads-seq, leads-all, leads-starts, leads-sharp, StartsBy, skip-blanks, skip-none}
-use Rattle.scan.proofs.Tags.{Element, leaf-element, spoken-element, holding-reads, ev-holding, some-reads, ev-attribute, sole-attribute, sole-attribute-optional, attribute-optional, attribute-starts, sole-holding, sure-gap, Inner, inner-leads}
+use Rattle.tags.proofs.Tags.{Element, leaf-element, spoken-element, holding-reads, ev-holding, some-reads, ev-attribute, sole-attribute, sole-attribute-optional, attribute-optional, attribute-starts, sole-holding, sure-gap, Inner, inner-leads}
 use Rattle.scan.proofs.Soles.{Sole, Sure, sure-these, sure-run, sure-seq, sole-seq, sole-then, sole-after, sole-as}
 use Rattle.layout.specs.Parts.{Enters, Attributes, Parties, listing, attributed, introduced, titled, totalled, close-tag}
 use Rattle.layout.proofs.Runs.{Run, run-one, run-some, run-seq, run-reads, one-reads, run-children}

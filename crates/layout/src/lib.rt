@@ -1,5 +1,5 @@
 // The layout of a listing: rules 1 and 2. One function for each element that holds elements, in the order of document 01.
-// Relies on the definitions of the crate paper and on the steps of the crate scan. Judges no value.
+// Relies on the definitions of the crate paper and on the steps of the crates scan and tags. Judges no value.
 use scan::Step;
 ghost use mathlib.Core.Path.{_≡_};
 ghost use mathlib.Core.Option.{Option, none};
@@ -50,20 +50,20 @@ fn enter(s: &[u8], st: Step) -> Step
 fn leave(s: &[u8], st: Step, name: &[u8]) -> Step
     ensures { λ r. ⌜ Leaves (now (name .entry)) (now (s .entry)) st r ⌝ }
 {
-    scan::blanks(s, scan::close(s, st, name))
+    scan::blanks(s, tags::close(s, st, name))
 }
 
 fn qualifier(s: &[u8], next: usize, far: usize, t: &[u8; 256]) -> Step
     requires { ⌜ ClassTable (now t) ⌝ }
     ensures { λ r. ⌜ Reads (Form.child Form.qualifier) (Not isBlank) (now (s .entry)) (Ok next far) r ⌝ }
 {
-    let a = scan::tag(s, Step::Ok { next, far }, b"INSDQualifier");
+    let a = tags::tag(s, Step::Ok { next, far }, b"INSDQualifier");
     let Step::Ok { next: n, far: f } = a else {
         return scan::again(a);
     };
     let b = enter(s, Step::Ok { next: n, far: f });
-    let c = scan::leaf_on(s, b, b"INSDQualifier_name", t);
-    let d = scan::leaf_maybe(s, c, b"INSDQualifier_value", t);
+    let c = tags::leaf_on(s, b, b"INSDQualifier_name", t);
+    let d = tags::leaf_maybe(s, c, b"INSDQualifier_value", t);
     leave(s, d, b"INSDQualifier")
 }
 
@@ -104,7 +104,7 @@ fn quals_rest(s: &[u8], next: usize, far: usize, t: &[u8; 256]) -> Step
     };
     let b = scan::lit(s, Step::Ok { next: n, far: k }, b">");
     let c = qualifiers(s, scan::blanks(s, b), t);
-    scan::blanks(s, scan::close(s, c, b"INSDFeature_quals"))
+    scan::blanks(s, tags::close(s, c, b"INSDFeature_quals"))
 }
 
 fn quals_maybe(s: &[u8], st: Step, t: &[u8; 256]) -> Step
@@ -114,7 +114,7 @@ fn quals_maybe(s: &[u8], st: Step, t: &[u8; 256]) -> Step
     let Step::Ok { next, far: _ } = st else {
         return scan::again(st);
     };
-    match scan::tag(s, st, b"INSDFeature_quals") {
+    match tags::tag(s, st, b"INSDFeature_quals") {
         Step::Fail(k) => Step::Ok { next, far: k },
         Step::Ok { next: n, far: f } => scan::stay(next, quals_rest(s, n, f, t)),
     }
@@ -124,13 +124,13 @@ fn feature(s: &[u8], next: usize, far: usize, t: &[u8; 256]) -> Step
     requires { ⌜ ClassTable (now t) ⌝ }
     ensures { λ r. ⌜ Reads (Form.child Form.feature) (Not isBlank) (now (s .entry)) (Ok next far) r ⌝ }
 {
-    let a = scan::tag(s, Step::Ok { next, far }, b"INSDFeature");
+    let a = tags::tag(s, Step::Ok { next, far }, b"INSDFeature");
     let Step::Ok { next: n, far: f } = a else {
         return scan::again(a);
     };
     let b = enter(s, Step::Ok { next: n, far: f });
-    let c = scan::leaf_on(s, b, b"INSDFeature_key", t);
-    let d = scan::leaf_on(s, c, b"INSDFeature_location", t);
+    let c = tags::leaf_on(s, b, b"INSDFeature_key", t);
+    let d = tags::leaf_on(s, c, b"INSDFeature_location", t);
     let e = quals_maybe(s, d, t);
     leave(s, e, b"INSDFeature")
 }
@@ -174,7 +174,7 @@ fn table_maybe(s: &[u8], st: Step, t: &[u8; 256]) -> Step
     let Step::Ok { next, far: _ } = st else {
         return scan::again(st);
     };
-    match scan::tag(s, st, b"INSDSeq_feature-table") {
+    match tags::tag(s, st, b"INSDSeq_feature-table") {
         Step::Fail(k) => Step::Ok { next, far: k },
         Step::Ok { next: n, far: f } => {
             let a = enter(s, Step::Ok { next: n, far: f });
@@ -198,8 +198,8 @@ fn ids_rest(s: &[u8], next: usize, far: usize, t: &[u8; 256]) -> Step
         return scan::blanks(s, scan::again(short));
     };
     let b = scan::lit(s, Step::Ok { next: n, far: k }, b">");
-    let c = scan::leaf_maybe(s, scan::blanks(s, b), b"INSDSeqid", t);
-    scan::blanks(s, scan::close(s, c, b"INSDSeq_other-seqids"))
+    let c = tags::leaf_maybe(s, scan::blanks(s, b), b"INSDSeqid", t);
+    scan::blanks(s, tags::close(s, c, b"INSDSeq_other-seqids"))
 }
 
 fn ids_maybe(s: &[u8], st: Step, t: &[u8; 256]) -> Step
@@ -209,7 +209,7 @@ fn ids_maybe(s: &[u8], st: Step, t: &[u8; 256]) -> Step
     let Step::Ok { next, far: _ } = st else {
         return scan::again(st);
     };
-    match scan::tag(s, st, b"INSDSeq_other-seqids") {
+    match tags::tag(s, st, b"INSDSeq_other-seqids") {
         Step::Fail(k) => Step::Ok { next, far: k },
         Step::Ok { next: n, far: f } => scan::stay(next, ids_rest(s, n, f, t)),
     }
@@ -220,13 +220,13 @@ fn inner(s: &[u8], st: Step, t: &[u8; 256]) -> Step
     requires { ⌜ ClassTable (now t) ⌝ }
     ensures { λ r. ⌜ Reads (Form.child held) (Not isBlank) (now (s .entry)) st r ⌝ }
 {
-    let a = enter(s, scan::tag(s, st, b"INSDSeq"));
-    let b = scan::leaf_on(s, a, b"INSDSeq_length", t);
-    let c = scan::leaf_on(s, b, b"INSDSeq_moltype", t);
-    let d = scan::leaf_on(s, c, b"INSDSeq_division", t);
+    let a = enter(s, tags::tag(s, st, b"INSDSeq"));
+    let b = tags::leaf_on(s, a, b"INSDSeq_length", t);
+    let c = tags::leaf_on(s, b, b"INSDSeq_moltype", t);
+    let d = tags::leaf_on(s, c, b"INSDSeq_division", t);
     let e = ids_maybe(s, d, t);
     let f = table_maybe(s, e, t);
-    let g = scan::leaf_on(s, f, b"INSDSeq_sequence", t);
+    let g = tags::leaf_on(s, f, b"INSDSeq_sequence", t);
     leave(s, g, b"INSDSeq")
 }
 
@@ -235,11 +235,11 @@ fn sequence(s: &[u8], next: usize, far: usize, t: &[u8; 256]) -> Step
     requires { ⌜ ClassTable (now t) ⌝ }
     ensures { λ r. ⌜ Reads (Form.child Form.sequence) (Not isBlank) (now (s .entry)) (Ok next far) r ⌝ }
 {
-    let a = scan::tag(s, Step::Ok { next, far }, b"SequenceData");
+    let a = tags::tag(s, Step::Ok { next, far }, b"SequenceData");
     let Step::Ok { next: n, far: f } = a else {
         return scan::again(a);
     };
-    let b = scan::attribute(s, Step::Ok { next: n, far: f }, b"sequenceIDNumber", t);
+    let b = tags::attribute(s, Step::Ok { next: n, far: f }, b"sequenceIDNumber", t);
     let c = inner(s, enter(s, b), t);
     leave(s, c, b"SequenceData")
 }
@@ -281,10 +281,10 @@ fn identification(s: &[u8], st: Step, name: &[u8], t: &[u8; 256]) -> Step
     requires { ⌜ ClassTable (now t) ⌝ }
     ensures { λ r. ⌜ Reads (Form.child (Form.identification (now (name .entry)))) (Not isBlank) (now (s .entry)) st r ⌝ }
 {
-    let a = enter(s, scan::tag(s, st, name));
-    let b = scan::leaf_maybe(s, a, b"IPOfficeCode", t);
-    let c = scan::leaf_on(s, b, b"ApplicationNumberText", t);
-    let d = scan::leaf_maybe(s, c, b"FilingDate", t);
+    let a = enter(s, tags::tag(s, st, name));
+    let b = tags::leaf_maybe(s, a, b"IPOfficeCode", t);
+    let c = tags::leaf_on(s, b, b"ApplicationNumberText", t);
+    let d = tags::leaf_maybe(s, c, b"FilingDate", t);
     leave(s, d, name)
 }
 
@@ -310,9 +310,9 @@ fn heading(s: &[u8], st: Step, t: &[u8; 256]) -> Step
     match identification(s, here, b"ApplicationIdentification", t) {
         Step::Ok { next: n, far: f } => {
             let a = Step::Ok { next: n, far: f };
-            scan::leaf_maybe(s, a, b"ApplicantFileReference", t)
+            tags::leaf_maybe(s, a, b"ApplicantFileReference", t)
         }
-        Step::Fail(k) => scan::leaf(s, next, k, b"ApplicantFileReference", t),
+        Step::Fail(k) => tags::leaf(s, next, k, b"ApplicantFileReference", t),
     }
 }
 
@@ -324,8 +324,8 @@ fn party_maybe(s: &[u8], st: Step, name: &[u8], latin: &[u8], t: &[u8; 256]) -> 
     let Step::Ok { next, far } = st else {
         return scan::again(st);
     };
-    match scan::spoken(s, next, far, name, t) {
-        Step::Ok { next: n, far: f } => scan::leaf_maybe(s, Step::Ok { next: n, far: f }, latin, t),
+    match tags::spoken(s, next, far, name, t) {
+        Step::Ok { next: n, far: f } => tags::leaf_maybe(s, Step::Ok { next: n, far: f }, latin, t),
         Step::Fail(k) => Step::Ok { next, far: k },
     }
 }
@@ -346,7 +346,7 @@ fn title_on(s: &[u8], st: Step, t: &[u8; 256]) -> Step
     ensures { λ r. ⌜ Reads (Form.child (Form.spoken (bytes "InventionTitle"))) (Not isBlank) (now (s .entry)) st r ⌝ }
 {
     match st {
-        Step::Ok { next, far } => scan::spoken(s, next, far, b"InventionTitle", t),
+        Step::Ok { next, far } => tags::spoken(s, next, far, b"InventionTitle", t),
         Step::Fail(k) => Step::Fail(k),
     }
 }
@@ -381,24 +381,24 @@ fn attributes(s: &[u8], st: Step, t: &[u8; 256]) -> Step
     requires { ⌜ ClassTable (now t) ⌝ }
     ensures { λ r. ⌜ Reads attributed (StartsPast close-tag) (now (s .entry)) st r ⌝ }
 {
-    let a = scan::attribute(s, st, b"dtdVersion", t);
-    let b = scan::attribute_maybe(s, a, b"fileName", t);
-    let c = scan::attribute_maybe(s, b, b"softwareName", t);
-    let d = scan::attribute_maybe(s, c, b"softwareVersion", t);
-    scan::attribute_maybe(s, d, b"productionDate", t)
+    let a = tags::attribute(s, st, b"dtdVersion", t);
+    let b = tags::attribute_maybe(s, a, b"fileName", t);
+    let c = tags::attribute_maybe(s, b, b"softwareName", t);
+    let d = tags::attribute_maybe(s, c, b"softwareVersion", t);
+    tags::attribute_maybe(s, d, b"productionDate", t)
 }
 
 fn root(s: &[u8], st: Step, t: &[u8; 256]) -> Step
     requires { ⌜ ClassTable (now t) ⌝ }
     ensures { λ r. ⌜ Reads Form.root anything (now (s .entry)) st r ⌝ }
 {
-    let a = scan::tag(s, st, b"ST26SequenceListing");
+    let a = tags::tag(s, st, b"ST26SequenceListing");
     let b = enter(s, attributes(s, a, t));
     let c = introduction(s, b, t);
     let d = titles(s, title_on(s, c, t), t);
-    let e = scan::leaf_on(s, d, b"SequenceTotalQuantity", t);
+    let e = tags::leaf_on(s, d, b"SequenceTotalQuantity", t);
     let f = sequences(s, sequence_on(s, e, t), t);
-    scan::close(s, f, b"ST26SequenceListing")
+    tags::close(s, f, b"ST26SequenceListing")
 }
 
 // The document type line.

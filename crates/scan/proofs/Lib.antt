@@ -4,9 +4,8 @@ pub mod Steps
 pub mod Fronts
 pub mod Soles
 pub mod Letters
-pub mod Tags
+pub mod Joins
 pub mod Words
-pub mod Quick
 pub mod Scans
 pub mod Classes
 pub mod Parts

@@ -3,7 +3,6 @@ use Prim.Native.Nat.{ℕ, _+_, _*_, _≤_, _<_}
 use mathlib.Core.Path.{_≡_}
 use mathlib.Core.List.{List}
 use lib.ListN.{length, getD}
-use Rattle.paper.specs.Bytes.{bytes}
 
 -- r is the number of two bytes, the first lowest
 pub record Two (a b r : ℕ) : Type 0 where
@@ -31,9 +30,3 @@ Alike s at x from to = (k : ℕ) → from ≤ k → k < to → getD s (at + k) 0
 pub record StandsAt (s : List ℕ) (at : ℕ) (x : List ℕ) : Type 0 where
   pub inside : at + length x ≤ length s
   pub alike : Alike s at x 0 (length x)
-
--- a tag of this name stands there, `<` or `</` its mark, with no blank before its `>`
-pub record Usual (s : List ℕ) (at : ℕ) (mark name : List ℕ) : Type 0 where
-  pub marked : StandsAt s at mark
-  pub named : StandsAt s (at + length mark) name
-  pub closed : StandsAt s (at + length mark + length name) (bytes ">")

@@ -14,7 +14,7 @@ use Rattle.paper.specs.Layout.{gap, text, attribute, attribute?}
 use Rattle.scan.specs.Follow.{Not, Starts, Named, sharp, skip}
 use Rattle.scan.specs.Texts.{Scanned}
 use Rattle.scan.proofs.Fronts.{leads-all, leads-sharp, named-sharp, gap-blank}
-use Rattle.scan.proofs.Tags.{attribute-leads}
+use Rattle.tags.proofs.Tags.{attribute-leads}
 use Rattle.walk.specs.Stands.{Stands, Past, There, others, IsMaybe, FindsAttribute, FindsAttributeMaybe}
 use Rattle.walk.specs.declared.Found.{Found}
 use Rattle.walk.specs.declared.Maybe.the-variants.{Absent, Present}

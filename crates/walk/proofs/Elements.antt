@@ -14,7 +14,7 @@ use Rattle.paper.specs.Layout.{blanks, tag, close, leaf, child, holding, holdin
 use Rattle.scan.specs.Follow.{Not, Starts, first, later, Before, anything, closing, clashes, sharp}
 use Rattle.scan.specs.Texts.{Scanned}
 use Rattle.scan.proofs.Fronts.{Leads, LeadsBy, leads-all, leads-seq, leads-by, leads-sharp, whole, maybe-starts, starts-sharp, starts-apart}
-use Rattle.scan.proofs.Tags.{close-leads, leaf-element}
+use Rattle.tags.proofs.Tags.{close-leads, leaf-element}
 use Rattle.walk.specs.Stands.{Stands, Past, There, tagOf, isThere, Ends, Finds, FindsMaybe, entering, leaving, shutting, OpensSo, missing, empty, holds}
 use Rattle.walk.specs.declared.Found.{Found}
 use Rattle.walk.specs.declared.Maybe.the-variants.{Absent, Present}

@@ -17,7 +17,7 @@ use Rattle.scan.specs.Follow.{Not, Starts, anything, sharp}
 use Rattle.scan.specs.Texts.{allowedIn, Scanned}
 use Rattle.scan.specs.declared.Step.the-variants.{Ok, Fail}
 use Rattle.scan.proofs.Fronts.{Leads, leads-all, leads-starts, leads-sharp}
-use Rattle.scan.proofs.Tags.{Body, Long, body-sharp, close-leads, long-leads}
+use Rattle.tags.proofs.Tags.{Body, Long, body-sharp, close-leads, long-leads}
 use Rattle.walk.specs.Stands.{Stands, Past, There, others, Ends, Finds, FindsContent, IsPart, IsFound}
 use Rattle.walk.specs.declared.Found.{Found}
 use Rattle.walk.proofs.Places.{part, these-inside, before, from, past-these, pasts, scan-end, run-ends}

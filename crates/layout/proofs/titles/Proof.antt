@@ -3,11 +3,11 @@ use native.Mathlib.Omega.{arith}
 use Prim.Native.Nat.{_-_}
 use lib.ListN.{length}
 use Rattle.scan.proofs.Steps.{step-is, step-from, failed-again}
-use Rattle.scan.proofs.Tags.{items-stop, items-more, item-onwards}
+use Rattle.tags.proofs.Tags.{items-stop, items-more, item-onwards}
 use Rattle.layout.proofs.Runs.{Onward}
 use Rattle.layout.proofs.Wholes.{titles-next}
 use Rattle.layout.specs.Parts.{totalled}
-use Rattle.scan.proofs.Tags.{spoken-element}
+use Rattle.tags.proofs.Tags.{spoken-element}
 use Rattle.paper.specs.Bytes.{bytes}
 use Rattle.paper.specs.Layout.{spoken}
 use borrow.Author.Needs.{needs}

@@ -1,5 +1,5 @@
 -- `scan::gap` meets its contract: a blank, and then any blanks, are a gap.
-use Rattle.scan.proofs.Tags.{gap-reads}
+use Rattle.scan.proofs.Joins.{gap-reads}
 use borrow.Author.Needs.{needs}
 use Rattle.scan.proofs.gap.Statement.{statement}
 use Rattle.scan.proofs.gap.Tie as tie

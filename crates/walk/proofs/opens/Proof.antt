@@ -1,4 +1,4 @@
--- `walk::opens` meets its contract: the scan's reading of the tag.
+-- `walk::opens` meets its contract: the reading of the tag in tags.
 use Rattle.scan.proofs.Steps.{step-is}
 use Rattle.walk.proofs.Leaves.{there-so, there-not}
 use borrow.Author.Needs.{needs}

@@ -1,9 +1,9 @@
--- `scan::spoken` meets its contract: the tag, the attribute, what follows them, and the blanks after the element.
+-- `tags::spoken` meets its contract: the tag, the attribute, what follows them, and the blanks after the element.
 use mathlib.Core.Path.{refl}
-use Rattle.scan.proofs.Tags.{spoken-reads, child-reads}
+use Rattle.tags.proofs.Tags.{spoken-reads, child-reads}
 use borrow.Author.Needs.{needs}
-use Rattle.scan.proofs.spoken.Statement.{statement}
-use Rattle.scan.proofs.spoken.Tie as tie
+use Rattle.tags.proofs.spoken.Statement.{statement}
+use Rattle.tags.proofs.spoken.Tie as tie
 
 tag-requires : tie.Need-tag-requires
 tag-requires c κs = search needs

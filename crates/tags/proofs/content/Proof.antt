@@ -1,11 +1,11 @@
--- `scan::content` meets its contract: blanks, and then `/>`, or `>`, a text and the end tag.
+-- `tags::content` meets its contract: blanks, and then `/>`, or `>`, a text and the end tag.
 use mathlib.Core.Path.{_∙_}
 use denote.Ref.{now}
 use Rattle.scan.proofs.Steps.{step-is, step-to, failed, failed-again}
-use Rattle.scan.proofs.Tags.{body-short, body-long, content-reads}
+use Rattle.tags.proofs.Tags.{body-short, body-long, content-reads}
 use borrow.Author.Needs.{needs}
-use Rattle.scan.proofs.content.Statement.{statement}
-use Rattle.scan.proofs.content.Tie as tie
+use Rattle.tags.proofs.content.Statement.{statement}
+use Rattle.tags.proofs.content.Tie as tie
 
 blanks-requires : tie.Need-blanks-requires
 blanks-requires c κs = search needs

@@ -1,8 +1,8 @@
--- `scan::attribute_maybe` meets its contract: the attribute is tried from the step that did not fail.
+-- `tags::attribute_maybe` meets its contract: the attribute is tried from the step that did not fail.
 use Rattle.scan.proofs.Steps.{tried, tried-failed}
 use borrow.Author.Needs.{needs}
-use Rattle.scan.proofs.attribute_maybe.Statement.{statement}
-use Rattle.scan.proofs.attribute_maybe.Tie as tie
+use Rattle.tags.proofs.attribute_maybe.Statement.{statement}
+use Rattle.tags.proofs.attribute_maybe.Tie as tie
 
 enum-known-st : tie.Need-enum-known-st
 enum-known-st c = search needs

@@ -8,16 +8,18 @@ use lib.ListN.{length, getD, drop, length-drop}
 use Rattle.paper.specs.Bytes.{bytes, isBlank}
 use Rattle.paper.specs.Form.{these, lit}
 use Rattle.paper.specs.Layout.{blanks, text, close, leaf}
 use Rattle.scan.specs.Reads.{Reads, Passes}
 use Rattle.scan.specs.Follow.{Not, anything}
 use Rattle.scan.specs.Texts.{allowedIn, isText}
-use Rattle.scan.specs.Words.{StandsAt, Usual}
+use Rattle.scan.specs.Words.{StandsAt}
 use Rattle.scan.specs.declared.Step.{Step}
 use Rattle.scan.specs.declared.Step.the-variants.{Ok, Fail}
 use Rattle.scan.proofs.Leaves.{these-differ, run-stops, at-drop}
 use Rattle.scan.proofs.Steps.{step-is}
-use Rattle.scan.proofs.Tags.{these-join, close-reads, body-long, content-reads, leaf-reads}
+use Rattle.scan.proofs.Joins.{these-join}
 use Rattle.scan.proofs.Words.{stands-took}
+use Rattle.tags.specs.Standing.{Usual}
+use Rattle.tags.proofs.Tags.{close-reads, body-long, content-reads, leaf-reads}
 
 here : {s : List ℕ} {at : ℕ} → StandsAt s at (bytes ">") → getD (drop at s) 0 0 ≡ 62
 here {s} {at} h = at-drop s at at 0 (omega arith) ∙ ap (λ (n : ℕ). getD s n 0) (omega arith) ∙ h .alike 0 (omega arith) (omega arith)

@@ -1,8 +1,8 @@
--- `scan::tag` meets its contract: `<` and the name are one word.
+-- `tags::tag` meets its contract: `<` and the name are one word.
 use borrow.Author.Needs.{needs}
-use Rattle.scan.proofs.Tags.{these-join}
-use Rattle.scan.proofs.tag.Statement.{statement}
-use Rattle.scan.proofs.tag.Tie as tie
+use Rattle.scan.proofs.Joins.{these-join}
+use Rattle.tags.proofs.tag.Statement.{statement}
+use Rattle.tags.proofs.tag.Tie as tie
 
 slice-aggregate-lit : tie.Need-slice-aggregate-lit
 slice-aggregate-lit c = search needs

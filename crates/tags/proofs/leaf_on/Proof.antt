@@ -1,8 +1,8 @@
--- `scan::leaf_on` meets its contract: the leaf is read from a step that did not fail, and one that failed is passed on.
+-- `tags::leaf_on` meets its contract: the leaf is read from a step that did not fail, and one that failed is passed on.
 use Rattle.scan.proofs.Steps.{step-from, failed-at}
 use borrow.Author.Needs.{needs}
-use Rattle.scan.proofs.leaf_on.Statement.{statement}
-use Rattle.scan.proofs.leaf_on.Tie as tie
+use Rattle.tags.proofs.leaf_on.Statement.{statement}
+use Rattle.tags.proofs.leaf_on.Tie as tie
 
 enum-known-st : tie.Need-enum-known-st
 enum-known-st c = search needs

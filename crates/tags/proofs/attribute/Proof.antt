@@ -1,11 +1,12 @@
--- `scan::attribute` meets its contract: a gap, the name and `="` as one word, a text and `"`.
+-- `tags::attribute` meets its contract: a gap, the name and `="` as one word, a text and `"`.
 use borrow.Author.Needs.{needs}
-use Rattle.scan.proofs.Tags.{these-join, attribute-reads}
+use Rattle.scan.proofs.Joins.{these-join}
+use Rattle.tags.proofs.Tags.{attribute-reads}
 use Rattle.scan.proofs.Steps.{step-is, failed, failed-again}
 use Rattle.scan.proofs.Fronts.{named-sharp}
 use denote.Ref.{now}
-use Rattle.scan.proofs.attribute.Statement.{statement}
-use Rattle.scan.proofs.attribute.Tie as tie
+use Rattle.tags.proofs.attribute.Statement.{statement}
+use Rattle.tags.proofs.attribute.Tie as tie
 
 gap-requires : tie.Need-gap-requires
 gap-requires c κs = search needs

@@ -1,11 +1,12 @@
--- `scan::close` meets its contract: in the usual way, or `</` and the name are one word, with blanks and `>` after it.
+-- `tags::close` meets its contract: in the usual way, or `</` and the name are one word, with blanks and `>` after it.
 use native.Mathlib.Omega.{arith}
 use Rattle.scan.proofs.Steps.{step-from, failed-again}
-use Rattle.scan.proofs.Tags.{these-join, close-reads}
-use Rattle.scan.proofs.Quick.{usual-close}
+use Rattle.scan.proofs.Joins.{these-join}
+use Rattle.tags.proofs.Tags.{close-reads}
+use Rattle.tags.proofs.Quick.{usual-close}
 use borrow.Author.Needs.{needs}
-use Rattle.scan.proofs.close.Statement.{statement}
-use Rattle.scan.proofs.close.Tie as tie
+use Rattle.tags.proofs.close.Statement.{statement}
+use Rattle.tags.proofs.close.Tie as tie
 
 enum-known-st : tie.Need-enum-known-st
 enum-known-st c = search needs

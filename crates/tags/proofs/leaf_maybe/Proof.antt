@@ -1,10 +1,10 @@
--- `scan::leaf_maybe` meets its contract: the leaf is tried from the step that did not fail, its tag first.
+-- `tags::leaf_maybe` meets its contract: the leaf is tried from the step that did not fail, its tag first.
 use mathlib.Core.Path.{refl}
 use Rattle.scan.proofs.Steps.{step-is, failed, tried, tried-failed}
-use Rattle.scan.proofs.Tags.{leaf-reads, child-reads}
+use Rattle.tags.proofs.Tags.{leaf-reads, child-reads}
 use borrow.Author.Needs.{needs}
-use Rattle.scan.proofs.leaf_maybe.Statement.{statement}
-use Rattle.scan.proofs.leaf_maybe.Tie as tie
+use Rattle.tags.proofs.leaf_maybe.Statement.{statement}
+use Rattle.tags.proofs.leaf_maybe.Tie as tie
 
 enum-known-st : tie.Need-enum-known-st
 enum-known-st c = search needs

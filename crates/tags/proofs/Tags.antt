@@ -11,27 +11,15 @@ use Rattle.paper.specs.Bytes.{bytes, all, isBlank}
 use Rattle.paper.specs.Form.{Form, these, lit, _·_, _∪_, given, one, run, maybe, each, each⁺}
 use Rattle.paper.specs.Tree.{Text, Spoken}
 use Rattle.paper.specs.Layout.{blanks, gap, text, tag, close, attribute, content, leaf, spoken, child, holding, holding?}
 use Rattle.scan.specs.Reads.{Viable, Reads, Passes, Tried}
 use Rattle.scan.specs.Follow.{Not, Starts, first, anything, skip, clashes, sharp, closing, Before}
 use Rattle.scan.specs.Texts.{allowedIn, isText}
 use Rattle.scan.specs.declared.Step.{Step}
 use Rattle.scan.specs.declared.Step.the-variants.{Ok, Fail}
 use Rattle.scan.proofs.Steps.{as-reads, as-reads-at, before, seq, pass-then, then-pass, either-first, either-second, skip-tried, stop, more, onwards, failed}
 use Rattle.scan.proofs.Fronts.{Ever, ev-seq, ev-these, ev-run, ev-gap, Evers, evs-then, evs-after, evs-both, Leads, leads-these, leads-all, leads-seq, leads-less, leads-starts, leads-sharp, leads-long, leads-by, LeadsBy, whole, StartsBy, clash-apart, starts-sharp, skip-gap, skip-none, maybe-starts, each-starts, first-starts, not-there}
 use Rattle.scan.proofs.Letters.{ev-text, sole-text}
 use Rattle.scan.proofs.Soles.{Sole, Sure, sure-these, sure-one, sure-run, sure-seq, sole-seq, sole-then, sole-after, sole-before, sole-or, sole-maybe, sole-each, sole-some}
-
--- ---- words
-
--- two words one after the other are one word
-pub these-join : {s x y : List ℕ} {a b c : Step} → Passes (these x) anything s a b → Passes (these y) anything s b c → Passes (these (x ++ y)) anything s a c
-these-join {s} {x} {y} p q =
-    as-reads {L = λ (u : Unit {0}). these x · these y} {M = λ (u : Unit {0}). these (x ++ y)} (λ u at w. tt)
-    (λ u at w d. d .2 ∙ (λ i. d .3 i ++ d .4 i)) (λ u at w d. (tt, (x, y, d, refl, refl), refl))
-    (then-pass (λ at w z l g. tt) (ev-these y) p q)
-
-pub gap-reads : {s : List ℕ} {a b c : Step} → Passes (one isBlank) anything s a b → Passes blanks (Not isBlank) s b c → Passes gap (Not isBlank) s a c
-gap-reads p q = then-pass (λ at w z l g. tt) (ev-run isBlank) p q
 
 -- ---- `</name>`
 

@@ -1,11 +1,11 @@
--- `scan::leaf` meets its contract: in the usual way, or the tag and what follows it; and the blanks after the leaf.
+-- `tags::leaf` meets its contract: in the usual way, or the tag and what follows it; and the blanks after the leaf.
 use native.Mathlib.Omega.{arith}
 use Rattle.scan.proofs.Steps.{step-is, failed, failed-again}
-use Rattle.scan.proofs.Tags.{leaf-reads, child-reads}
-use Rattle.scan.proofs.Quick.{usual-leaf}
+use Rattle.tags.proofs.Tags.{leaf-reads, child-reads}
+use Rattle.tags.proofs.Quick.{usual-leaf}
 use borrow.Author.Needs.{needs}
-use Rattle.scan.proofs.leaf.Statement.{statement}
-use Rattle.scan.proofs.leaf.Tie as tie
+use Rattle.tags.proofs.leaf.Statement.{statement}
+use Rattle.tags.proofs.leaf.Tie as tie
 
 slice-aggregate-usual : tie.Need-slice-aggregate-usual
 slice-aggregate-usual c = search needs

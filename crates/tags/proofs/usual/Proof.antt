@@ -1,9 +1,9 @@
--- `scan::usual` meets its contract: its three parts stand one behind the other.
+-- `tags::usual` meets its contract: its three parts stand one behind the other.
 use mathlib.Core.Path.{sym}
 use mathlib.Core.Bool.{true≢false}
 use borrow.Author.Needs.{needs}
-use Rattle.scan.proofs.usual.Statement.{statement}
-use Rattle.scan.proofs.usual.Tie as tie
+use Rattle.tags.proofs.usual.Statement.{statement}
+use Rattle.tags.proofs.usual.Tie as tie
 
 begins-requires : tie.Need-begins-requires
 begins-requires c κs = search needs
