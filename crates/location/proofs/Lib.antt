@@ -8,8 +8,4 @@ pub mod Words
 pub mod Levels
 pub mod Gather
 pub mod Verdicts
-pub mod Commas
-pub mod Walks
-pub mod Starting
-pub mod Laying
 pub mod Listed

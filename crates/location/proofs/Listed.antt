@@ -5,26 +5,13 @@ use mathlib.Core.List.{List}
 use Rattle.scan.specs.Parts.{Shows}
 use Rattle.scan.proofs.Parts.{shows-any, shows-once}
 use Rattle.location.specs.Judging.{Judges, JudgesPart}
-use Rattle.location.specs.Room.{Answers, AnswersPart}
 use Rattle.location.specs.declared.judging.Verdict.{Verdict}
-use Rattle.location.specs.declared.room.Answer.{Answer}
 use Rattle.location.proofs.Verdicts.{judges-once}
-use Rattle.location.proofs.Laying.{answers-once}
 
 module _ {s : List ℕ} {from to L : ℕ} where
   pub part-judged : {w : List ℕ} {r : Verdict} → Shows s from to w → Judges w L r → JudgesPart s from to L r
   part-judged {r = r} x j = record { is = λ v y. subst (λ (u : List ℕ). Judges u L r) (shows-once x y) j }
 
-  pub part-answered : {w out after : List ℕ} {r : Answer} → Shows s from to w → Answers w L out r after → AnswersPart s from to L out r after
-  part-answered {out = out} {after = after} {r = r} x j =
-      record { is = λ v y. subst (λ (u : List ℕ). Answers u L out r after) (shows-once x y) j }
-
   -- two results that are allowed are equal
   pub part-judges-once : (r q : Verdict) → JudgesPart s from to L r → JudgesPart s from to L q → r ≡ q
   part-judges-once r q h k = let x = shows-any s from to in judges-once (x .0) L r q (h .is (x .0) (x .1)) (k .is (x .0) (x .1))
-
-  pub part-answers-once : (out : List ℕ) (r q : Answer) (a b : List ℕ) → AnswersPart s from to L out r a → AnswersPart s from to L out q b
-      → _≡_ {A = Answer × List ℕ} (r, a) (q, b)
-  part-answers-once out r q a b h k =
-      let x = shows-any s from to in
-      answers-once (x .0) L out r q a b (h .is (x .0) (x .1)) (k .is (x .0) (x .1))

@@ -1,6 +1,4 @@
--- What the crate's promises cite: Judging, Walking and Room stand in public ones, Readings in those of inner functions, Places in both.
+-- What the crate's promises cite: Judging stands in those of a verdict, Places in those of bytes at a place, Readings in those of what is read.
 pub mod Places
 pub mod Judging
-pub mod Walking
-pub mod Room
 pub mod Readings

@@ -166,7 +166,7 @@ fn read(s: &[u8], at: usize, top: u32, depth: usize, turn: bool, far: bool) -> O
 }
 
 // The location that the bytes s of a part are written from, for a sequence of `top` residues.
-pub(crate) fn judge(s: &[u8], top: u32) -> Verdict
+pub fn judge(s: &[u8], top: u32) -> Verdict
     ensures { λ r. ⌜ Judges (now (s .entry)) top r ⌝ }
 {
     match read(s, 0, top, 2, true, true) {

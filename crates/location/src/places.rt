@@ -16,7 +16,7 @@ pub fn byte_is(s: &[u8], at: usize, b: u8) -> bool
 }
 
 // Whether the bytes x stand at `at`.
-pub fn begins(s: &[u8], at: usize, x: &[u8]) -> bool
+pub(crate) fn begins(s: &[u8], at: usize, x: &[u8]) -> bool
     ensures { λ r. ⌜ Has (now (s .entry)) at (now (x .entry)) r ⌝ }
 {
     if s.len() < at {

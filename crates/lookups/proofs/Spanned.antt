@@ -16,9 +16,9 @@ use Rattle.judging.specs.Known.{Knows}
 use Rattle.judging.specs.declared.Known.{Known}
 use Rattle.judging.proofs.Bytes.{text-shown}
 use Rattle.location.specs.Judging.{Spells}
-use Rattle.location.specs.Room.{Answers, AnswersPart}
-use Rattle.location.specs.declared.room.Answer.{Answer}
-use Rattle.location.specs.declared.room.Answer.the-variants as answer
+use Rattle.spanning.specs.Room.{Answers, AnswersPart}
+use Rattle.spanning.specs.declared.room.Answer.{Answer}
+use Rattle.spanning.specs.declared.room.Answer.the-variants as answer
 use Rattle.location.proofs.Verdicts.{read-as}
 use Rattle.translating.specs.Plans.{Keeps}
 use Rattle.finding.specs.Finds.{FeatureIs}

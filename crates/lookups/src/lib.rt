@@ -9,8 +9,8 @@ use finding::find_qualifier;
 use finding::find_sequence;
 use items::FoundSequence;
 use judging::Known;
-use location::room::Answer;
 use scan::bytes_of;
+use spanning::room::Answer;
 use translating::Written;
 use value::Kind;
 use walk::Maybe;
@@ -302,7 +302,7 @@ pub fn spans(listing: &[u8], k: usize, j: usize, out: &mut [u32]) -> SpansAnswer
         FeatureAt::Found { sequence, feature } => {
             let known = known_of(listing, sequence);
             let location = feature.location;
-            match location::room::spans(listing, location.from, location.to, known.top, out) {
+            match spanning::room::spans(listing, location.from, location.to, known.top, out) {
                 Answer::Are(operator, count) => SpansAnswer {
                     number: 0,
                     place: 0,

@@ -11,10 +11,10 @@ use Rattle.paper.specs.Locations.{Location}
 use Rattle.paper.specs.Locations as paper
 use Rattle.paper.specs.Translation.{basesOf, complementOf, codingText, codonLetter, letters}
 use Rattle.codon.specs.Tables.{setBases, setsLetter}
-use Rattle.location.specs.Walking.{Left, stepsLeft, Starts, Steps}
-use Rattle.location.specs.declared.walking.Span.{Span}
-use Rattle.location.specs.declared.walking.Walk.{Walk}
-use Rattle.location.specs.declared.walking.Next.the-variants as next
+use Rattle.spanning.specs.Walking.{Left, stepsLeft, Starts, Steps}
+use Rattle.spanning.specs.declared.walking.Span.{Span}
+use Rattle.spanning.specs.declared.walking.Walk.{Walk}
+use Rattle.spanning.specs.declared.walking.Next.the-variants as next
 use Rattle.reading.specs.declared.Reading.{Reading}
 use Rattle.reading.specs.declared.Base.{Base}
 use Rattle.reading.specs.declared.Letter.{Letter}

@@ -9,8 +9,8 @@ use lib.ListN.{length, take, drop, getD, length-reverse, length-map, length-drop
 use lib.Dec.{eqb}
 use lib.Seq.{slice, slice-cons, take-add, take-suc, drop-at, drop-drop, drop-append-le, length-take-le, length-slice}
 use Rattle.paper.specs.Translation.{complementOf, stretch}
-use Rattle.location.specs.declared.walking.Span.{Span}
-use Rattle.location.specs.declared.walking.Walk.{Walk}
+use Rattle.spanning.specs.declared.walking.Span.{Span}
+use Rattle.spanning.specs.declared.walking.Walk.{Walk}
 use Rattle.reading.specs.Reading.{strand, Opens}
 
 -- residues first to last are those from the place of the first on

@@ -10,9 +10,9 @@ use Rattle.paper.specs.Locations.{Location, Locates, breaks25}
 use Rattle.paper.specs.Locations as paper
 use Rattle.paper.specs.Translation.{basesOf, complementOf, residuesOf, codingText, letters}
 use Rattle.codon.specs.Tables.{setBases}
-use Rattle.location.specs.Walking.{Left, stepsLeft, spanIs}
-use Rattle.location.specs.declared.walking.Span.{Span}
-use Rattle.location.specs.declared.walking.Walk.{Walk}
+use Rattle.spanning.specs.Walking.{Left, stepsLeft, spanIs}
+use Rattle.spanning.specs.declared.walking.Span.{Span}
+use Rattle.spanning.specs.declared.walking.Walk.{Walk}
 use Rattle.reading.specs.declared.Reading.{Reading}
 use Rattle.reading.specs.declared.Base.{Base}
 use Rattle.reading.specs.declared.Base.the-variants as base

@@ -5,11 +5,11 @@
 use codon::codon;
 use codon::letter;
 use codon::set_of;
-use location::walking::Next;
-use location::walking::Span;
-use location::walking::Walk;
-use location::walking::start;
-use location::walking::step;
+use spanning::walking::Next;
+use spanning::walking::Span;
+use spanning::walking::Walk;
+use spanning::walking::start;
+use spanning::walking::step;
 ghost use mathlib.Core.Path.{_≡_};
 ghost use Prim.Native.Nat.{_+_, _*_, _≤_, _<_};
 ghost use lib.ListN.{length, getD};

@@ -6,11 +6,11 @@ use mathlib.Core.List.{List}
 use Rattle.paper.specs.Locations.{mark}
 use Rattle.layout.specs.Says.{Lays, Refuses}
 use Rattle.location.specs.Judging.{Judges}
-use Rattle.location.specs.Room.{Answers}
+use Rattle.spanning.specs.Room.{Answers}
 use Rattle.location.specs.declared.judging.Facts.{Facts}
 use Rattle.location.specs.declared.judging.Verdict.the-variants.{Bad, Is}
-use Rattle.location.specs.declared.room.Answer.{Answer}
-use Rattle.location.specs.declared.room.Answer.the-variants as answer
+use Rattle.spanning.specs.declared.room.Answer.{Answer}
+use Rattle.spanning.specs.declared.room.Answer.the-variants as answer
 use Rattle.comparing.specs.Comparing.{Compares}
 use Rattle.writing.specs.Writing.{Writes}
 use Rattle.writing.specs.declared.Size.{Size}

@@ -2,7 +2,7 @@
 // Relies on those crates; nothing of the product relies on it.
 use layout::Shape;
 use location::judging::Verdict;
-use location::room::Answer;
+use spanning::room::Answer;
 use writing::Size;
 ghost use mathlib.Core.Path.{_≡_};
 ghost use Rattle.paper.specs.Locations.{mark};
@@ -78,7 +78,7 @@ pub extern "C" fn trial_spans(
 ) -> u32
     ensures { λ r. ⌜ SpansNumbers (now (part .entry)) top (now (out .entry)) r (now (operator .exit)) (now (count .exit)) (now (out .exit)) ⌝ }
 {
-    match location::room::spans(part, 0, part.len(), top, out) {
+    match spanning::room::spans(part, 0, part.len(), top, out) {
         Answer::Bad => {
             *operator = 0;
             *count = 0;

@@ -1,7 +1,7 @@
 -- The next span that has residues. Invariant: what was left at the start is left.
 use lib.ListN.{length}
-use Rattle.location.specs.Walking.{stepsLeft}
-use Rattle.location.proofs.Walks.{steps-are}
+use Rattle.spanning.specs.Walking.{stepsLeft}
+use Rattle.spanning.proofs.Walks.{steps-are}
 use Rattle.reading.proofs.Readings.{Filling, filling-start, filling-full, filling-done, filling-next, fewer-steps}
 use borrow.Author.Needs.{needs}
 use Rattle.reading.proofs.fill.Statement.{statement}

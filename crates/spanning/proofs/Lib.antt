@@ -1,0 +1,6 @@
+-- Laws that no one function owns.
+pub mod Commas
+pub mod Walks
+pub mod Starting
+pub mod Laying
+pub mod Listed
