@@ -13,7 +13,7 @@
 /* A member of a join has so many residues. */
 enum { MEMBER = 3000 };
 
-/* How fast the proved calls must be at least: beside the loop, and beside transeq as a person runs it. */
+/* How fast the proved calls must be at least: beside the loop, and beside transeq. */
 static const double loop_target = 0.5;
 static const double transeq_target = 40.0;
 
@@ -202,6 +202,7 @@ static void open_question(struct question *question, const char *what, call *pro
     snprintf(question->words, sizeof question->words, "%s, %s", what, region->words);
     question->row = row_of(question->words, region->residues.length);
     question->row.targets[TABLE_LOOP] = loop_target;
+    question->row.targets[TRANSEQ] = transeq_target;
 }
 
 /* The loop and the proved call, one after the other, each with room that has no letters yet. */
@@ -307,7 +308,6 @@ static bool measure(const struct size *size, const char *folder, int rounds)
     for (size_t i = 0; i < COUNT(questions); i++) {
         struct row *row = &questions[i].row;
         row->peers[TRANSEQ] = questions[i].region->transeq->best - (size->with_start_up ? 0 : peers[START_UP].best);
-        row->targets[TRANSEQ] = size->with_start_up ? transeq_target : 0;
         met = tell_row(row, size->note) && met;
     }
     return met;

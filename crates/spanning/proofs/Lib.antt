@@ -4,3 +4,4 @@ pub mod Walks
 pub mod Starting
 pub mod Laying
 pub mod Listed
+pub mod Walked
