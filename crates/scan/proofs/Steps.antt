@@ -4,7 +4,7 @@ use native.Mathlib.Nat.{add-assoc, add-zero}
 use native.Mathlib.Omega.{arith}
 use mathlib.Core.Path.{_≡_, refl, sym, ap, _∙_, subst, subst₂}
 use mathlib.Core.Bool.{Bool}
-use mathlib.Core.List.{List, [], _∷_, _++_, append-assoc}
+use mathlib.Core.List.{List, [], _∷_, _++_}
 use lib.ListN.{length, take, drop, length-append, length-drop}
 use lib.Seq.{drop-drop, drop-append-seam}
 use Rattle.paper.specs.Form.{Form, one, _·_, _∪_, each, maybe}
@@ -247,6 +247,3 @@ pub go : {A : Type 0} (L : A → Form) (F : List ℕ → Type 0) {s : List ℕ} 
 go L F {s} {x} {y} at b w z h l g e =
     let k = known L F s at (h .0) b w z l g (h .2) (subst (λ (v : Step). Reads L F s v y) (h .1) e) in
     (k .0, k .1, sym (drop-drop (length w) at s) ∙ ap (drop (length w)) (h .2) ∙ drop-append-seam w z)
-
-pub peel : (F G : Form) (at : ℕ) (w z : List ℕ) (d : (F · G) at w) → w ++ z ≡ d .0 ++ (d .1 ++ z)
-peel F G at w z d = ap (λ (u : List ℕ). u ++ z) (d .2) ∙ append-assoc (d .0) (d .1) z

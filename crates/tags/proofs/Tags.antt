@@ -17,7 +17,7 @@ use Rattle.scan.specs.Texts.{allowedIn, isText}
 use Rattle.scan.specs.declared.Step.{Step}
 use Rattle.scan.specs.declared.Step.the-variants.{Ok, Fail}
 use Rattle.scan.proofs.Steps.{as-reads, as-reads-at, before, seq, pass-then, then-pass, either-first, either-second, skip-tried, stop, more, onwards, failed}
-use Rattle.scan.proofs.Fronts.{Ever, ev-seq, ev-these, ev-run, ev-gap, Evers, evs-then, evs-after, evs-both, Leads, leads-these, leads-all, leads-seq, leads-less, leads-starts, leads-sharp, leads-long, leads-by, LeadsBy, whole, StartsBy, clash-apart, starts-sharp, skip-gap, skip-none, maybe-starts, each-starts, first-starts, not-there}
+use Rattle.scan.proofs.Fronts.{Ever, ev-seq, ev-these, ev-run, ev-gap, Evers, evs-then, evs-after, evs-both, Leads, leads-these, leads-all, leads-seq, leads-less, leads-starts, leads-sharp, leads-long, leads-by, LeadsBy, whole, StartsBy, clash-apart, starts-sharp, skip-gap, skip-none, maybe-starts, each-starts, not-there}
 use Rattle.scan.proofs.Letters.{ev-text, sole-text}
 use Rattle.scan.proofs.Soles.{Sole, Sure, sure-these, sure-one, sure-run, sure-seq, sole-seq, sole-then, sole-after, sole-before, sole-or, sole-maybe, sole-each, sole-some}
 
@@ -375,9 +375,6 @@ module _ {A : Type 0} {E : A → Form} {name : List ℕ} (e : Element E name) (l
 
   tagged-sharp : sharp isBlank ((bytes "<" ++ name) ∷ l) ≡ true
   tagged-sharp = b .sharps
-
-  pub item-starts : (a : A) (at : ℕ) (w z : List ℕ) → Item a at w → Starts ((bytes "<" ++ name) ∷ l) (w ++ z)
-  item-starts = first-starts whole (bytes "<" ++ name) Item item-by l
 
   pub optional-starts : (o : Option A) (at : ℕ) (w z : List ℕ) → maybe Item o at w → Starts l z → Starts ((bytes "<" ++ name) ∷ l) (w ++ z)
   optional-starts = maybe-starts whole (bytes "<" ++ name) Item item-by l
