@@ -3,8 +3,10 @@
 // it out with its rule; a public call takes it there and lends it on.
 ghost use mathlib.Core.Path.{_≡_};
 ghost use Prim.Native.Nat.{ℕ, _<_};
+ghost use lib.Dec.{eqb};
 ghost use Rattle.paper.specs.Translation.{codonLetter};
 ghost use Rattle.codon.specs.Tables.{setsLetter, FourBits, SetsOf, SetTable, TurnTable, LetterTable, SetAt};
+ghost use Rattle.codon.specs.Stops.{flag, stopOf, isStop, codonOn};
 
 // The base set of each byte, sixteen to a line: 1 for a, 2 for c, 4 for g, 8 for t, added; 0 where it is none of `acgtmrwsykvhdbn`.
 const SETS: [u8; 256] = *b"\
@@ -154,4 +156,34 @@ pub fn codon(a: u8, b: u8, c: u8, s: &[u8; 256], t: &[u8; 4096]) -> u8
     ensures { λ r. ⌜ ((f : ℕ → ℕ) → SetsOf f (now (s .entry)) → r ≡ codonLetter (f a) (f b) (f c)) ⌝ }
 {
     letter(set_of(a, s), set_of(b, s), set_of(c, s), t)
+}
+
+// ---- stops
+
+// 1 where two bytes are the same.
+fn equal(a: u8, b: u8) -> u8
+    ensures { λ y. ⌜ y ≡ flag (eqb a b) ⌝ }
+{
+    if a == b { 1 } else { 0 }
+}
+
+// 1 where three bytes are a stop of the letters t, a, g and r.
+fn stop_of(x: u8, y: u8, z: u8, t: u8, a: u8, g: u8, r: u8) -> u8
+    ensures { λ n. ⌜ n ≡ flag (stopOf t a g r x y z) ⌝ }
+{
+    let ends = equal(z, a);
+    let after_a = ends | equal(z, g) | equal(z, r);
+    let after_g = (equal(y, g) | equal(y, r)) & ends;
+    equal(x, t) & (equal(y, a) & after_a | after_g)
+}
+
+// 1 where a codon is a stop, of the residues themselves or of their complements. By comparing, and with no branch, so that a loop over it is
+// compiled to vector code.
+pub fn stop(x: u8, y: u8, z: u8, turned: bool) -> u8
+    ensures { λ n. ⌜ n ≡ flag (isStop (codonOn turned x y z)) ⌝ }
+{
+    if turned {
+        return stop_of(x, y, z, b'a', b't', b'c', b'y');
+    }
+    stop_of(x, y, z, b't', b'a', b'g', b'r')
 }

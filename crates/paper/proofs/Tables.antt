@@ -23,3 +23,9 @@ Test g f t n = map g t ≡ listed f 0 n
 pub at-each : {A : Type 0} (g f : ℕ → A) (t : List ℕ) (n : ℕ) → Test g f t n → (k : ℕ) → k < n → g (getD t k 0) ≡ f k
 at-each g f t n test k h =
     sym (List·getD-map g t k 0) ∙ ap (λ (l : List _). getD l k (g 0)) test ∙ listed-at f 0 n k (g 0) h ∙ ap f (omega arith)
+
+-- two functions are the same at each number below n, from one equation that antt computes
+pub each-same : {A : Type 0} (f g : ℕ → A) (n : ℕ) → listed f 0 n ≡ listed g 0 n → (k : ℕ) → k < n → f k ≡ g k
+each-same f g n same k h =
+    let z : k ≡ 0 + k = omega arith in
+    ap f z ∙ sym (listed-at f 0 n k (f 0) h) ∙ ap (λ (l : List _). getD l k (f 0)) same ∙ listed-at g 0 n k (f 0) h ∙ ap g (sym z)

@@ -11,14 +11,16 @@ use Rattle.paper.specs.Locations.{Location}
 use Rattle.paper.specs.Locations as paper
 use Rattle.paper.specs.Translation.{basesOf, complementOf, codingText, codonLetter, letters}
 use Rattle.codon.specs.Tables.{setBases, setsLetter}
+use Rattle.codon.specs.Stops.{codonOn}
 use Rattle.spanning.specs.Walking.{Left, stepsLeft, Starts, Steps}
 use Rattle.spanning.specs.declared.walking.Span.{Span}
 use Rattle.spanning.specs.declared.walking.Walk.{Walk}
 use Rattle.spanning.specs.declared.walking.Next.the-variants as next
 use Rattle.reading.specs.declared.Reading.{Reading}
+use Rattle.reading.specs.declared.Codon.{Codon}
 use Rattle.reading.specs.declared.Base.{Base}
 use Rattle.reading.specs.declared.Letter.{Letter}
-use Rattle.reading.specs.Reading.{Ready, strand, current, spanLetters, TextLeft, residuesLeft, Opens, Fills, BaseIs, BaseSays, Bases, Onward, Gives, LetterIs, LetterSays, Letters, Skips, Codes, Begins, Ends}
+use Rattle.reading.specs.Reading.{Ready, strand, current, spanLetters, TextLeft, residuesLeft, Opens, Fills, BaseIs, BaseSays, Bases, CodonAt, Onward, Gives, LetterIs, LetterSays, Letters, Skips, Codes, Begins, Ends}
 use Rattle.reading.proofs.Residues.{strand-none, first-ahead, first-behind, three-ahead, three-behind, strand-length, drop-ahead, drop-behind}
 use Rattle.reading.proofs.Codons.{letters-within, letters-split, letters-at}
 
@@ -184,6 +186,10 @@ module _ (s : List ℕ) (low high k : ℕ) (h : low + 3 * k + 3 ≤ high) (i : h
       (sym
       (letters-at (reverse (map complementOf (slice low high s))) k (span-fits s low high true k (omega arith) i)
       (sym (drop-behind s low high (3 * k) (omega arith) i) ∙ three-behind s low (high - 3 * k) (omega arith) (omega arith))))
+
+pub codon-letter : {s : List ℕ} {low high : ℕ} {turned : Bool} {k : ℕ} {y : Codon} → CodonAt s low high turned k y → (t : Bool) → turned ≡ t
+    → codonOn t (y .first) (y .second) (y .third) ≡ getD (spanLetters s low high turned) k 0
+codon-letter h t e = rw (← e) (h .is)
 
 -- k codons of it passed
 module _ (s : List ℕ) {x y : Reading} {k : ℕ} (r : Ready (length s) x) (o : Onward x k y) where

@@ -10,6 +10,7 @@ use lib.Seq.{getD-take, length-take-le}
 use borrow.Author.Tests.{eq-eqb, ne-eqb}
 use borrow.Author.Count.{below-more}
 use Rattle.paper.specs.Translation.{dropStop, hasStopInside}
+use Rattle.codon.specs.Stops.{flag, isStop}
 use Rattle.reading.specs.Letters.{NoStops, Clear}
 
 -- ---- no stop
@@ -20,6 +21,10 @@ none-start l a = record { none = λ k h i. absurd (omega arith) }
 module _ {l : List ℕ} {a b : ℕ} (h : NoStops l a b) where
   pub none-more : {c : ℕ} → c ≡ getD l b 0 → (c ≡ code "*" → ⊥) → NoStops l a (b + 1)
   none-more e n = record { none = below-more _ b (h .none) (λ i z. n (e ∙ z)) }
+
+-- a test that is 0
+pub no-flag : (c : ℕ) → flag (isStop c) ≡ 0 → c ≡ code "*" → ⊥
+no-flag c e z = let k : flag (isStop c) ≡ 1 = ap flag (eq-eqb c (code "*") z) in omega arith
 
 pub clear-start : {low high : ℕ} (l : List ℕ) → low ≤ high → Clear low high l 0
 clear-start l h = record { within = omega arith; clear = none-start l 0 }

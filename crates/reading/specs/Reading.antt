@@ -3,17 +3,19 @@ use Prim.Native.Nat.{ℕ, suc, _+_, _*_, _-_, _≤_, _<_}
 use mathlib.Core.Path.{_≡_}
 use mathlib.Core.Bool.{Bool, true, false, cond}
 use mathlib.Core.List.{List, [], _∷_, _++_, map, reverse}
-use lib.ListN.{length, drop}
+use lib.ListN.{length, drop, getD}
 use lib.Seq.{slice}
 use Rattle.paper.specs.Bytes.{raw}
 use Rattle.paper.specs.Locations.{Location, Locates, breaks25}
 use Rattle.paper.specs.Locations as paper
 use Rattle.paper.specs.Translation.{basesOf, complementOf, residuesOf, codingText, letters}
 use Rattle.codon.specs.Tables.{setBases}
+use Rattle.codon.specs.Stops.{codonOn}
 use Rattle.spanning.specs.Walking.{Left, stepsLeft, spanIs}
 use Rattle.spanning.specs.declared.walking.Span.{Span}
 use Rattle.spanning.specs.declared.walking.Walk.{Walk}
 use Rattle.reading.specs.declared.Reading.{Reading}
+use Rattle.reading.specs.declared.Codon.{Codon}
 use Rattle.reading.specs.declared.Base.{Base}
 use Rattle.reading.specs.declared.Base.the-variants as base
 use Rattle.reading.specs.declared.Letter.{Letter}
@@ -80,6 +82,10 @@ BaseSays s loc L x (base.Is b y) = BaseIs s loc L x b y
 
 pub record Bases (s loc : List ℕ) (L : ℕ) (x : Reading) (r : Base) : Type 0 where
   pub says : BaseSays s loc L x r
+
+-- y is the codon k of the residues between two places on a strand: its letter is the one there
+pub record CodonAt (s : List ℕ) (low high : ℕ) (turned : Bool) (k : ℕ) (y : Codon) : Type 0 where
+  pub is : codonOn turned (y .first) (y .second) (y .third) ≡ getD (spanLetters s low high turned) k 0
 
 -- y has passed k whole codons of the current span of x
 pub record Onward (x : Reading) (k : ℕ) (y : Reading) : Type 0 where

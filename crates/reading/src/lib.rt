@@ -5,6 +5,7 @@
 use codon::codon;
 use codon::letter;
 use codon::set_of;
+use codon::stop;
 use spanning::walking::Next;
 use spanning::walking::Span;
 use spanning::walking::Walk;
@@ -14,7 +15,8 @@ ghost use mathlib.Core.Path.{_≡_};
 ghost use Prim.Native.Nat.{_+_, _*_, _≤_, _<_};
 ghost use lib.ListN.{length, getD};
 ghost use Rattle.codon.specs.Tables.{SetTable, TurnTable, LetterTable};
-ghost use Rattle.reading.specs.Reading.{Ready, spanLetters, Opens, Fills, Bases, Onward, Skips, Letters, Begins, Ends};
+ghost use Rattle.codon.specs.Stops.{flag, isStop};
+ghost use Rattle.reading.specs.Reading.{Ready, spanLetters, Opens, Fills, Bases, CodonAt, Onward, Skips, Letters, Begins, Ends};
 
 // What is left to read: of the current span the residues from low to before high, on the complemented strand from the back; and then the
 // spans that are left of the walk.
@@ -23,6 +25,13 @@ pub struct Reading {
     pub low: usize,
     pub high: usize,
     pub turned: bool,
+}
+
+// Three residues, in the order in which they are read on a strand.
+pub struct Codon {
+    pub first: u8,
+    pub second: u8,
+    pub third: u8,
 }
 
 pub enum Base {
@@ -165,8 +174,30 @@ fn slowly(
     }
 }
 
-// The letter of the codon k of the residues from low to before high on a strand. Which strand it is stays the same in a loop over k, so the
-// compiler takes the test out of the loop.
+// The codon k of the residues from low to before high on a strand. Which strand it is stays the same in a loop over k, so the compiler takes
+// the test out of the loop.
+fn codon_at(r: &[u8], low: usize, high: usize, turned: bool, k: usize) -> Codon
+    requires { ⌜ low + 3 * k + 3 ≤ high ⌝ }
+    requires { ⌜ high ≤ length (now r) ⌝ }
+    ensures { λ y. ⌜ CodonAt (now (r .entry)) low high turned k y ⌝ }
+{
+    if turned {
+        let end = high - 3 * k;
+        return Codon {
+            first: r[end - 1],
+            second: r[end - 2],
+            third: r[end - 3],
+        };
+    }
+    let at = low + 3 * k;
+    Codon {
+        first: r[at],
+        second: r[at + 1],
+        third: r[at + 2],
+    }
+}
+
+// Its letter.
 pub fn letter_at(
     r: &[u8],
     low: usize,
@@ -184,12 +215,21 @@ pub fn letter_at(
     requires { ⌜ LetterTable (now table) ⌝ }
     ensures { λ y. ⌜ y ≡ getD (spanLetters (now (r .entry)) low high turned) k 0 ⌝ }
 {
+    let x = codon_at(r, low, high, turned, k);
     if turned {
-        let end = high - 3 * k;
-        return codon(r[end - 1], r[end - 2], r[end - 3], turns, table);
+        return codon(x.first, x.second, x.third, turns, table);
     }
-    let at = low + 3 * k;
-    codon(r[at], r[at + 1], r[at + 2], sets, table)
+    codon(x.first, x.second, x.third, sets, table)
+}
+
+// 1 where it is a stop.
+pub fn stop_at(r: &[u8], low: usize, high: usize, turned: bool, k: usize) -> u8
+    requires { ⌜ low + 3 * k + 3 ≤ high ⌝ }
+    requires { ⌜ high ≤ length (now r) ⌝ }
+    ensures { λ y. ⌜ y ≡ flag (isStop (getD (spanLetters (now (r .entry)) low high turned) k 0)) ⌝ }
+{
+    let x = codon_at(r, low, high, turned, k);
+    stop(x.first, x.second, x.third, turned)
 }
 
 // k whole codons of the current span further.

@@ -9,26 +9,17 @@ use lib.ListN.{length, take, drop, set, length-append, length-drop, length-set}
 use lib.Seq.{take-all, take-at, take-append-le, take-append-add, take-suc-set, length-take-le}
 use Rattle.paper.specs.Bytes.{bytes}
 use Rattle.paper.specs.Tree.{Sequence, Feature}
-use Rattle.paper.specs.Translation.{dropStop, hasStopInside}
-use Rattle.paper.specs.Answers.{Translates, Lines}
-use Rattle.scan.specs.Parts.{Shows}
+use Rattle.paper.specs.Answers.{Outcome, Translates, Lines, Lent, front}
 use Rattle.walk.specs.Stands.{There}
-use Rattle.items.specs.Items.{FindsFeature}
+use Rattle.items.specs.Items.{IsFeature, FindsFeature}
 use Rattle.items.specs.declared.FoundFeature.{FoundFeature}
-use Rattle.reading.specs.Letters.{lettersOf}
-use Rattle.writing.specs.Writing.{Poured, Pours}
-use Rattle.writing.specs.declared.Size.{Size}
-use Rattle.writing.specs.declared.Size.the-variants as size
 use Rattle.judging.specs.Known.{Knows}
 use Rattle.judging.specs.declared.Known.{Known}
 use Rattle.coding.proofs.Lists.{in-last}
-use Rattle.translating.specs.Plans.{PlanIs, Plans}
-use Rattle.translating.specs.Lines.{Line, PassesFeature, KeepAll, PutsDash, PutsLine, PutsLines}
-use Rattle.translating.specs.declared.Plan.{Plan}
-use Rattle.translating.specs.declared.Plan.the-variants.{NoCds, From}
-use Rattle.translating.specs.declared.Plan.the-variants as plan
-use Rattle.translating.proofs.Planned.{Coded, coded}
-use Rattle.translating.proofs.Laid.{line-once, lines-last}
+use Rattle.translating.specs.Plans.{Keeps}
+use Rattle.translating.specs.Lines.{TranslatesOne, Line, PassesFeature, KeepAll, PutsDash, PutsLine, PutsLines}
+use Rattle.translating.specs.declared.Written.{Written}
+use Rattle.translating.proofs.Laid.{lineOf, line-once, lines-last}
 use Rattle.translating.proofs.Walks.{SeenFeatures, none-seen, one-more, stuck, all-seen, keep-front}
 
 -- ---- the line `-`
@@ -56,99 +47,82 @@ dashed {after = after} d z h =
     let k = d .is (omega (arith, e, h)) in
     (k .0 ∙ sym e, ap (λ (n : ℕ). take n after) (k .0) ∙ k .1 ∙ sym z)
 
--- ---- one line
+-- ---- one line, from the answer that `translate` gives
 
-module _ {s out : List ℕ} {known : Known} {g : FoundFeature} {p : Plan} (plans : Plans s known g p) where
-  pub put-none : p ≡ NoCds → PutsLine s known g out 0 out
-  put-none z =
+-- the line x, by the number and the size that were answered and what then stands in the lent bytes
+data Told (out : List ℕ) : (number size : ℕ) (mid x : List ℕ) → Type 0 where
+  none : Told out 35 0 out []
+  dash : {n : ℕ} → (n ≡ 35 → ⊥) → (n ≡ 0 → ⊥) → Told out n 0 out (bytes "-\n")
+  short : (y : List ℕ) → length out < length y → Told out 34 0 out (y ++ bytes "\n")
+  written : (y : List ℕ) → length y ≤ length out → Told out 0 (length y) (front y out) (y ++ bytes "\n")
+
+told : {q : Sequence ℕ} {f : Feature ℕ} {o : Outcome (List ℕ)} {out mid : List ℕ} {n m : ℕ} → Translates q f o → Lent out o n 0 m mid → Told out n m mid (lineOf o)
+told (Translates.no-cds c) Lent.refused = Told.none
+told (Translates.unjudged c u) Lent.refused = Told.dash {n = 36} (λ e. omega (arith, e)) (λ e. omega (arith, e))
+told (Translates.stop-inside j e) Lent.refused = Told.dash {n = 37} (λ e. omega (arith, e)) (λ e. omega (arith, e))
+told (Translates.translation j e) (Lent.short {x = y} h) = Told.short y h
+told (Translates.translation j e) (Lent.written {x = y} h) = Told.written y h
+
+-- x stands at the front, and is so long
+abbrev Stood : (n : ℕ) (after x : List ℕ) → Type 0
+Stood n after x = (n ≡ length x) × (take n after ≡ x)
+
+module _ {out : List ℕ} where
+  stood-none : {n m : ℕ} {mid x : List ℕ} → Told out n m mid x → n ≡ 35 → Stood 0 mid x
+  stood-none Told.none e = (refl, refl)
+  stood-none (Told.dash h k) e = absurd (h e)
+  stood-none (Told.short y h) e = absurd (omega (arith, e))
+  stood-none (Told.written y h) e = absurd (omega (arith, e))
+
+  stood-dash : {n m k : ℕ} {mid after x : List ℕ} → Told out n m mid x → length x ≤ length out → (n ≡ 35 → ⊥) → (n ≡ 0 → ⊥) → PutsDash mid k after → Stood k after x
+  stood-dash Told.none fits a b d = absurd (a refl)
+  stood-dash (Told.dash h k) fits a b d = dashed d refl fits
+  stood-dash (Told.short y h) fits a b d = absurd (omega (arith, h, fits, length-append y (bytes "\n")))
+  stood-dash (Told.written y h) fits a b d = absurd (b refl)
+
+  stood-full : {n m : ℕ} {mid x : List ℕ} → Told out n m mid x → length x ≤ length out → n ≡ 0 → length out ≤ m → ⊥
+  stood-full Told.none fits e l = omega (arith, e)
+  stood-full (Told.dash h k) fits e l = k e
+  stood-full (Told.short y h) fits e l = omega (arith, e)
+  stood-full (Told.written y h) fits e l = omega (arith, l, fits, length-append y (bytes "\n"))
+
+  stood-written : {n m : ℕ} {mid x : List ℕ} → Told out n m mid x → n ≡ 0 → m < length mid → Stood (m + 1) (set mid m 10) x
+  stood-written Told.none e l = absurd (omega (arith, e))
+  stood-written (Told.dash h k) e l = absurd (k e)
+  stood-written (Told.short y h) e l = absurd (omega (arith, e))
+  stood-written (Told.written y h) e l = (
+    sym (length-append y (bytes "\n")),
+    rw (add-one (length y)) (take-suc-set (front y out) (length y) 10 l) ∙ ap (λ (a : List ℕ). a ++ bytes "\n") (take-at y (drop (length y) out) (length y) refl),
+  )
+
+module _ {s out mid : List ℕ} {known : Known} {g : FoundFeature} {r : Written} (t : TranslatesOne s known g out r mid) (kept : length mid ≡ length out) where
+  told-of : {q : Sequence ℕ} {f : Feature ℕ} {e : ℕ} {x : List ℕ} → Knows s q known → IsFeature s f e g → Keeps q f → Line q f x → Told out (r .number) (r .size) mid x
+  told-of {q} {f} {e} k i keeps l =
+      let a = t .says q f e k i keeps in
+      subst (Told out (r .number) (r .size) mid) (sym (line-once (a .translates) l)) (told (a .translates) (a .lent))
+
+  pub put-none : r .number ≡ 35 → PutsLine s known g out 0 mid
+  put-none z = record { kept = kept; within = omega arith; says = λ q f e k i keeps x l fits. stood-none (told-of k i keeps l) z }
+
+  pub put-full : r .number ≡ 0 → length mid ≤ r .size → PutsLine s known g out 0 mid
+  put-full z h =
+      record { kept = kept; within = omega arith; says = λ q f e k i keeps x l fits. absurd (stood-full (told-of k i keeps l) fits z (omega (arith, h, kept))) }
+
+  pub put-dashed : {n : ℕ} {after : List ℕ} → (r .number ≡ 35 → ⊥) → (r .number ≡ 0 → ⊥) → PutsDash mid n after → PutsLine s known g out n after
+  put-dashed a b d =
       record {
-        kept = refl;
-        within = omega arith;
-        says =
-            λ q f e k i keeps x l h.
-            let y = line-once (Translates.no-cds (subst (PlanIs q f) z (plans .says q f e k i keeps))) l in
-            (sym (ap length y), sym y);
+        kept = d .kept ∙ kept;
+        within = omega (arith, d .within, kept);
+        says = λ q f e k i keeps x l fits. stood-dash (told-of k i keeps l) fits a b d;
       }
 
-  pub put-unjudged : {n : ℕ} {after : List ℕ} → p ≡ plan.Unjudged → PutsDash out n after → PutsLine s known g out n after
-  put-unjudged z d =
+  pub put-is : r .number ≡ 0 → r .size < length mid → PutsLine s known g out (r .size + 1) (set mid (r .size) 10)
+  put-is z h =
       record {
-        kept = d .kept;
-        within = d .within;
-        says =
-            λ q f e k i keeps x l h.
-            let y = subst (PlanIs q f) z (plans .says q f e k i keeps) in
-            dashed d (line-once (Translates.unjudged (y .0) (y .1)) l) h;
+        kept = length-set mid (r .size) 10 ∙ kept;
+        within = omega (arith, h, kept);
+        says = λ q f e k i keeps x l fits. stood-written (told-of k i keeps l) z h;
       }
-
-  module _ {r loc mid : List ℕ} {start : ℕ} {y : Size} (z : p ≡ From start) (shr : Shows s (known .residues .from) (known .residues .to) r)
-      (shl : Shows s (g .location .from) (g .location .to) loc) (w : Pours r loc (known .top) start out y mid) where
-    pours-as : {x : Size} → y ≡ x → Pours r loc (known .top) start out x mid
-    pours-as e = subst (λ (x : Size). Pours r loc (known .top) start out x mid) e w
-
-    poured : {x : Size} → y ≡ x → {q : Sequence ℕ} {f : Feature ℕ} (d : Coded r loc (known .top) start q f) → Poured (lettersOf r start (d .location)) out x mid
-    poured e d = pours-as e .says (d .location) (d .codes)
-
-    pub put-is : {n : ℕ} → y ≡ size.Is n → n < length mid → PutsLine s known g out (n + 1) (set mid n 10)
-    put-is {n} v h =
-        record {
-          kept = length-set mid n 10 ∙ w .kept;
-          within = omega (arith, h, w .kept);
-          says =
-              λ q f e k i keeps x l fits.
-              let d = coded plans z shr shl q f e k i keeps in
-              let m = poured v d in
-              let t = dropStop (lettersOf r start (d .location)) in
-              let o = line-once (Translates.translation (d .judged) (m .0)) l in (
-                omega (arith, m .1, ap length o, length-append t (bytes "\n")),
-                rw (add-one n) (take-suc-set mid n 10 h) ∙ ap (λ (a : List ℕ). take n a ++ bytes "\n") (m .2) ∙ ap (λ (a : List ℕ). a ++ bytes "\n") (take-at t (drop (length t) out) n (sym (m .1))) ∙ sym o,
-              );
-        }
-
-    -- the line doesn't fit
-    pub put-full : {n : ℕ} → y ≡ size.Is n → length mid ≤ n → PutsLine s known g out n mid
-    put-full v h =
-        record {
-          kept = w .kept;
-          within = pours-as v .within;
-          says =
-              λ q f e k i keeps x l fits.
-              let d = coded plans z shr shl q f e k i keeps in
-              let m = poured v d in
-              let t = dropStop (lettersOf r start (d .location)) in
-              let o = line-once (Translates.translation (d .judged) (m .0)) l in
-              absurd (omega (arith, m .1, ap length o, length-append t (bytes "\n"), fits, h, w .kept));
-        }
-
-    module _ {n : ℕ} {after : List ℕ} (dash : PutsDash mid n after) where
-      pub put-short : y ≡ size.Short → PutsLine s known g out n after
-      put-short v =
-          record {
-            kept = dash .kept ∙ w .kept;
-            within = omega (arith, dash .within, w .kept);
-            says =
-                λ q f e k i keeps x l fits.
-                let d = coded plans z shr shl q f e k i keeps in
-                by q f d x l fits (hasStopInside (lettersOf r start (d .location))) refl;
-          }
-        where
-          by : (q : Sequence ℕ) (f : Feature ℕ) (d : Coded r loc (known .top) start q f) (x : List ℕ) → Line q f x → length x ≤ length out → (b : Bool) → hasStopInside (lettersOf r start (d .location)) ≡ b
-              → (n ≡ length x) × (take n after ≡ x)
-          by q f d x l fits true e = dashed dash (line-once (Translates.stop-inside (d .judged) e) l) (omega (arith, fits, w .kept))
-          by q f d x l fits false e =
-              let t = dropStop (lettersOf r start (d .location)) in
-              absurd (omega (arith, poured v d e, ap length (line-once (Translates.translation (d .judged) e) l), length-append t (bytes "\n"), fits))
-
-      pub put-stop : y ≡ size.Stop → PutsLine s known g out n after
-      put-stop v =
-          record {
-            kept = dash .kept ∙ w .kept;
-            within = omega (arith, dash .within, w .kept);
-            says =
-                λ q f e k i keeps x l fits.
-                let d = coded plans z shr shl q f e k i keeps in
-                dashed dash (line-once (Translates.stop-inside (d .judged) (poured v d)) l) (omega (arith, fits, w .kept));
-          }
 
 -- ---- the bytes from `end` on, lent and given back as ys
 

@@ -10,7 +10,6 @@ use location::judging::judge_location;
 use scan::bytes_of;
 use writing::Size;
 use writing::measure;
-use writing::pour;
 use writing::write;
 ghost use mathlib.Core.Path.{_≡_};
 ghost use Rattle.codon.specs.Tables.{SetTable, TurnTable, LetterTable};
@@ -210,7 +209,7 @@ fn put_dash(out: &mut [u8]) -> usize
     2
 }
 
-// A feature's line at the front of out, where it fits: how many bytes. Behind it out may hold letters before a stop.
+// A feature's line at the front of out, where it fits: how many bytes.
 fn put_line(
     s: &[u8],
     known: Known,
@@ -225,28 +224,22 @@ fn put_line(
     requires { ⌜ LetterTable (now table) ⌝ }
     ensures { λ r. ⌜ PutsLine (now (s .entry)) known feature (now (out .entry)) r (now (out .exit)) ⌝ }
 {
-    match plan_of(s, known, feature) {
-        Plan::NoCds => 0,
-        Plan::Unjudged => put_dash(out),
-        Plan::From(start) => {
-            let r = bytes_of(s, known.residues.from, known.residues.to);
-            let loc = bytes_of(s, feature.location.from, feature.location.to);
-            match pour(r, loc, known.top, start, sets, turns, table, out) {
-                Size::Is(n) => {
-                    if n < out.len() {
-                        out[n] = b'\n';
-                        return n + 1;
-                    }
-                    n
-                }
-                Size::Short => put_dash(out),
-                Size::Stop => put_dash(out),
-            }
-        }
+    let text = translate(s, known, feature, sets, turns, table, out);
+    if text.number == 35 {
+        return 0;
     }
+    if text.number != 0 {
+        return put_dash(out);
+    }
+    let end = text.size;
+    if out.len() <= end {
+        return 0;
+    }
+    out[end] = b'\n';
+    end + 1
 }
 
-// The lines of all features that stand from here on. They fill out: what stands behind a line for a moment is written over by the next.
+// The lines of all features that stand from here on.
 fn put_lines(
     s: &[u8],
     first: usize,

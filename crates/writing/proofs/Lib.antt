@@ -3,4 +3,3 @@ pub mod Runs
 pub mod Finished
 pub mod Measuring
 pub mod Putting
-pub mod Pouring

@@ -3,16 +3,18 @@ use Prim.Native.Nat.{ℕ, _+_, _*_, _≤_, _<_}
 use Prim.Native.Char.{code}
 use native.Mathlib.Numerals.{add-one}
 use native.Mathlib.Omega.{arith}
-use mathlib.Core.Path.{_≡_, refl}
+use mathlib.Core.Path.{_≡_, refl, sym, _∙_}
 use mathlib.Core.Bool.{Bool, true, false}
 use mathlib.Core.List.{List}
-use lib.Bits.{bitAnd, and-le-l, and-le-r}
+use lib.Bits.{bitOr}
 use lib.ListN.{length, getD, set}
 use lib.Seq.{paste-zero, paste-suc}
 use lib.Dec.{ltb}
 use borrow.Author.Tests.{ltb-true, ltb-false}
 use Rattle.reading.specs.Letters.{NoStops}
-use Rattle.reading.proofs.Stops.{none-more}
+use Rattle.codon.specs.Stops.{flag, isStop}
+use Rattle.paper.proofs.Bits.{or-none}
+use Rattle.reading.proofs.Stops.{none-more, no-flag}
 use Rattle.writing.specs.Writing.{Lays}
 
 -- ---- no stop
@@ -25,10 +27,11 @@ module _ {l : List ℕ} {a b : ℕ} (h : NoStops l a b) where
       side i below above true e = h .none i (ltb-true i b e) above
       side i below above false e = k .none i below (ltb-false i b e)
 
--- a stop is below 64, and what it shares with others is too
-pub none-shared : {l : List ℕ} {a b bits c : ℕ} → (64 ≤ bits → NoStops l a b) → c ≡ getD l b 0 → 64 ≤ bitAnd bits c → NoStops l a (b + 1)
-none-shared {bits = bits} {c} h e k =
-    none-more (h (omega (arith, and-le-l bits c))) e (λ z. omega (arith, and-le-r bits c))
+-- where tests joined are 0 so is the test of the codon b
+pub none-joined : {l : List ℕ} {a b stops n : ℕ} → (stops ≡ 0 → NoStops l a b) → n ≡ flag (isStop (getD l b 0)) → bitOr stops n ≡ 0 → NoStops l a (b + 1)
+none-joined {l} {b = b} {stops} {n} h e k =
+    let z = or-none stops n k in
+    none-more (h (z .0)) refl (no-flag (getD l b 0) (sym e ∙ z .1))
 
 -- ---- laid
 

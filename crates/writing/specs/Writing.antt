@@ -23,11 +23,6 @@ pub record Lays (low high : ℕ) (l : List ℕ) (from count n : ℕ) (out after 
   pub inside : from + n ≤ count
   pub is : after ≡ paste out from l n
 
--- the first n are no stop, and laid from a place on
-pub record LaysClear (low high : ℕ) (l : List ℕ) (from n : ℕ) (out after : List ℕ) : Type 0 where
-  pub clear : NoStops l 0 n
-  pub laid : Lays low high l from (length out) n out after
-
 -- ---- the length
 
 -- m letters were counted in a room
@@ -74,16 +69,3 @@ afterOf l out size.Stop = out
 
 pub record Writes (s loc : List ℕ) (L start : ℕ) (out : List ℕ) (r : Size) (after : List ℕ) : Type 0 where
   pub says : (t : Location) → Codes s loc L t → Measured (lettersOf s start t) (length out) r × (after ≡ afterOf (lettersOf s start t) out r)
-
--- ---- poured in without a measure
-
--- of the letters l: they stand at the front of out; or they are more than fit, unless a stop stands inside; or one does
-abbrev pub Poured : List ℕ → List ℕ → Size → List ℕ → Type 0
-Poured l out (size.Is n) after = (hasStopInside l ≡ false) × (n ≡ length (dropStop l)) × (after ≡ front (dropStop l) out)
-Poured l out size.Short after = hasStopInside l ≡ false → length out < length (dropStop l)
-Poured l out size.Stop after = hasStopInside l ≡ true
-
-pub record Pours (s loc : List ℕ) (L start : ℕ) (out : List ℕ) (r : Size) (after : List ℕ) : Type 0 where
-  pub kept : length after ≡ length out
-  pub within : SizeWithin (length out) r
-  pub says : (t : Location) → Codes s loc L t → Poured (lettersOf s start t) out r after

@@ -8,13 +8,14 @@ use reading::least;
 use reading::letter_at;
 use reading::next;
 use reading::onward;
+use reading::stop_at;
 ghost use mathlib.Core.Path.{_≡_};
 ghost use Prim.Native.Nat.{_+_, _*_, _≤_};
 ghost use lib.ListN.{length};
 ghost use Rattle.codon.specs.Tables.{SetTable, TurnTable, LetterTable};
 ghost use Rattle.reading.specs.Reading.{Ready, spanLetters};
 ghost use Rattle.reading.specs.Letters.{NoStops, Clear};
-ghost use Rattle.writing.specs.Writing.{Counted, sizeOf, Lays, LaysClear, Measures, Puts, Writes, Pours};
+ghost use Rattle.writing.specs.Writing.{Counted, sizeOf, Lays, Measures, Puts, Writes};
 
 pub enum Size {
     // The translation's length.
@@ -54,56 +55,33 @@ fn sized(a: Count) -> Size
     Size::Is(a.n)
 }
 
-// The bits that all letters of 64 codons of a span share, from the codon `from` on. A stop is below 64, so what is 64 or more has met none;
-// one test for so many codons, and no exit from the loop.
-fn shared_bits(
-    r: &[u8],
-    low: usize,
-    high: usize,
-    turned: bool,
-    from: usize,
-    sets: &[u8; 256],
-    turns: &[u8; 256],
-    table: &[u8; 4096],
-) -> u8
+// 0 only where none of 64 codons of a span, from the codon `from` on, is a stop. One test for so many codons, joined with no branch: it is
+// compiled to vector code.
+fn block(r: &[u8], low: usize, high: usize, turned: bool, from: usize) -> u8
     requires { ⌜ low + 3 * (from + 64) ≤ high ⌝ }
     requires { ⌜ high ≤ length (now r) ⌝ }
-    requires { ⌜ SetTable (now sets) ⌝ }
-    requires { ⌜ TurnTable (now turns) ⌝ }
-    requires { ⌜ LetterTable (now table) ⌝ }
-    ensures { λ y. ⌜ (64 ≤ y → NoStops (spanLetters (now (r .entry)) low high turned) from (from + 64)) ⌝ }
+    ensures { λ y. ⌜ (y ≡ 0 → NoStops (spanLetters (now (r .entry)) low high turned) from (from + 64)) ⌝ }
 {
     let end = from + 64;
-    let mut bits: u8 = 255;
+    let mut stops: u8 = 0;
     let mut k = from;
     while k < end {
-        bits = bits & letter_at(r, low, high, turned, k, sets, turns, table);
+        stops = stops | stop_at(r, low, high, turned, k);
         k += 1;
     }
-    bits
+    stops
 }
 
 // How many codons at the front of a span stand in blocks without a stop.
-fn clear_blocks(
-    r: &[u8],
-    low: usize,
-    high: usize,
-    turned: bool,
-    sets: &[u8; 256],
-    turns: &[u8; 256],
-    table: &[u8; 4096],
-) -> usize
+fn blocks(r: &[u8], low: usize, high: usize, turned: bool) -> usize
     requires { ⌜ low ≤ high ⌝ }
     requires { ⌜ high ≤ length (now r) ⌝ }
-    requires { ⌜ SetTable (now sets) ⌝ }
-    requires { ⌜ TurnTable (now turns) ⌝ }
-    requires { ⌜ LetterTable (now table) ⌝ }
     ensures { λ n. ⌜ Clear low high (spanLetters (now (r .entry)) low high turned) n ⌝ }
 {
     let whole = (high - low) / 3;
     let mut k: usize = 0;
     while 64 <= whole - k {
-        if shared_bits(r, low, high, turned, k, sets, turns, table) < 64 {
+        if block(r, low, high, turned, k) != 0 {
             return k;
         }
         k += 64;
@@ -112,26 +90,15 @@ fn clear_blocks(
 }
 
 // How many codons at the front of a span are no stop: whole blocks, and then one by one.
-fn clear(
-    r: &[u8],
-    low: usize,
-    high: usize,
-    turned: bool,
-    sets: &[u8; 256],
-    turns: &[u8; 256],
-    table: &[u8; 4096],
-) -> usize
+fn clear(r: &[u8], low: usize, high: usize, turned: bool) -> usize
     requires { ⌜ low ≤ high ⌝ }
     requires { ⌜ high ≤ length (now r) ⌝ }
-    requires { ⌜ SetTable (now sets) ⌝ }
-    requires { ⌜ TurnTable (now turns) ⌝ }
-    requires { ⌜ LetterTable (now table) ⌝ }
     ensures { λ n. ⌜ Clear low high (spanLetters (now (r .entry)) low high turned) n ⌝ }
 {
     let whole = (high - low) / 3;
-    let mut k = clear_blocks(r, low, high, turned, sets, turns, table);
+    let mut k = blocks(r, low, high, turned);
     while k < whole {
-        if letter_at(r, low, high, turned, k, sets, turns, table) == b'*' {
+        if stop_at(r, low, high, turned, k) != 0 {
             return k;
         }
         k += 1;
@@ -164,7 +131,7 @@ pub fn measure(
         let low = x.low;
         let high = x.high;
         let turned = x.turned;
-        let k = clear(r, low, high, turned, sets, turns, table);
+        let k = clear(r, low, high, turned);
         let passed = counted(count, k, room);
         match next(r, loc, onward(x, k), top, sets, turns, table) {
             Letter::Done => {
@@ -299,89 +266,6 @@ pub fn write(
         }
         Size::Stop => {
             return Size::Stop;
-        }
-    }
-}
-
-// The letters of codons at the front of a span that are no stop, laid into out from `from` on: how many.
-fn lay_clear(
-    r: &[u8],
-    low: usize,
-    high: usize,
-    turned: bool,
-    from: usize,
-    sets: &[u8; 256],
-    turns: &[u8; 256],
-    table: &[u8; 4096],
-    out: &mut [u8],
-) -> usize
-    requires { ⌜ low ≤ high ⌝ }
-    requires { ⌜ high ≤ length (now r) ⌝ }
-    requires { ⌜ from ≤ length (now out) ⌝ }
-    requires { ⌜ SetTable (now sets) ⌝ }
-    requires { ⌜ TurnTable (now turns) ⌝ }
-    requires { ⌜ LetterTable (now table) ⌝ }
-    ensures { λ n. ⌜ LaysClear low high (spanLetters (now (r .entry)) low high turned) from n (now (out .entry)) (now (out .exit)) ⌝ }
-{
-    let whole = least((high - low) / 3, out.len() - from);
-    let mut k: usize = 0;
-    while k < whole {
-        let a = letter_at(r, low, high, turned, k, sets, turns, table);
-        if a == b'*' {
-            return k;
-        }
-        out[from + k] = a;
-        k += 1;
-    }
-    k
-}
-
-// The translation at the front of out where no stop stands inside and it fits, each codon read once; else out may hold letters that were
-// written before that was known.
-pub fn pour(
-    r: &[u8],
-    loc: &[u8],
-    top: u32,
-    frame: usize,
-    sets: &[u8; 256],
-    turns: &[u8; 256],
-    table: &[u8; 4096],
-    out: &mut [u8],
-) -> Size
-    requires { ⌜ SetTable (now sets) ⌝ }
-    requires { ⌜ TurnTable (now turns) ⌝ }
-    requires { ⌜ LetterTable (now table) ⌝ }
-    ensures { λ y. ⌜ Pours (now (r .entry)) (now (loc .entry)) top frame (now (out .entry)) y (now (out .exit)) ⌝ }
-{
-    if r.len() < top as usize {
-        return Size::Stop;
-    }
-    let mut x = begin(r, loc, top, frame, sets, turns);
-    let mut i: usize = 0;
-    loop {
-        let low = x.low;
-        let high = x.high;
-        let turned = x.turned;
-        let k = lay_clear(r, low, high, turned, i, sets, turns, table, out);
-        let j = i + k;
-        match next(r, loc, onward(x, k), top, sets, turns, table) {
-            Letter::Done => {
-                return Size::Is(j);
-            }
-            Letter::Is(letter, y) => {
-                if letter == b'*' {
-                    if ends(r, loc, y, top, sets, turns, table) {
-                        return Size::Is(j);
-                    }
-                    return Size::Stop;
-                }
-                if out.len() <= j {
-                    return Size::Short;
-                }
-                out[j] = letter;
-                x = y;
-                i = j + 1;
-            }
         }
     }
 }

@@ -26,7 +26,7 @@ loop-holds : tie.Need-loop-holds Inv-loop μ-loop
 loop-holds c = measuring-start (c .begin .ensures .ready)
 
 clear-requires : tie.Need-clear-requires Inv-loop μ-loop
-clear-requires c κs = (c .loop .inv .ready .order, (c .loop .inv .ready .inside, c .before .before .before .before .before .pre))
+clear-requires c κs = (c .loop .inv .ready .order, c .loop .inv .ready .inside)
 
 counted-requires : tie.Need-counted-requires Inv-loop μ-loop
 counted-requires c κs = c .before .loop .inv .within
