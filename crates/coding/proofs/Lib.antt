@@ -1,8 +1,2 @@
-pub mod Keys
-pub mod Lists
-pub mod Loops
-pub mod Values
-pub mod Frames
-pub mod Exceptions
 pub mod Rights
 pub mod Regions

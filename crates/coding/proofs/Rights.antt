@@ -36,7 +36,7 @@ use Rattle.judging.proofs.Faults.{firsts-none, some-none, some-more, some-later
 use Rattle.judging.proofs.Seen.{seen-none}
 use Rattle.coding.specs.Translations.{Breaks28, RightAt, Settled, SaysRight, CheckedOf, Checks, Rights}
 use Rattle.coding.specs.declared.Checked.{Checked}
-use Rattle.coding.proofs.Loops.{SeenSo, one-more, stuck, all-seen}
+use Rattle.framing.proofs.Loops.{SeenSo, one-more, stuck, all-seen}
 
 -- ---- one value
 

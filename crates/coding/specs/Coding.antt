@@ -4,7 +4,6 @@ use mathlib.Core.Path.{_≡_}
 use mathlib.Core.Bool.{Bool}
 use mathlib.Core.List.{List}
 use lib.ListN.{drop}
-use Rattle.paper.specs.Bytes.{raw}
 use Rattle.paper.specs.Form.{each}
 use Rattle.paper.specs.Layout.{child, qualifier}
 use Rattle.paper.specs.Tree.{Sequence, Feature, qualifiersOf}
@@ -12,8 +11,7 @@ use Rattle.paper.specs.Rules.{L, Coding, CodonStart, Unjudged}
 use Rattle.scan.specs.Follow.{Starts, closing}
 use Rattle.walk.specs.Stands.{Stands, IsPart}
 use Rattle.walk.specs.declared.Part.{Part}
-use Rattle.value.specs.Reading.{Tells, KindIs}
-use Rattle.value.specs.declared.Kind as code
+use Rattle.value.specs.Reading.{Tells}
 use Rattle.location.specs.Judging.{Judged}
 use Rattle.location.specs.declared.judging.Verdict.{Verdict}
 use Rattle.judging.specs.Sets.{Firsts, InCoding}
@@ -21,12 +19,6 @@ use Rattle.judging.specs.Known.{Knows}
 use Rattle.judging.specs.declared.Known.{Known}
 use Rattle.paper.specs.declared.Fault.{Fault}
 use Rattle.coding.specs.declared.Region.{Region}
-use Rattle.coding.specs.declared.Start.{Start}
-use Rattle.coding.specs.declared.Start.the-variants as start
-
--- of whichever sequence of that kind, and feature whose key is written so
-pub record NamesCoding (key : List ℕ) (kind : code.Kind) (r : Bool) : Type 0 where
-  pub says : (q : Sequence ℕ) (f : Feature ℕ) → KindIs (q .moltype .read) kind → key ≡ raw (f .key .read) → Tells r (Coding q f)
 
 -- the feature f of the sequence q is the coding region that is judged, and its qualifiers stand from `first` to `stop`
 pub record Asked (s : List ℕ) (key : ℕ) (location : Part) (first : ℕ) (known : Known) (verdict : Verdict) (q : Sequence ℕ) (f : Feature ℕ) (stop : ℕ) : Type 0 where
@@ -50,14 +42,3 @@ pub record JudgesCoding (s : List ℕ) (key : ℕ) (location : Part) (first : �
 pub record JudgesRegion (s : List ℕ) (location : Part) (first : ℕ) (known : Known) (verdict : Verdict) (start : ℕ) (unjudged : Bool) (r : Fault) : Type 0 where
   pub says : (key : ℕ) (q : Sequence ℕ) (f : Feature ℕ) (stop : ℕ) → Asked s key location first known verdict q f stop
       → CodonStart f start → Tells unjudged (Unjudged f) → Firsts (InCoding q f) r
-
--- ---- where its codons start
-
-abbrev pub StartIs : Feature ℕ → Start → Type 0
-StartIs f start.Unjudged = Unjudged f
-StartIs f (start.At n) = (¬ Unjudged f) × CodonStart f n
-
--- of whichever region that keeps rule 27 and whose location was judged so, for sequences of any length m
-pub record StartsAt (s : List ℕ) (first : ℕ) (verdict : Verdict) (r : Start) : Type 0 where
-  pub says : (m : ℕ) (f : Feature ℕ) (stop : ℕ) → Stands (each (child qualifier) (qualifiersOf f)) s first stop → Starts closing (drop stop s)
-      → Judged m (f .location .read) verdict → ¬ ((n : ℕ) → ¬ CodonStart f n) → StartIs f r

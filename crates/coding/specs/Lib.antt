@@ -1,4 +1,3 @@
 -- What the crate's promises cite.
-pub mod Qualifiers
 pub mod Translations
 pub mod Coding

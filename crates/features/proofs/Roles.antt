@@ -30,7 +30,8 @@ use Rattle.judging.proofs.Bytes.{part-shows, text-shown}
 use Rattle.judging.proofs.Faults.{firsts-or, firsts-as}
 use Rattle.source.specs.Sources.{JudgesSource, IsSource as IsSourced}
 use Rattle.source.specs.declared.Sourced.{Sourced}
-use Rattle.coding.specs.Coding.{NamesCoding, JudgesCoding}
+use Rattle.framing.specs.Starts.{NamesCoding}
+use Rattle.coding.specs.Coding.{JudgesCoding}
 use Rattle.coding.specs.declared.Region.{Region}
 use Rattle.features.specs.Featured.{placeFault, IsSource, NamesSource, roleOf, RoleIs, JudgesFeature}
 use Rattle.features.specs.declared.Role.{Role}

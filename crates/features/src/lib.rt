@@ -245,7 +245,7 @@ fn judge_feature(
             next: items::feature_end(s, next, long),
         };
     }
-    if coding::is_coding(name, kind) {
+    if framing::is_coding(name, kind) {
         let Region {
             fault,
             unjudged,

@@ -7,7 +7,8 @@ use Rattle.items.specs.declared.FoundSequence.{FoundSequence}
 use Rattle.items.specs.declared.FoundFeature.{FoundFeature}
 use Rattle.judging.specs.declared.Known.{Known}
 use Rattle.finding.specs.Finds.{SequenceIs, FeatureIs}
-use Rattle.translating.specs.Lines.{TranslatesOne, TranslatesAll}
+use Rattle.translating.specs.Ones.{TranslatesOne}
+use Rattle.lines.specs.Lines.{TranslatesAll}
 use Rattle.translating.specs.declared.Written.{Written}
 use Rattle.lookups.specs.Shows.{KnowsSequence}
 use Rattle.lookups.proofs.Accepted.{accepts, keeps-feature}

@@ -376,7 +376,7 @@ pub fn translations(listing: &[u8], k: usize, out: &mut [u8]) -> TranslationAnsw
             let sets = codon::set_table();
             let turns = codon::turn_table();
             let letters = codon::letter_table();
-            let Written { number, size } = translating::translate_all(
+            let Written { number, size } = lines::translate_all(
                 listing,
                 known,
                 table,

@@ -1,7 +1,3 @@
+-- Laws that no one function owns.
 pub mod Planned
-pub mod Laid
-pub mod Walks
 pub mod Ones
-pub mod Sizes
-pub mod Puts
-pub mod Alls

@@ -15,7 +15,7 @@ use Rattle.writing.specs.declared.Size.{Size}
 use Rattle.writing.specs.declared.Size.the-variants as size
 use Rattle.judging.specs.declared.Known.{Known}
 use Rattle.translating.specs.Plans.{PlanIs, Plans}
-use Rattle.translating.specs.Lines.{refusal, TranslatesOne}
+use Rattle.translating.specs.Ones.{refusal, TranslatesOne}
 use Rattle.translating.specs.declared.Written.{Written}
 use Rattle.translating.specs.declared.Plan.{Plan}
 use Rattle.translating.specs.declared.Plan.the-variants.{NoCds, From}

@@ -23,9 +23,9 @@ use Rattle.judging.specs.Sets.{rule-18, rule-24, rule-25, rule-27}
 use Rattle.judging.specs.Known.{Knows}
 use Rattle.judging.specs.declared.Known.{Known}
 use Rattle.judging.proofs.Bytes.{part-shows, text-shown}
-use Rattle.coding.specs.Coding.{NamesCoding, StartIs, StartsAt}
-use Rattle.coding.specs.declared.Start.{Start}
-use Rattle.coding.specs.declared.Start.the-variants as start
+use Rattle.framing.specs.Starts.{NamesCoding, StartIs, StartsAt}
+use Rattle.framing.specs.declared.Start.{Start}
+use Rattle.framing.specs.declared.Start.the-variants as start
 use Rattle.coding.proofs.Regions.{residues-read, found-codes}
 use Rattle.translating.specs.Plans.{Keeps, PlannedFrom, PlanIs, Plans}
 use Rattle.translating.specs.declared.Plan.{Plan}

@@ -1,3 +1,3 @@
 -- What the crate's promises cite.
 pub mod Plans
-pub mod Lines
+pub mod Ones

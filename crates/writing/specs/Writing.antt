@@ -10,7 +10,7 @@ use Rattle.paper.specs.Translation.{letters, dropStop, hasStopInside}
 use Rattle.paper.specs.Answers.{front}
 use Rattle.reading.specs.declared.Reading.{Reading}
 use Rattle.reading.specs.Reading.{Codes, TextLeft}
-use Rattle.reading.specs.Letters.{lettersOf, NoStops}
+use Rattle.reading.specs.Letters.{lettersOf}
 use Rattle.writing.specs.declared.Count.{Count}
 use Rattle.writing.specs.declared.Size.{Size}
 use Rattle.writing.specs.declared.Size.the-variants as size

@@ -2,8 +2,8 @@
 use mathlib.Core.Path.{subst}
 use Rattle.paper.specs.Tree.{qualifiersOf}
 use Rattle.paper.specs.Rules.{absent}
-use Rattle.coding.specs.Qualifiers.{FrameIs}
-use Rattle.coding.proofs.Frames.{start-one}
+use Rattle.framing.specs.Qualifiers.{FrameIs}
+use Rattle.framing.proofs.Frames.{start-one}
 use Rattle.coding.proofs.Regions.{coding-framed, coding-wrong}
 use borrow.Author.Needs.{needs}
 use Rattle.coding.proofs.judge_coding.Statement.{statement}
