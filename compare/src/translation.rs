@@ -185,7 +185,7 @@ fn values(right: &[u8], rng: &mut Rng) -> Vec<Vec<u8>> {
 
 /// A region of any judged shape, with a stop inside, a last one or none, as far as its members let it.
 fn generated_region(rng: &mut Rng) -> Region {
-    let longest = *rng.pick(&[8, 30, 120, 400]);
+    let longest = *rng.pick(&[8, 30, 120, 1200]);
     let count = rng.between(1, longest);
     let ambiguous = *rng.pick(&[0, 0, 3, 20, 100]);
     let residues = (0..count).map(|_| residue(rng, ambiguous)).collect();

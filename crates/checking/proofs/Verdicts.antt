@@ -1,15 +1,12 @@
 -- The verdict, from the layout and the parts of the judge.
-use Prim.Native.Nat.{ℕ, _≤_}
-use mathlib.Core.Path.{_≡_, refl, sym, ap, _∙_, subst}
+use Prim.Native.Nat.{ℕ}
+use mathlib.Core.Path.{_≡_, _∙_, subst}
 use mathlib.Core.Bool.{Bool}
-use mathlib.Core.Logic.{_⊎_, inl, inr}
+use mathlib.Core.Logic.{inr}
 use mathlib.Core.List.{List}
-use lib.ListN.{length}
-use Rattle.paper.specs.Tree.{Listing}
 use Rattle.paper.specs.Values.{Number}
-use Rattle.paper.specs.Layout.{LaidOut}
 use Rattle.paper.specs.Rules.{Broken, Least, Earlier}
-use Rattle.paper.specs.Answers.{limit, refuse, Checked, Counts, CheckSays}
+use Rattle.paper.specs.Answers.{CheckSays}
 use Rattle.paper.specs.Answers as paper
 use Rattle.paper.specs.declared.Fault.{Fault}
 use Rattle.paper.specs.declared.Fault.the-variants.{Clean, At}
@@ -27,7 +24,7 @@ use Rattle.header.specs.Headers.{JudgesHeader}
 use Rattle.header.specs.declared.Headed.{Headed}
 use Rattle.sequences.specs.Sequences.{JudgesSequences}
 use Rattle.sequences.specs.declared.Total.{Total}
-use Rattle.checking.specs.Checks.{IsJudged, JudgesListing}
+use Rattle.checking.specs.Checks.{JudgesListing}
 
 pub listing-judged : {w p : List ℕ} {h : Headed} {t : Total} {ok : Bool} {c : Fault} (d r : Fault) → JudgesHeader w h → JudgesSequences w (h .first) t
     → Shows w (h .total .from) (h .total .to) p → OfRead p (Number (t .total)) ok → c ≡ unlessOf ok 14 (h .total .from) → Earlier c (t .fault) d → Earlier (h .fault) d r

@@ -3,22 +3,20 @@ use Prim.Native.Nat.{ℕ, _≤_}
 use native.Mathlib.Omega.{arith}
 use mathlib.Core.Path.{_≡_, refl, sym, ap, _∙_, subst}
 use mathlib.Core.Bool.{Bool, true, false, cond, true≢false}
-use mathlib.Core.Logic.{_⊎_, inl, inr}
+use mathlib.Core.Logic.{inr}
 use mathlib.Core.List.{List}
 use lib.ListN.{getD}
 use Rattle.paper.specs.Bytes.{bytes, raw}
 use Rattle.paper.specs.Tree.{Text, Sequence, Feature}
 use Rattle.paper.specs.Locations.{Location, Locates, breaks25, hasComplement}
 use Rattle.paper.specs.Rules.{L, Kind, dna, rna, aa, IsKind, Keyed, sourceName, Coding}
-use Rattle.paper.specs.declared.Fault.{Fault}
 use Rattle.paper.specs.declared.Fault.the-variants.{Clean, At}
 use Rattle.paper.proofs.Locate.{locates-once}
 use Rattle.value.specs.Reading.{Tells, KindIs, Names}
 use Rattle.value.specs.declared.Kind as code
 use Rattle.value.specs.declared.Kind.the-variants as kind
 use Rattle.value.proofs.Read.{tells-word}
-use Rattle.location.specs.Judging.{Judged, AreFacts}
-use Rattle.location.specs.declared.judging.Facts.{Facts}
+use Rattle.location.specs.Judging.{Judged}
 use Rattle.location.specs.declared.judging.Verdict.{Verdict}
 use Rattle.location.specs.declared.judging.Verdict.the-variants.{Bad, Is}
 use Rattle.judging.specs.Sets.{Firsts, InLocation, rule-24, rule-25, rule-26}

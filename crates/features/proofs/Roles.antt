@@ -2,19 +2,18 @@
 use Prim.Native.Nat.{ℕ}
 use mathlib.Core.Path.{_≡_, refl, sym, ap, _∙_, subst}
 use mathlib.Core.Bool.{Bool, true, false}
-use mathlib.Core.Logic.{_⊎_, inl, inr}
+use mathlib.Core.Logic.{inl, inr}
 use mathlib.Core.List.{List}
-use lib.ListN.{drop}
 use Rattle.paper.specs.Bytes.{isBlank, raw}
 use Rattle.paper.specs.Form.{each}
 use Rattle.paper.specs.Layout.{child, qualifier, feature}
 use Rattle.paper.specs.Tree.{Sequence, Feature, qualifiersOf}
-use Rattle.paper.specs.Rules.{L, Kind, IsKind, Keyed, sourceName, Coding, Unjudged, Earlier}
+use Rattle.paper.specs.Rules.{L, Kind, IsKind, Coding, Unjudged, Earlier}
 use Rattle.paper.specs.declared.Fault.{Fault}
-use Rattle.paper.specs.declared.Fault.the-variants.{Clean, At}
+use Rattle.paper.specs.declared.Fault.the-variants.{Clean}
 use Rattle.scan.specs.Follow.{Not, Starts, closing}
 use Rattle.scan.specs.Parts.{Shows}
-use Rattle.walk.specs.Stands.{Stands, Ends, Over}
+use Rattle.walk.specs.Stands.{Ends, Over}
 use Rattle.walk.proofs.Places.{from}
 use Rattle.items.specs.Items.{FindsFeature, IsFeature, featureTail}
 use Rattle.items.specs.declared.FoundFeature.{FoundFeature}
@@ -23,7 +22,7 @@ use Rattle.value.proofs.Tests.{told}
 use Rattle.location.specs.Judging.{Judged, JudgesPart}
 use Rattle.location.specs.declared.judging.Verdict.{Verdict}
 use Rattle.location.proofs.Verdicts.{judged-by}
-use Rattle.judging.specs.Sets.{Faults, Firsts, InLocation, InCoding, rule-27, rule-28, InFeature}
+use Rattle.judging.specs.Sets.{Firsts, InLocation, InCoding, rule-27, rule-28, InFeature}
 use Rattle.judging.specs.Known.{Knows}
 use Rattle.judging.specs.declared.Known.{Known}
 use Rattle.judging.proofs.Bytes.{part-shows, text-shown}

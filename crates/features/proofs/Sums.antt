@@ -4,15 +4,14 @@ use native.Mathlib.Decide.{decLt}
 use native.Mathlib.Omega.{arith}
 use mathlib.Core.Path.{_≡_, refl, sym, ap, _∙_, subst}
 use mathlib.Core.Bool.{Bool, true, false, true≢false}
-use mathlib.Core.List.{List, [], _∷_, _++_}
+use mathlib.Core.List.{List, []}
 use mathlib.Core.Option.{Option, none, some}
-use lib.ListN.{length, drop}
+use lib.ListN.{length}
 use Rattle.paper.specs.Bytes.{bytes, isBlank}
-use Rattle.paper.specs.Lists.{Count, end}
+use Rattle.paper.specs.Lists.{Count}
 use Rattle.paper.specs.Layout.{child, feature}
-use Rattle.paper.specs.Tree.{Text, Table, Sequence, Feature, featuresIn, featuresOf}
+use Rattle.paper.specs.Tree.{Table, Sequence, Feature, featuresIn, featuresOf}
 use Rattle.paper.specs.Rules.{tablePlace}
-use Rattle.paper.specs.declared.Fault.{Fault}
 use Rattle.scan.specs.Follow.{Not, closing}
 use Rattle.walk.specs.Stands.{There, Over}
 use Rattle.items.specs.Items.{TableIs}

@@ -1,29 +1,19 @@
 -- Features added up, one by one, and the table's faults from the sum.
 use Prim.Native.Nat.{ℕ, zero, suc, _+_, _≤_, _<_}
-use native.Mathlib.Decide.{decLe, decLt}
+use native.Mathlib.Decide.{decLe}
 use native.Mathlib.Omega.{arith}
 use mathlib.Core.Path.{_≡_, refl, sym, ap, _∙_, subst}
-use mathlib.Core.Bool.{Bool, true, false, cond}
 use mathlib.Core.Logic.{_⊎_, inl, inr}
 use mathlib.Core.List.{List, [], _∷_, _++_}
-use mathlib.Core.Option.{Option, none, some}
 use lib.ListN.{length, length-append}
-use lib.Dec.{ltb}
 use borrow.Author.Tests.{lt-ltb, le-ltb}
-use Rattle.paper.specs.Lists.{Nth, _∈_, Numbered, Count, end, has, lacks}
-use Rattle.paper.specs.Tree.{Text, Sequence, Feature, Table, featuresOf}
-use Rattle.paper.specs.Rules.{Kind, IsKind, Keyed, sourceName, Coding, Unjudged, OneSource, Source, tablePlace, Earlier}
+use Rattle.paper.specs.Lists.{Nth, _∈_, Count, end, has, lacks}
+use Rattle.paper.specs.Tree.{Sequence, Feature}
+use Rattle.paper.specs.Rules.{Kind, IsKind, Keyed, sourceName, Unjudged, Source}
 use Rattle.paper.specs.declared.Fault.{Fault}
-use Rattle.paper.specs.declared.Fault.the-variants.{Clean, At}
-use Rattle.paper.proofs.Lists.{count-once}
 use Rattle.paper.proofs.Firsts.{_or_}
-use Rattle.value.specs.Reading.{KindIs, Names}
-use Rattle.value.specs.declared.Kind as code
-use Rattle.value.specs.declared.Kind.the-variants as kind
-use Rattle.judging.specs.Sets.{Faults, Firsts, Bad, Some, InSource, InFeature, InTable}
-use Rattle.judging.specs.Sets as part
-use Rattle.judging.proofs.Faults.{firsts-or, firsts-as, firsts-none, firsts-one, some-none, some-more, nth-split}
-use Rattle.judging.proofs.Moltypes.{kind-once}
+use Rattle.judging.specs.Sets.{Firsts, Some, InSource, InFeature}
+use Rattle.judging.proofs.Faults.{some-none, some-more, nth-split}
 use Rattle.judging.proofs.Seen.{count-has, count-lacks}
 use Rattle.source.specs.Sources.{Capped}
 use Rattle.features.specs.Featured.{IsSource, RoleIs, IsFeatured, nothingYet, upTo, ifSource, ifJudged, ifUnjudged, Adds, JudgedIn, UnjudgedIn, Tallied}

@@ -1,16 +1,16 @@
 -- What is promised of the judgement of features.
-use Prim.Native.Nat.{ℕ, _+_, _≤_, _<_}
+use Prim.Native.Nat.{ℕ, _+_, _≤_}
 use mathlib.Core.Path.{_≡_}
 use mathlib.Core.Bool.{Bool, true, false, cond}
-use mathlib.Core.List.{List, []}
+use mathlib.Core.List.{List}
 use lib.ListN.{length, drop}
 use lib.Dec.{ltb}
 use Rattle.paper.specs.Bytes.{raw, isBlank}
 use Rattle.paper.specs.Lists.{_∈_, Count}
 use Rattle.paper.specs.Form.{each}
 use Rattle.paper.specs.Layout.{child, feature}
-use Rattle.paper.specs.Tree.{Text, Sequence, Feature, featuresOf}
-use Rattle.paper.specs.Rules.{L, Kind, IsKind, Keyed, sourceName, Coding, Unjudged, tablePlace, Earlier}
+use Rattle.paper.specs.Tree.{Sequence, Feature, featuresOf}
+use Rattle.paper.specs.Rules.{Kind, IsKind, Keyed, sourceName, Coding, Unjudged, Earlier}
 use Rattle.paper.specs.declared.Fault.{Fault}
 use Rattle.paper.specs.declared.Fault.the-variants.{Clean, At}
 use Rattle.scan.specs.Follow.{Not, Starts, closing}
@@ -22,7 +22,7 @@ use Rattle.value.specs.declared.Kind as code
 use Rattle.value.specs.declared.Kind.the-variants as kind
 use Rattle.location.specs.declared.judging.Verdict.{Verdict}
 use Rattle.location.specs.declared.judging.Verdict.the-variants.{Bad, Is}
-use Rattle.judging.specs.Sets.{Faults, Firsts, Some, InLocation, InSource, InFeature, InTable}
+use Rattle.judging.specs.Sets.{Firsts, Some, InSource, InFeature, InTable}
 use Rattle.judging.specs.Known.{Knows}
 use Rattle.judging.specs.declared.Known.{Known}
 use Rattle.source.specs.Sources.{Capped}

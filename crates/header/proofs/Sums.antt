@@ -8,7 +8,7 @@ use mathlib.Core.Option.{Option, none, some}
 use lib.ListN.{drop}
 use Rattle.paper.specs.Bytes.{bytes, isBlank}
 use Rattle.paper.specs.Lists.{Nth, _∈_, gather, present}
-use Rattle.paper.specs.Tree.{Text, Spoken, Party, Identification, Heading, reference, application, Sequence, Listing}
+use Rattle.paper.specs.Tree.{Text, Spoken, Party, Identification, Heading, reference, application, Listing}
 use Rattle.paper.specs.Layout.{child, leaf, spoken, sequence}
 use Rattle.paper.specs.Values.{Date, Two, isUpper, isLower}
 use Rattle.paper.specs.Rules.{Earlier, identifiedIn, dates, offices, languages}

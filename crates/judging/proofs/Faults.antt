@@ -6,11 +6,11 @@ use mathlib.Core.Bool.{Bool, true, false}
 use mathlib.Core.Logic.{_⊎_, inl, inr}
 use mathlib.Core.List.{List, [], _∷_, _++_}
 use lib.ListN.{length}
-use Rattle.paper.specs.Lists.{Nth, Numbered}
-use Rattle.paper.specs.Rules.{Least, Earlier, Before}
+use Rattle.paper.specs.Lists.{Nth}
+use Rattle.paper.specs.Rules.{Earlier, Before}
 use Rattle.paper.specs.declared.Fault.{Fault}
 use Rattle.paper.specs.declared.Fault.the-variants.{Clean, At}
-use Rattle.paper.proofs.Firsts.{_or_, before-self, least-or, least-as}
+use Rattle.paper.proofs.Firsts.{_or_, least-or, least-as}
 use Rattle.value.specs.Reading.{Tells}
 use Rattle.judging.specs.Sets.{Faults, Firsts, Bad, Some, unlessOf}
 

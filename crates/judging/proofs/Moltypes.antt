@@ -3,9 +3,8 @@ use Prim.Native.Nat.{ℕ}
 use native.Mathlib.Omega.{arith}
 use mathlib.Core.Path.{_≡_, refl, sym, ap, _∙_}
 use mathlib.Core.List.{List}
-use lib.ListN.{length, getD}
-use Rattle.paper.specs.Bytes.{bytes}
-use Rattle.paper.specs.Rules.{Kind, dna, rna, aa, kindName}
+use lib.ListN.{getD}
+use Rattle.paper.specs.Rules.{Kind, dna, rna, aa}
 use Rattle.value.specs.Reading.{KindIs, Names}
 use Rattle.value.specs.declared.Kind as code
 use Rattle.value.specs.declared.Kind.the-variants as kind

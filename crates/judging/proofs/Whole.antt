@@ -1,6 +1,6 @@
 -- The broken rules of a listing are those of its parts: the header, the total, the sequences.
 use Prim.Native.Nat.{ℕ, suc}
-use mathlib.Core.Path.{_≡_, refl}
+use mathlib.Core.Path.{refl}
 use mathlib.Core.Logic.{_⊎_, inl, inr}
 use lib.ListN.{length}
 use Rattle.paper.specs.Lists.{_∈_, Numbered}
@@ -8,7 +8,7 @@ use Rattle.paper.specs.Tree.{Sequence, Listing}
 use Rattle.paper.specs.Values.{Number}
 use Rattle.paper.specs.Rules.{Broken, Unskipped}
 use Rattle.paper.specs.Rules as paper
-use Rattle.judging.specs.Sets.{Faults, Bad, Some, InLocation, InCoding, InSource, InFeature, InTexts, InTable, InSequence, InHeader}
+use Rattle.judging.specs.Sets.{Faults, Bad, Some, InTexts, InTable, InSequence, InHeader}
 use Rattle.judging.specs.Sets as part
 
 -- rule 14

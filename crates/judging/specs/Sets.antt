@@ -1,18 +1,17 @@
 -- The broken rules of each part of a listing: the rows of the paper's table with what they rest on, part by part.
-use Prim.Native.Nat.{ℕ, suc, _≤_, _<_}
+use Prim.Native.Nat.{ℕ, _<_}
 use mathlib.Core.Path.{_≡_}
 use mathlib.Core.Bool.{Bool, true, false}
 use mathlib.Core.Logic.{_⊎_}
-use mathlib.Core.List.{List, [], _∷_}
-use mathlib.Core.Option.{Option, none, some}
-use lib.ListN.{length}
+use mathlib.Core.List.{List, []}
+use mathlib.Core.Option.{none, some}
 use Rattle.paper.specs.Bytes.{bytes, all}
 use Rattle.paper.specs.Lists.{_∈_, Numbered, Count}
-use Rattle.paper.specs.Tree.{Text, Qualifier, Feature, Table, Sequence, Listing, featuresOf, qualifiersOf}
+use Rattle.paper.specs.Tree.{Text, Qualifier, Feature, Sequence, Listing, featuresOf, qualifiersOf}
 use Rattle.paper.specs.Values.{Number, Date, Two, isUpper, isLower}
 use Rattle.paper.specs.Locations.{Location, Locates, breaks25, hasComplement}
 use Rattle.paper.specs.Translation.{dropStop, hasStopInside}
-use Rattle.paper.specs.Rules.{Least, L, Skipped, Kind, aa, IsKind, isSymbol, undefined, fewest, Keyed, Named, organismName, molTypeName, OneSource, Source, tablePlace, Whole, valueRead, valuePlace, Coding, CodonStart, Judged, dates, offices, languages}
+use Rattle.paper.specs.Rules.{Least, L, Skipped, Kind, aa, IsKind, isSymbol, undefined, fewest, Named, organismName, molTypeName, OneSource, Source, tablePlace, Whole, valueRead, valuePlace, Coding, CodonStart, Judged, dates, offices, languages}
 use Rattle.paper.specs.declared.Fault.{Fault}
 use Rattle.paper.specs.declared.Fault.the-variants.{Clean, At}
 

@@ -1,24 +1,20 @@
 -- Each element of the listing, from the readings of its parts: what the proofs of the functions cite. A few lines for each.
-use Prim.Native.Nat.{ℕ, _<_, _≤_}
-use mathlib.Core.Path.{_≡_, refl, sym, ap, _∙_}
-use mathlib.Core.Bool.{Bool, true, false}
-use mathlib.Core.Logic.{_⊎_, inl, inr}
-use mathlib.Core.Option.{Option, none, some}
-use mathlib.Core.List.{List, [], _∷_, _++_}
-use lib.ListN.{length}
+use Prim.Native.Nat.{ℕ, _<_}
+use mathlib.Core.Path.{_≡_, refl}
+use mathlib.Core.Option.{Option, none}
+use mathlib.Core.List.{List, [], _∷_}
 use Rattle.paper.specs.Bytes.{bytes, isBlank}
-use Rattle.paper.specs.Form.{Form, these, lit, _·_, _∪_, maybe, each, each⁺}
-use Rattle.paper.specs.Tree.{Text, Spoken, Party, Identification, Heading, reference, application, Qualifier, Feature, Table, Sequence, Listing}
-use Rattle.paper.specs.Layout.{blanks, tag, close, attribute, leaf, spoken, child, child?, holding, holding?, identification, heading, party, qualifier, quals, feature, table, otherIds, inner, sequence}
-use Rattle.scan.specs.Reads.{Viable, Reads, Passes, Tried, Followed}
-use Rattle.scan.specs.Follow.{Not, Starts, Before, anything, closing, clashes}
+use Rattle.paper.specs.Form.{Form, _·_, each, each⁺}
+use Rattle.paper.specs.Tree.{Text, Qualifier, Feature, Table}
+use Rattle.paper.specs.Layout.{tag, leaf, child, child?, holding, holding?, qualifier, quals, feature, table, otherIds}
+use Rattle.scan.specs.Reads.{Reads, Passes, Tried}
+use Rattle.scan.specs.Follow.{Not, Starts, Before, anything, closing}
 use Rattle.scan.specs.declared.Step.{Step}
-use Rattle.scan.specs.declared.Step.the-variants.{Ok, Fail}
-use Rattle.scan.proofs.Steps.{as-reads, before, seq, pass-then, then-pass}
-use Rattle.scan.proofs.Fronts.{Ever, ev-these, ev-seq, Evers, evs-both, evs-after, Leads, leads-seq, leads-all, starts-sharp, starts-wider}
-use Rattle.tags.proofs.Tags.{Element, Children, leaf-element, spoken-element, holding-reads, holding?-element, ev-holding?, Void, tag-then, child-reads, optional-reads, items-stop, items-more, item-onwards, some-reads, ev-attribute, ev-holding}
-use Rattle.scan.proofs.Soles.{Sole, sole-as}
-use Rattle.layout.specs.Parts.{Enters, Leaves, Held, numbered, held}
+use Rattle.scan.proofs.Steps.{as-reads}
+use Rattle.scan.proofs.Fronts.{Evers}
+use Rattle.tags.proofs.Tags.{Element, Children, leaf-element, holding?-element, ev-holding?, Void, optional-reads, some-reads, ev-holding}
+use Rattle.scan.proofs.Soles.{sole-as}
+use Rattle.layout.specs.Parts.{Enters, Leaves, Held, held}
 use Rattle.layout.proofs.Runs.{Run, run-one, run-maybe, run-each, run-some, run-seq, run-reads, one-reads, run-children, Whole, whole-element, whole-reads}
 
 -- ---- the same element with another value

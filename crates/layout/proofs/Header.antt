@@ -1,24 +1,23 @@
 -- SequenceData, the root with its attributes and what stands before the titles, from the readings of their parts.
-use Prim.Native.Nat.{ℕ, max}
-use mathlib.Core.Path.{_≡_, refl, sym, ap, _∙_, subst}
-use mathlib.Core.Bool.{Bool, true, false}
-use mathlib.Core.Logic.{_⊎_, inl, inr}
-use mathlib.Core.Option.{Option, none, some}
-use mathlib.Core.List.{List, [], _∷_, _++_, append-assoc}
+use Prim.Native.Nat.{ℕ}
+use mathlib.Core.Path.{_≡_, refl}
+use mathlib.Core.Logic.{inl, inr}
+use mathlib.Core.Option.{Option}
+use mathlib.Core.List.{List, [], _∷_, _++_}
 use Rattle.paper.specs.Bytes.{bytes, isBlank}
-use Rattle.paper.specs.Form.{Form, these, lit, _·_, _∪_, maybe, each, each⁺}
-use Rattle.paper.specs.Tree.{Text, Spoken, Party, Identification, Heading, reference, application, Sequence, Listing}
-use Rattle.paper.specs.Layout.{blanks, tag, close, attribute, attribute?, leaf, spoken, child, child?, holding, identification, heading, party, sequence, attributes, parties, root}
-use Rattle.scan.specs.Reads.{Viable, Reads, Passes, Tried, stayed}
-use Rattle.scan.specs.Follow.{Not, Starts, first, Before, anything, closing, clashes, sharp, skip}
+use Rattle.paper.specs.Form.{Form, _·_, _∪_, maybe}
+use Rattle.paper.specs.Tree.{Text, Spoken, Party, Identification, Heading, reference, application, Sequence}
+use Rattle.paper.specs.Layout.{tag, attribute, leaf, spoken, child, child?, holding, identification, heading, party, sequence, attributes, root}
+use Rattle.scan.specs.Reads.{Reads, Passes, Tried, stayed}
+use Rattle.scan.specs.Follow.{Not, Starts, Before, anything, closing}
 use Rattle.scan.specs.declared.Step.{Step}
 use Rattle.scan.specs.declared.Step.the-variants.{Ok, Fail}
-use Rattle.scan.proofs.Steps.{as-reads, before, seq, pass-then, then-pass, either-first, either-second, tried, failed-at, failed-again, step-is, step-to}
-use Rattle.scan.proofs.Fronts.{Ever, ev-these, Evers, evs-both, evs-after, evs-maybe, Leads, leads-seq, leads-all, leads-starts, starts-sharp, starts-wider, StartsBy, skip-blanks, skip-none, not-there, whole, leads-by}
-use Rattle.tags.proofs.Tags.{Element, leaf-element, spoken-element, holding-reads, ev-holding, tag-then, child-leads, child-ever, child-reads, sole-attribute, sole-holding, optional-reads, some-reads, ev-attribute, attribute-optional, attribute-starts, apart-leads}
-use Rattle.scan.proofs.Soles.{Sole, sure-these, sole-seq, sole-after, sole-as, sole-of, sole-or}
-use Rattle.layout.specs.Parts.{Enters, Leaves, MaybeParty, Held, numbered, held, Attributes, Parties, listing, attributed, introduced, titled, earlier}
-use Rattle.layout.proofs.Runs.{Run, run-one, run-maybe, run-each, run-some, run-seq, run-reads, one-reads, run-children, run-optional, optional-run-reads, tried-on, Whole, whole-element, whole-reads}
+use Rattle.scan.proofs.Steps.{as-reads, before, seq, pass-then, either-first, either-second, tried, failed-at, failed-again, step-is, step-to}
+use Rattle.scan.proofs.Fronts.{ev-these, Evers, evs-both, evs-after, Leads, leads-seq, leads-all, leads-starts, starts-wider}
+use Rattle.tags.proofs.Tags.{Element, leaf-element, spoken-element, holding-reads, ev-holding, child-leads, child-ever, child-reads, sole-attribute, sole-holding, optional-reads, ev-attribute, apart-leads}
+use Rattle.scan.proofs.Soles.{sure-these, sole-seq, sole-after, sole-as, sole-of, sole-or}
+use Rattle.layout.specs.Parts.{Enters, Leaves, MaybeParty, Held, numbered, held, Parties, introduced, titled, earlier}
+use Rattle.layout.proofs.Runs.{Run, run-one, run-maybe, run-seq, run-reads, one-reads, run-children, run-optional, optional-run-reads, tried-on, whole-element, whole-reads}
 use Rattle.layout.proofs.Elements.{element-as, child-as, held-element}
 
 -- ---- SequenceData

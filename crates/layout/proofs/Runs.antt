@@ -1,20 +1,19 @@
 -- Runs of children: what they start with before what follows, and their readings one after another. Laws for any elements.
 use Prim.Native.Nat.{ℕ, max}
-use mathlib.Core.Path.{_≡_, refl, sym, ap, _∙_, subst}
-use mathlib.Core.Bool.{Bool, true, false}
-use mathlib.Core.Logic.{_⊎_, inl, inr}
-use mathlib.Core.Option.{Option, none, some}
+use mathlib.Core.Path.{_≡_, sym, ap, _∙_, subst}
+use mathlib.Core.Bool.{true}
+use mathlib.Core.Option.{none}
 use mathlib.Core.List.{List, [], _∷_, _++_, append-assoc}
 use Rattle.paper.specs.Bytes.{bytes, isBlank}
-use Rattle.paper.specs.Form.{Form, lit, _·_, maybe, each, each⁺}
-use Rattle.paper.specs.Layout.{blanks, tag, close, child, child?, holding}
+use Rattle.paper.specs.Form.{Form, _·_, maybe, each, each⁺}
+use Rattle.paper.specs.Layout.{blanks, tag, child, child?, holding}
 use Rattle.scan.specs.Reads.{Reads, Passes, Tried, Followed, chosen}
 use Rattle.scan.specs.Follow.{Not, Starts, Before, anything, closing, clashes, sharp}
 use Rattle.scan.specs.declared.Step.{Step}
 use Rattle.scan.specs.declared.Step.the-variants.{Ok, Fail}
 use Rattle.scan.proofs.Steps.{before, seq, skip-tried, failed}
 use Rattle.scan.proofs.Fronts.{Evers, evs-both, evs-maybe, evs-each, starts-sharp, leads-starts, Leads, leads-by, whole, maybe-starts, not-there}
-use Rattle.tags.proofs.Tags.{Element, Children, holding-element, holding-reads, tag-then, child-leads, child-ever, child-sole, child-reads, sole-optional, sole-items, sole-some-items, optional-reads, optional-starts, items-starts, some-starts, ev-some, ev-holding}
+use Rattle.tags.proofs.Tags.{Element, Children, holding-element, holding-reads, tag-then, child-leads, child-ever, child-sole, child-reads, sole-optional, sole-items, sole-some-items, optional-starts, items-starts, some-starts, ev-some, ev-holding}
 use Rattle.scan.proofs.Soles.{Sole, sole-seq, sole-maybe, sole-before}
 use Rattle.layout.specs.Parts.{Enters, Leaves}
 

@@ -1,26 +1,26 @@
 -- The root, the document type line and the whole text; and from the reading of the whole to what the paper says of it.
-use Prim.Native.Nat.{ℕ, zero, suc, _+_, _≤_, _<_, max}
+use Prim.Native.Nat.{ℕ, suc, _+_, _≤_, _<_}
 use native.Mathlib.Decide.{decLe}
 use native.Mathlib.Omega.{arith}
 use mathlib.Core.Path.{_≡_, refl, sym, ap, _∙_, subst}
-use mathlib.Core.Bool.{Bool, true, false}
-use mathlib.Core.Option.{Option, none, some}
+use mathlib.Core.Bool.{true}
+use mathlib.Core.Option.{Option, none}
 use mathlib.Core.List.{List, [], _∷_, _++_, append-assoc, append-nil}
-use lib.ListN.{length, take, drop, length-append}
+use lib.ListN.{length, take, length-append}
 use lib.Seq.{take-append-seam, length-take-le}
 use Rattle.paper.specs.Bytes.{bytes, isBlank}
-use Rattle.paper.specs.Form.{Form, these, lit, _·_, maybe, each, each⁺}
+use Rattle.paper.specs.Form.{Form, these, lit, _·_, each, each⁺}
 use Rattle.paper.specs.Tree.{Text, Spoken, Sequence, Listing, Bare, forget}
-use Rattle.paper.specs.Layout.{blanks, gap, tag, close, attribute, attribute?, leaf, spoken, child, holding, sequence, attributes, parties, root, doctype, document, LaidOut, Writes}
+use Rattle.paper.specs.Layout.{blanks, gap, tag, close, attribute, attribute?, leaf, spoken, child, holding, sequence, attributes, root, doctype, document, LaidOut, Writes}
 use Rattle.paper.specs.Answers.{Strays, Begins}
-use Rattle.scan.specs.Reads.{Took, Lost, Viable, Reads, Passes, Tried}
-use Rattle.scan.specs.Follow.{Not, Starts, first, Before, anything, nothing, closing, clashes, sharp, skip}
+use Rattle.scan.specs.Reads.{Lost, Reads, Passes, Tried}
+use Rattle.scan.specs.Follow.{Not, Starts, Before, anything, nothing, closing, clashes, sharp, skip}
 use Rattle.scan.specs.declared.Step.{Step}
 use Rattle.scan.specs.declared.Step.the-variants.{Ok, Fail}
 use Rattle.scan.proofs.Laws.{agree-le}
 use Rattle.scan.proofs.Steps.{as-reads, before, seq, pass-then, then-pass}
-use Rattle.scan.proofs.Fronts.{Ever, ev-seq, ev-these, ev-run, ev-gap, Evers, evs-both, evs-after, evs-maybe, evs-then, Leads, leads-seq, leads-all, leads-starts, leads-sharp, StartsBy, skip-blanks, skip-none}
-use Rattle.tags.proofs.Tags.{Element, leaf-element, spoken-element, holding-reads, ev-holding, some-reads, ev-attribute, sole-attribute, sole-attribute-optional, attribute-optional, attribute-starts, sole-holding, sure-gap, Inner, inner-leads}
+use Rattle.scan.proofs.Fronts.{Ever, ev-seq, ev-these, ev-run, ev-gap, Evers, evs-both, evs-after, evs-maybe, Leads, leads-seq, leads-all, leads-starts, leads-sharp, StartsBy, skip-blanks, skip-none}
+use Rattle.tags.proofs.Tags.{leaf-element, spoken-element, holding-reads, ev-holding, some-reads, ev-attribute, sole-attribute, sole-attribute-optional, attribute-optional, attribute-starts, sole-holding, sure-gap, Inner, inner-leads}
 use Rattle.scan.proofs.Soles.{Sole, Sure, sure-these, sure-run, sure-seq, sole-seq, sole-then, sole-after, sole-as}
 use Rattle.layout.specs.Parts.{Enters, Attributes, Parties, listing, attributed, introduced, titled, totalled, close-tag}
 use Rattle.layout.proofs.Runs.{Run, run-one, run-some, run-seq, run-reads, one-reads, run-children}

@@ -4,7 +4,7 @@ use mathlib.Core.Path.{_≡_}
 use mathlib.Core.List.{List, [], _∷_}
 use mathlib.Core.Option.{Option, none}
 use Rattle.paper.specs.Bytes.{bytes, isBlank}
-use Rattle.paper.specs.Form.{Form, lit, _·_, maybe, each}
+use Rattle.paper.specs.Form.{Form, lit, maybe, each}
 use Rattle.paper.specs.Tree.{Text, Spoken, Party, Qualifier, Identification, Heading, reference, Table, Sequence, Listing}
 use Rattle.paper.specs.Layout.{blanks, close, leaf, child, child?, holding?, qualifier, party, inner, attributes, parties}
 use Rattle.scan.specs.Reads.{Reads, Passes}

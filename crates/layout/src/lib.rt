@@ -2,15 +2,11 @@
 // Relies on the definitions of the crate paper and on the steps of the crates scan and tags. Judges no value.
 use scan::Step;
 ghost use mathlib.Core.Path.{_≡_};
-ghost use mathlib.Core.Option.{Option, none};
-ghost use mathlib.Core.List.{List, []};
-ghost use Prim.Native.Nat.{ℕ};
 ghost use Rattle.paper.specs.Bytes.{bytes, isBlank};
-ghost use Rattle.paper.specs.Form.{each, each⁺};
-ghost use Rattle.paper.specs.Tree.{Text, Qualifier};
+ghost use Rattle.paper.specs.Form.{each};
 ghost use Rattle.paper.specs.Layout as Form;
 ghost use Rattle.scan.specs.Reads.{Reads, Passes, Tried, Followed, AtEnd};
-ghost use Rattle.scan.specs.Follow.{Not, Starts, Named, anything, nothing, closing, skip};
+ghost use Rattle.scan.specs.Follow.{Not, Starts, anything, nothing, closing};
 ghost use Rattle.scan.specs.Texts.{ClassTable};
 ghost use Rattle.scan.specs.declared.Step.the-variants.{Ok};
 ghost use Rattle.layout.specs.Parts.{Enters, Leaves, MaybeParty, StartsPast, QualsRest, IdsRest, held, attributed, introduced, titled, totalled, close-tag, earlier};

@@ -1,22 +1,20 @@
 -- No accepted location points outside its sequence.
-use Prim.Native.Nat.{ℕ, zero, suc, _+_, _≤_}
+use Prim.Native.Nat.{ℕ, zero, suc, _≤_}
 use native.Mathlib.Omega.{arith}
 use native.Mathlib.Decide.{ℕ-discrete}
 use mathlib.Core.Path.{_≡_, refl, sym, ap, _∙_, subst}
 use mathlib.Core.Bool.{Bool, true, false, _||_}
 use mathlib.Core.Logic.{_⊎_, inl, inr}
-use mathlib.Core.List.{List, [], _∷_, map, reverse, reverseAux, List-discrete}
+use mathlib.Core.List.{List, [], _∷_, map, reverseAux, List-discrete}
 use mathlib.Core.Option.{Option, none, some}
-use lib.ListN.{length}
 use lib.Dec.{ltb}
 use borrow.Author.Tests.{ltb-false}
 use Rattle.paper.specs.Bytes.{bytes}
 use Rattle.paper.specs.Lists.{Nth, _∈_}
 use Rattle.paper.specs.Tree.{Feature, Table, Sequence, Listing, featuresIn, featuresOf}
-use Rattle.paper.specs.Values.{Number}
 use Rattle.paper.specs.Locations.{Piece, point, before, after, range, site, Member, Location, one, many, pieceText, complement, memberText, membersText, locationText, Locates, Span, spanOf, memberSpan, spans, membersOf, any, isWrong, breaks25}
-use Rattle.paper.specs.Rules.{L, Skipped, Broken, rule-25, rule-29}
-use Rattle.paper.specs.Answers.{Outcome, give, Checked, accepted}
+use Rattle.paper.specs.Rules.{L, Skipped, rule-25, rule-29}
+use Rattle.paper.specs.Answers.{give, Checked, accepted}
 use Rattle.paper.proofs.Decimal.{number-positive}
 use Rattle.paper.proofs.Lists.{of-map}
 

@@ -1,18 +1,17 @@
 -- A rule is broken whatever the marks are: a bare listing breaks a rule exactly when the same listing with places does.
-use Prim.Native.Nat.{ℕ, _<_}
+use Prim.Native.Nat.{ℕ}
 use Prim.Native.String.{String}
 use native.Mathlib.Omega.{arith}
 use mathlib.Core.Path.{_≡_, refl, sym, ap, _∙_, subst}
-use mathlib.Core.Bool.{Bool, true, false}
+use mathlib.Core.Bool.{true, false}
 use mathlib.Core.Logic.{_↔_}
 use mathlib.Core.List.{List, [], _∷_, _++_, map}
 use mathlib.Core.Option.{Option, none, some}
 use Rattle.paper.specs.Bytes.{bytes, all}
-use lib.ListN.{length}
-use Rattle.paper.specs.Lists.{_∈_, Numbered, Count, gather, present}
-use Rattle.paper.specs.Tree.{Text, Spoken, Party, Identification, Heading, reference, application, Qualifier, Feature, Table, Sequence, Listing, Bare, opt, forget, featuresIn, featuresOf, listed, qualifiersOf, markText, markSpoken, markParty, markIdentification, markHeading, markQualifier, markFeature, markTable, markSequence, markListing}
+use Rattle.paper.specs.Lists.{_∈_, Count, gather, present}
+use Rattle.paper.specs.Tree.{Text, Spoken, Party, Identification, Heading, reference, application, Qualifier, Feature, Table, Sequence, Listing, opt, forget, featuresIn, featuresOf, listed, qualifiersOf, markText, markSpoken, markParty, markIdentification, markHeading, markQualifier, markFeature, markTable, markSequence, markListing}
 use Rattle.paper.specs.Values.{Number, Date, Two, isUpper, isLower}
-use Rattle.paper.specs.Locations.{Location, Locates, breaks25, hasComplement}
+use Rattle.paper.specs.Locations.{Location, Locates, breaks25}
 use Rattle.paper.specs.Translation.{dropStop, hasStopInside}
 use Rattle.paper.specs.Rules.{Skipped, Unskipped, Kind, aa, isSymbol, undefined, Whole, Keyed, Named, IsKind, sourceName, organismName, molTypeName, OneSource, Source, tablePlace, valueRead, valuePlace, Coding, CodonStart, absent, stated, Unjudged, excepted, other-code, located, Codons, Judged, identifiedIn, identifications, dates, offices, languages, L, Broken, rule-10, rule-11, rule-12, rule-13, rule-14, rule-15, rule-16, rule-17, rule-18, rule-19, rule-20, rule-21, rule-22, rule-23, rule-24, rule-25, rule-26, rule-27, rule-28, rule-29}
 use Rattle.paper.proofs.Lists.{numbered-map, of-numbered, in-map, of-map, count-map, map-count, length-map, map-append}

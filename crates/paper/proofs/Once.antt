@@ -1,21 +1,20 @@
 -- One answer only: two results that a call's relation allows are equal. The one thing that is not a law of the definitions alone, that
 -- bytes are laid out from at most one listing, is a parameter: the layout's reader proves it.
-use Prim.Native.Nat.{ℕ, zero, suc, _+_, _≤_, _<_}
+use Prim.Native.Nat.{ℕ, zero, suc, _+_, _≤_}
 use native.Mathlib.Omega.{arith}
-use mathlib.Core.Path.{_≡_, refl, sym, ap, _∙_, subst, subst₂}
+use mathlib.Core.Path.{_≡_, refl, sym, ap, _∙_, subst}
 use mathlib.Core.Bool.{Bool, true, false}
-use mathlib.Core.Logic.{_⊎_, inl, inr}
-use mathlib.Core.List.{List, [], _∷_, _++_}
-use mathlib.Core.Option.{Option, none, some}
-use lib.ListN.{length, take}
+use mathlib.Core.List.{List, _++_}
+use mathlib.Core.Option.{some}
+use lib.ListN.{length}
 use Rattle.paper.specs.Bytes.{bytes}
-use Rattle.paper.specs.Lists.{Nth, _∈_, Numbered, Count, end, has, lacks}
+use Rattle.paper.specs.Lists.{Nth, Numbered, Count, end, has, lacks}
 use Rattle.paper.specs.Tree.{Qualifier, Feature, Sequence, Listing, featuresOf, qualifiersOf}
 use Rattle.paper.specs.Layout.{LaidOut}
 use Rattle.paper.specs.Values.{Number}
 use Rattle.paper.specs.Locations.{Location, Locates, spans, operatorNumber}
 use Rattle.paper.specs.Translation.{codonsFrom, codingText, dropStop, hasStopInside}
-use Rattle.paper.specs.Rules.{Skipped, Kind, dna, rna, aa, IsKind, kindName, Named, valueRead, Coding, CodonStart, absent, stated, Unjudged, Codons, Judged, Broken, First}
+use Rattle.paper.specs.Rules.{Skipped, Kind, dna, rna, aa, IsKind, kindName, valueRead, CodonStart, absent, stated, Codons, Broken, First}
 use Rattle.paper.specs.Answers.{partOf, isPresent, valuePart, triples, front, Outcome, refuse, give, Strays, Checked, too-long, strays, breaks, accepted, Counts, CheckSays, FindsSequence, FindsFeature, FindsQualifier, FindsLocation, Translates, FindsTranslation, FindsTranslations, Lines, Lent, Part, kindNumber, SequenceSays, FeatureSays, QualifierSays, SpansSays, TranslationSays, TranslationsSays}
 use Rattle.paper.specs.declared.Verdict.{Verdict}
 use Rattle.paper.specs.declared.Verdict.the-variants.{Accepted, Refused}

@@ -1,15 +1,15 @@
 -- The definitions tried where a slip would be likely: small theorems that they mean what document 01 says.
-use Prim.Native.Nat.{ℕ, suc, _+_}
+use Prim.Native.Nat.{ℕ, _+_}
 use native.Mathlib.Omega.{arith}
 use mathlib.Core.Path.{_≡_, refl, sym, ap, _∙_}
-use mathlib.Core.Bool.{true, false}
+use mathlib.Core.Bool.{true}
 use mathlib.Core.Logic.{inl, inr}
-use mathlib.Core.List.{List, [], _∷_, _++_, append-assoc, append-nil}
+use mathlib.Core.List.{List, [], _∷_, _++_, append-nil}
 use mathlib.Core.Option.{none, some}
-use lib.ListN.{length, length-append}
-use Rattle.paper.specs.Bytes.{bytes, raw}
+use lib.ListN.{length}
+use Rattle.paper.specs.Bytes.{bytes}
 use Rattle.paper.specs.Lists.{Count, end, has, lacks}
-use Rattle.paper.specs.Tree.{Text, Qualifier, Sequence, Listing, markText}
+use Rattle.paper.specs.Tree.{Text, Sequence, Listing, markText}
 use Rattle.paper.specs.Layout.{leaf}
 use Rattle.paper.specs.Locations.{Member, Operator, Location, many, Locates, spans, spanOf, breaks25}
 use Rattle.paper.specs.Rules.{L, Skipped, valueRead}

@@ -1,11 +1,9 @@
 -- What may be asked, and what each call answers: for any bytes, any numbers asked and any lent output, refusals in their order.
-use Prim.Native.Nat.{ℕ, _*_, _≤_, _<_}
-use Prim.Native.Char.{code}
+use Prim.Native.Nat.{ℕ, _≤_, _<_}
 use mathlib.Core.Path.{_≡_}
 use mathlib.Core.Bool.{Bool, true, false}
 use mathlib.Core.List.{List, [], _∷_, _++_, map}
 use mathlib.Core.Option.{Option, none, some}
-use mathlib.Core.Logic.{_⊎_}
 use lib.ListN.{length, take, drop}
 use Rattle.paper.specs.Bytes.{bytes, raw}
 use Rattle.paper.specs.Lists.{Numbered, Count, gather}

@@ -3,7 +3,7 @@ use Prim.Native.Nat.{ℕ}
 use mathlib.Core.Path.{_≡_}
 use mathlib.Core.Bool.{Bool}
 use mathlib.Core.List.{List, [], _++_}
-use mathlib.Core.Option.{Option, none, some}
+use mathlib.Core.Option.{Option, none}
 use Rattle.paper.specs.Bytes.{bytes, all, isBlank, isPrinted, isPrintedOrHigh, raw}
 use Rattle.paper.specs.Form.{Form, these, lit, _·_, _∪_, given, one, run, maybe, each, each⁺}
 use Rattle.paper.specs.Tree.{Text, Spoken, Party, Identification, Heading, reference, application, Qualifier, Feature, Table, Sequence, Listing, Bare, forget}

@@ -1,16 +1,15 @@
 -- What the texts of a form start with, and that a form has a text: the side conditions of the laws of sequence, choice and repetition.
-use Prim.Native.Nat.{ℕ, zero, suc, _+_, _<_}
+use Prim.Native.Nat.{ℕ, _+_, _<_}
 use native.Mathlib.Omega.{arith}
 use mathlib.Core.Path.{_≡_, refl, sym, ap, _∙_, subst}
 use mathlib.Core.Bool.{Bool, true, false, _&&_, _||_, not, cond, and-eq-true-iff}
-use mathlib.Core.Logic.{_⊎_, inl, inr}
 use mathlib.Core.Option.{Option, none, some}
 use mathlib.Core.List.{List, [], _∷_, _++_, append-assoc, append-nil}
-use lib.ListN.{length, length-append}
+use lib.ListN.{length}
 use lib.Dec.{eqb}
 use borrow.Author.Tests.{eq-eqb, eqb-true}
 use Rattle.paper.specs.Bytes.{all, isBlank}
-use Rattle.paper.specs.Form.{Form, these, _·_, _∪_, one, run, maybe, each, each⁺}
+use Rattle.paper.specs.Form.{Form, these, _·_, one, run, maybe, each}
 use Rattle.paper.specs.Layout.{blanks, gap}
 use Rattle.scan.specs.Reads.{Viable}
 use Rattle.scan.specs.Follow.{Not, Named, Starts, first, later, skip, clash, clashes, sharp}

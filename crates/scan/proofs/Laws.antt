@@ -1,14 +1,14 @@
 -- Laws of `Took` and `Lost`: sequence, choice, what may be missing, repetition, another value. Each is proved once, for every form.
-use Prim.Native.Nat.{ℕ, suc, _+_, _-_, _≤_, _<_, max}
-use native.Mathlib.Nat.{add-suc, max-eq-left, max-eq-right, le-max-left, le-max-right, add-assoc, add-zero, zero-add, le-refl}
+use Prim.Native.Nat.{ℕ, suc, _+_, _-_, _≤_, max}
+use native.Mathlib.Nat.{add-suc, max-eq-left, max-eq-right, le-max-left}
 use native.Mathlib.Decide.{decLe}
 use native.Mathlib.Omega.{arith}
 use mathlib.Core.Path.{_≡_, refl, sym, ap, _∙_, subst, subst₂}
 use mathlib.Core.Logic.{_⊎_, inl, inr}
 use mathlib.Core.Option.{Option, none, some}
 use mathlib.Core.List.{List, [], _∷_, _++_, append-assoc, append-nil, append-cancel-left}
-use lib.ListN.{length, take, drop, getD, length-append, length-take, length-drop, take-append-drop, List·getD-append}
-use lib.Seq.{take-take, take-append-add, drop-at, take-at, drop-drop, take-append-seam, take-append-le, getD-take, getD-drop, take-suc}
+use lib.ListN.{length, take, drop, length-append, take-append-drop}
+use lib.Seq.{take-take, take-append-add, drop-at, take-append-seam}
 use Rattle.paper.specs.Form.{Form, _·_, _∪_, each, maybe}
 use Rattle.scan.specs.Reads.{Took, Lost, Viable}
 

@@ -1,17 +1,16 @@
 -- What a reader of bytes, of a class, or of the end has found, from the facts that its loop or its tests show.
-use Prim.Native.Nat.{ℕ, zero, suc, _+_, _-_, _≤_, _<_, max}
+use Prim.Native.Nat.{ℕ, zero, suc, _+_, _-_, _≤_, _<_}
 use native.Mathlib.Omega.{arith}
-use mathlib.Core.Path.{_≡_, refl, sym, ap, _∙_, subst, subst₂, ap₂}
+use mathlib.Core.Path.{_≡_, refl, sym, ap, _∙_, subst, ap₂}
 use mathlib.Core.Bool.{Bool, true, false}
-use mathlib.Core.List.{List, [], _∷_, _++_, append-assoc, append-nil, append-cancel-left}
-use lib.ListN.{length, take, drop, getD, length-append, length-take, length-drop, take-append-drop, List·getD-append}
-use lib.Seq.{getD-drop, take-take, take-append-seam, take-append-le, take-length, getD-take, take-suc, length-take-le}
+use mathlib.Core.List.{List, [], _∷_, _++_, append-nil}
+use lib.ListN.{length, take, drop, getD, length-append, length-take, take-append-drop, List·getD-append}
+use lib.Seq.{getD-drop, take-length, getD-take, take-suc, length-take-le}
 use Rattle.paper.specs.Bytes.{all}
-use Rattle.paper.specs.Form.{Form, these, run}
-use Rattle.scan.specs.Reads.{Took, Lost, Viable}
+use Rattle.paper.specs.Form.{these, run}
+use Rattle.scan.specs.Reads.{Took, Lost}
 use Rattle.scan.specs.Follow.{Not, anything, nothing}
 use Rattle.scan.specs.Texts.{One}
-use Rattle.scan.proofs.Laws.{agree-le}
 
 -- ---- these bytes
 

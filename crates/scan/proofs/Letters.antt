@@ -3,15 +3,14 @@ use Prim.Native.Nat.{ℕ, zero, suc, _+_, _-_, _≤_, _<_, max}
 use native.Mathlib.Nat.{add-zero}
 use native.Mathlib.Omega.{arith}
 use mathlib.Core.Path.{_≡_, refl, sym, ap, _∙_, subst}
-use mathlib.Core.Bool.{Bool, true, false, _||_, _&&_, not, and-eq-true-iff}
-use mathlib.Core.Logic.{_⊎_, inl, inr}
-use mathlib.Core.List.{List, [], _∷_, _++_, append-assoc, append-nil}
-use lib.ListN.{length, take, drop, getD, length-append, length-drop}
+use mathlib.Core.Bool.{Bool, true, false, _||_, and-eq-true-iff}
+use mathlib.Core.Logic.{inl, inr}
+use mathlib.Core.List.{List, [], _∷_, _++_}
+use lib.ListN.{length, take, drop, getD, length-drop}
 use lib.Dec.{eqb}
-use borrow.Author.Tests.{eq-eqb, ne-eqb, eqb-true, not-true}
+use borrow.Author.Tests.{ne-eqb, eqb-true, not-true}
 use Rattle.paper.specs.Bytes.{bytes, all, among, isPrinted, spell, raw}
-use Rattle.paper.specs.Form.{Form, these, lit, _·_, _∪_, given, each}
-use Rattle.paper.specs.Tree.{Text}
+use Rattle.paper.specs.Form.{Form, these, _∪_, given, each}
 use Rattle.paper.specs.Layout.{text}
 use Rattle.scan.specs.Reads.{Lost, Viable, Reads, Passes, chosen}
 use Rattle.scan.specs.Follow.{Not, anything, clash}

@@ -1,15 +1,15 @@
 -- A text of a form, before what may follow it, is of one value and ends at one place: two readings of the same bytes are one.
-use Prim.Native.Nat.{ℕ, suc, _+_}
+use Prim.Native.Nat.{ℕ, _+_}
 use native.Mathlib.Omega.{arith}
 use mathlib.Core.Path.{_≡_, refl, sym, ap, _∙_, subst}
 use mathlib.Core.Bool.{Bool, true, false}
-use mathlib.Core.Logic.{_⊎_, inl, inr}
-use mathlib.Core.Option.{Option, none, some}
+use mathlib.Core.Logic.{inl, inr}
+use mathlib.Core.Option.{none, some}
 use mathlib.Core.List.{List, [], _∷_, _++_, append-assoc, append-cancel-left}
 use lib.ListN.{length}
 use Rattle.paper.specs.Bytes.{all}
 use Rattle.paper.specs.Form.{Form, these, run, one, _·_, _∪_, maybe, each, each⁺}
-use Rattle.scan.specs.Follow.{Not, anything}
+use Rattle.scan.specs.Follow.{Not}
 use Rattle.scan.proofs.Fronts.{false-true}
 
 abbrev pub Sole : {A : Type 0} → (A → Form) → (List ℕ → Type 0) → Type 0

@@ -1,19 +1,19 @@
 -- The laws of `Reads`, from step to step: what each proof of a reading function cites.
-use Prim.Native.Nat.{ℕ, zero, suc, _+_, _-_, _≤_, _<_, max}
-use native.Mathlib.Nat.{add-assoc, add-zero}
+use Prim.Native.Nat.{ℕ, suc, _+_, _-_, _≤_, _<_, max}
+use native.Mathlib.Nat.{add-zero}
 use native.Mathlib.Omega.{arith}
 use mathlib.Core.Path.{_≡_, refl, sym, ap, _∙_, subst, subst₂}
 use mathlib.Core.Bool.{Bool}
-use mathlib.Core.List.{List, [], _∷_, _++_}
+use mathlib.Core.List.{List, [], _++_}
 use lib.ListN.{length, take, drop, length-append, length-drop}
 use lib.Seq.{drop-drop, drop-append-seam}
 use Rattle.paper.specs.Form.{Form, one, _·_, _∪_, each, maybe}
-use Rattle.scan.specs.Reads.{Took, Lost, Viable, Reads, ReadsAt, Passes, raised, chosen, stayed, Tried}
+use Rattle.scan.specs.Reads.{Took, Lost, Viable, Reads, ReadsAt, Passes, chosen, stayed, Tried}
 use Rattle.scan.specs.Follow.{anything}
 use Rattle.scan.specs.declared.Step.{Step}
 use Rattle.scan.specs.declared.Step.the-variants.{Ok, Fail}
 use Rattle.scan.specs.Texts.{One}
-use Rattle.scan.proofs.Laws.{took-as, lost-as, seq-took, seq-lost, seq-stop, took-before, lost-before, alt-left, alt-right, alt-lost, some-took, none-took, each-none, each-more, Both}
+use Rattle.scan.proofs.Laws.{took-as, lost-as, seq-took, seq-lost, seq-stop, took-before, lost-before, alt-left, alt-right, alt-lost, some-took, none-took, each-none, each-more}
 
 -- another value, at one place
 module _ {A B : Type 0} (L : A → Form) (M : B → Form) (F : List ℕ → Type 0) (at : ℕ) (to : A → List ℕ → B)

@@ -2,8 +2,7 @@
 -- completeness, that no other reading is there, and how far some text of the form goes (rule 2's place).
 use Prim.Native.Nat.{ℕ, suc, _+_, _≤_, max}
 use mathlib.Core.Path.{_≡_}
-use mathlib.Core.Bool.{Bool, true, false}
-use mathlib.Core.List.{List, [], _∷_, _++_}
+use mathlib.Core.List.{List, _++_}
 use lib.ListN.{length, take, drop}
 use Rattle.paper.specs.Bytes.{isBlank}
 use Rattle.paper.specs.Form.{Form}

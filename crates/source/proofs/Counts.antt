@@ -1,36 +1,35 @@
 -- Names counted up to two, and the faults of a source.
-use Prim.Native.Nat.{ℕ, suc, _+_, _≤_, _<_}
+use Prim.Native.Nat.{ℕ, suc, _+_, _≤_}
 use Prim.Native.String.{String}
 use native.Mathlib.Decide.{decLe}
 use native.Mathlib.Omega.{arith}
-use mathlib.Core.Path.{_≡_, refl, sym, ap, _∙_, subst}
-use mathlib.Core.Bool.{Bool, true, false, true≢false}
-use mathlib.Core.Logic.{_⊎_, inl, inr}
+use mathlib.Core.Path.{_≡_, refl, ap, _∙_, subst}
+use mathlib.Core.Bool.{Bool, true, false}
+use mathlib.Core.Logic.{inl, inr}
 use mathlib.Core.List.{List, [], _∷_, _++_}
-use lib.ListN.{length, drop}
 use Rattle.paper.specs.Bytes.{bytes, raw}
 use Rattle.paper.specs.Lists.{Count, end}
-use Rattle.paper.specs.Tree.{Text, Sequence, Feature, Qualifier, qualifiersOf}
-use Rattle.paper.specs.Rules.{L, Kind, dna, rna, aa, IsKind, Named, organismName, molTypeName, Whole, Earlier}
+use Rattle.paper.specs.Tree.{Sequence, Feature, Qualifier, qualifiersOf}
+use Rattle.paper.specs.Rules.{L, Kind, aa, Named, organismName, molTypeName, Whole, Earlier}
 use Rattle.paper.specs.declared.Fault.{Fault}
 use Rattle.paper.proofs.Lists.{count-once}
 use Rattle.paper.proofs.Firsts.{_or_}
 use Rattle.scan.specs.Parts.{Shows}
-use Rattle.value.specs.Reading.{Tells, OfRead, KindIs}
+use Rattle.value.specs.Reading.{Tells, OfRead}
 use Rattle.value.specs.declared.Kind as code
 use Rattle.value.specs.declared.Kind.the-variants as kind
 use Rattle.value.proofs.Read.{tells-word}
 use Rattle.walk.specs.Stands.{IsPart}
 use Rattle.walk.specs.declared.Part.{Part}
 use Rattle.judging.specs.Sets.{Firsts, Bad, InSource, rule-22, rule-23, unlessOf}
-use Rattle.judging.specs.Known.{Knows, CodeOf}
+use Rattle.judging.specs.Known.{CodeOf}
 use Rattle.judging.specs.declared.Known.{Known}
 use Rattle.judging.proofs.Bytes.{part-shows}
 use Rattle.judging.proofs.Faults.{firsts-or, firsts-as, firsts-unless}
 use Rattle.judging.proofs.Moltypes.{code-is}
 use Rattle.judging.proofs.Seen.{count-has, count-lacks}
 use Rattle.judging.proofs.Values.{text-fault}
-use Rattle.source.specs.Sources.{isAa, organismOf, molTypeOf, Capped, Bumped, Counted, AreNames, CountsNames, TellsOnce, JudgesSource, Asked}
+use Rattle.source.specs.Sources.{isAa, organismOf, molTypeOf, Bumped, Counted, AreNames, CountsNames, TellsOnce, JudgesSource}
 use Rattle.source.specs.declared.Names.{Names}
 
 -- ---- names

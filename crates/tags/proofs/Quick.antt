@@ -1,10 +1,10 @@
 -- A tag that stands there with no blank in it is read as any tag: one step for the words of it, and no step for the blanks.
-use Prim.Native.Nat.{ℕ, _+_, _<_, _≤_, max}
+use Prim.Native.Nat.{ℕ, _+_, _<_, max}
 use native.Mathlib.Omega.{arith}
 use mathlib.Core.Path.{_≡_, refl, sym, ap, _∙_}
 use mathlib.Core.Bool.{false}
-use mathlib.Core.List.{List, _++_}
-use lib.ListN.{length, getD, drop, length-drop}
+use mathlib.Core.List.{List}
+use lib.ListN.{length, getD, drop}
 use Rattle.paper.specs.Bytes.{bytes, isBlank}
 use Rattle.paper.specs.Form.{these, lit}
 use Rattle.paper.specs.Layout.{blanks, text, close, leaf}

@@ -1,15 +1,14 @@
 -- Tags, attributes, leaves and elements that hold elements, from the readings of their parts. Each law is for every name.
-use Prim.Native.Nat.{ℕ, zero, suc, _+_, _<_, _≤_}
-use native.Mathlib.Omega.{arith}
+use Prim.Native.Nat.{ℕ, _+_, _<_, _≤_}
 use mathlib.Core.Path.{_≡_, refl, sym, ap, _∙_, subst}
 use mathlib.Core.Bool.{Bool, true, false}
-use mathlib.Core.Logic.{_⊎_, inl, inr}
-use mathlib.Core.Option.{Option, none, some}
-use mathlib.Core.List.{List, [], _∷_, _++_, append-assoc, append-nil}
+use mathlib.Core.Logic.{inl, inr}
+use mathlib.Core.Option.{Option, none}
+use mathlib.Core.List.{List, [], _∷_, _++_, append-assoc}
 use lib.ListN.{length}
-use Rattle.paper.specs.Bytes.{bytes, all, isBlank}
-use Rattle.paper.specs.Form.{Form, these, lit, _·_, _∪_, given, one, run, maybe, each, each⁺}
-use Rattle.paper.specs.Tree.{Text, Spoken}
+use Rattle.paper.specs.Bytes.{bytes, isBlank}
+use Rattle.paper.specs.Form.{Form, these, lit, _·_, _∪_, given, one, maybe, each, each⁺}
+use Rattle.paper.specs.Tree.{Text}
 use Rattle.paper.specs.Layout.{blanks, gap, text, tag, close, attribute, content, leaf, spoken, child, holding, holding?}
 use Rattle.scan.specs.Reads.{Viable, Reads, Passes, Tried}
 use Rattle.scan.specs.Follow.{Not, Starts, first, anything, skip, clashes, sharp, closing, Before}
@@ -17,7 +16,7 @@ use Rattle.scan.specs.Texts.{allowedIn, isText}
 use Rattle.scan.specs.declared.Step.{Step}
 use Rattle.scan.specs.declared.Step.the-variants.{Ok, Fail}
 use Rattle.scan.proofs.Steps.{as-reads, as-reads-at, before, seq, pass-then, then-pass, either-first, either-second, skip-tried, stop, more, onwards, failed}
-use Rattle.scan.proofs.Fronts.{Ever, ev-seq, ev-these, ev-run, ev-gap, Evers, evs-then, evs-after, evs-both, Leads, leads-these, leads-all, leads-seq, leads-less, leads-starts, leads-sharp, leads-long, leads-by, LeadsBy, whole, StartsBy, clash-apart, starts-sharp, skip-gap, skip-none, maybe-starts, each-starts, not-there}
+use Rattle.scan.proofs.Fronts.{Ever, ev-seq, ev-these, ev-run, ev-gap, Evers, evs-then, evs-after, evs-both, Leads, leads-these, leads-all, leads-seq, leads-starts, leads-sharp, leads-long, leads-by, LeadsBy, whole, StartsBy, starts-sharp, skip-gap, skip-none, maybe-starts, each-starts, not-there}
 use Rattle.scan.proofs.Letters.{ev-text, sole-text}
 use Rattle.scan.proofs.Soles.{Sole, Sure, sure-these, sure-one, sure-run, sure-seq, sole-seq, sole-then, sole-after, sole-before, sole-or, sole-maybe, sole-each, sole-some}
 

@@ -1,5 +1,5 @@
 -- `items::qualifiers_over` meets its contract. The loop's invariant: what is left of the list stands at `at`. The measure is what is left of the text.
-use Prim.Native.Nat.{_-_, _≤_}
+use Prim.Native.Nat.{_-_}
 use native.Mathlib.Omega.{arith}
 use denote.Ref.{now}
 use lib.ListN.{length}

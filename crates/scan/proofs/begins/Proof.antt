@@ -1,5 +1,5 @@
 -- `scan::begins` meets its contract. The loop's invariant: the text has the first `i` bytes of the word. The measure is what is left of the word.
-use Prim.Native.Nat.{_+_, _-_, _≤_}
+use Prim.Native.Nat.{_-_, _≤_}
 use native.Mathlib.Omega.{arith}
 use mathlib.Core.Path.{sym, subst}
 use mathlib.Core.Bool.{true≢false}

@@ -1,5 +1,5 @@
 -- `source::count_names` meets its contract. The loop's invariant: the names are counted in what has been seen. The measure is what is left of the text.
-use Prim.Native.Nat.{ℕ, _-_, _≤_}
+use Prim.Native.Nat.{ℕ, _-_}
 use native.Mathlib.Omega.{arith}
 use denote.Ref.{now}
 use mathlib.Core.Path.{refl}

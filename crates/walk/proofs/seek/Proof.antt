@@ -1,9 +1,8 @@
 -- `walk::seek` meets its contract. The loop's invariant: no byte so far is the one that is looked for. The measure is what is left.
 use Prim.Native.Nat.{_-_, _≤_}
 use native.Mathlib.Omega.{arith}
-use mathlib.Core.Path.{sym, ap, _∙_}
+use mathlib.Core.Path.{ap}
 use mathlib.Core.Bool.{not}
-use lib.ListN.{length}
 use borrow.Author.Tests.{eq-eqb, ne-eqb}
 use Rattle.scan.specs.Texts.{Upto}
 use Rattle.scan.proofs.Scans.{upto-none, upto-more}

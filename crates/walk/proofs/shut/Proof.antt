@@ -1,5 +1,4 @@
 -- `walk::shut` meets its contract.
-use mathlib.Core.Path.{refl}
 use Rattle.walk.proofs.Places.{nothing-stands}
 use borrow.Author.Needs.{needs}
 use Rattle.walk.proofs.shut.Statement.{statement}
