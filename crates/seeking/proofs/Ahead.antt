@@ -21,10 +21,10 @@ use Rattle.items.specs.Items.{FindsSequence}
 use Rattle.items.specs.declared.FoundSequence.{FoundSequence}
 use Rattle.items.proofs.Features.{qualifier-leads}
 use Rattle.items.proofs.Sequences.{sequence-leads, feature-leads}
-use Rattle.finding.specs.Items.{Asked, nameOf, formOf, Seeks}
-use Rattle.finding.specs.declared.Item.{Item}
-use Rattle.finding.specs.declared.Item.the-variants.{Sequence, Feature, Qualifier}
-use Rattle.finding.specs.declared.Place.the-variants.{Missing, At}
+use Rattle.seeking.specs.Items.{Asked, nameOf, formOf, Seeks}
+use Rattle.seeking.specs.declared.Item.{Item}
+use Rattle.seeking.specs.declared.Item.the-variants.{Sequence, Feature, Qualifier}
+use Rattle.seeking.specs.declared.Place.the-variants.{Missing, At}
 
 pub sequence-over : {s : List ℕ} {at : ℕ} {r : FoundSequence} → FindsSequence s at r → Over (child layout.sequence) (Not isBlank) s at (r .next)
 sequence-over f = record { is = λ q e d fol. f q e d fol .next }

@@ -1,8 +1,8 @@
--- `finding::qualifier_in` meets its contract: 33, or the qualifier.
-use Rattle.finding.proofs.Found.{placed, no-qualifier, qualifier-so}
+-- `seeking::qualifier_in` meets its contract: 33, or the qualifier.
+use Rattle.seeking.proofs.Within.{placed, no-qualifier, qualifier-so}
 use borrow.Author.Needs.{needs}
-use Rattle.finding.proofs.qualifier_in.Statement.{statement}
-use Rattle.finding.proofs.qualifier_in.Tie as tie
+use Rattle.seeking.proofs.qualifier_in.Statement.{statement}
+use Rattle.seeking.proofs.qualifier_in.Tie as tie
 
 nth-requires : tie.Need-nth-requires
 nth-requires c κs = search needs

@@ -1,9 +1,9 @@
--- `finding::item_over` meets its contract.
+-- `seeking::item_over` meets its contract.
 use Rattle.items.proofs.Sequences.{qualifier-over}
-use Rattle.finding.proofs.Ahead.{sequence-over}
+use Rattle.seeking.proofs.Ahead.{sequence-over}
 use borrow.Author.Needs.{needs}
-use Rattle.finding.proofs.item_over.Statement.{statement}
-use Rattle.finding.proofs.item_over.Tie as tie
+use Rattle.seeking.proofs.item_over.Statement.{statement}
+use Rattle.seeking.proofs.item_over.Tie as tie
 
 enum-told : tie.Need-enum-told
 enum-told c = search needs

@@ -1,8 +1,8 @@
--- `finding::feature_in` meets its contract: 32, or the feature.
-use Rattle.finding.proofs.Found.{placed, no-table, no-feature, feature-so}
+-- `seeking::feature_in` meets its contract: 32, or the feature.
+use Rattle.seeking.proofs.Within.{placed, no-table, no-feature, feature-so}
 use borrow.Author.Needs.{needs}
-use Rattle.finding.proofs.feature_in.Statement.{statement}
-use Rattle.finding.proofs.feature_in.Tie as tie
+use Rattle.seeking.proofs.feature_in.Statement.{statement}
+use Rattle.seeking.proofs.feature_in.Tie as tie
 
 returns : tie.Need-returns
 returns c = no-table (c .if1 .taken)

@@ -1,14 +1,14 @@
--- `finding::nth` meets its contract. The loop's invariant: what is left of the list stands at `at`, and the item asked for behind `ahead` of it. The measure is what is left of the text.
+-- `seeking::nth` meets its contract. The loop's invariant: what is left of the list stands at `at`, and the item asked for behind `ahead` of it. The measure is what is left of the text.
 use Prim.Native.Nat.{_-_}
 use native.Mathlib.Omega.{arith}
 use denote.Ref.{now}
 use lib.ListN.{length}
 use Rattle.walk.proofs.Loops.{there-inside}
-use Rattle.finding.specs.Items.{nameOf}
-use Rattle.finding.proofs.Ahead.{Ahead, none-zero, ahead-all, ahead-none, ahead-here, ahead-next, ahead-stuck}
+use Rattle.seeking.specs.Items.{nameOf}
+use Rattle.seeking.proofs.Ahead.{Ahead, none-zero, ahead-all, ahead-none, ahead-here, ahead-next, ahead-stuck}
 use borrow.Author.Needs.{needs}
-use Rattle.finding.proofs.nth.Statement.{statement}
-use Rattle.finding.proofs.nth.Tie as tie
+use Rattle.seeking.proofs.nth.Statement.{statement}
+use Rattle.seeking.proofs.nth.Tie as tie
 
 abbrev Inv-loop : tie.InvT-loop
 Inv-loop s first k item at₀ ahead₀ at ahead = Ahead item s first k at ahead

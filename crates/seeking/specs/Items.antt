@@ -9,10 +9,10 @@ use Rattle.paper.specs.Tree as tree
 use Rattle.paper.specs.Layout as layout
 use Rattle.scan.specs.Follow.{Not, Starts, closing}
 use Rattle.walk.specs.Stands.{Stands}
-use Rattle.finding.specs.declared.Item.{Item}
-use Rattle.finding.specs.declared.Item.the-variants.{Sequence, Feature, Qualifier}
-use Rattle.finding.specs.declared.Place.{Place}
-use Rattle.finding.specs.declared.Place.the-variants.{Missing, At}
+use Rattle.seeking.specs.declared.Item.{Item}
+use Rattle.seeking.specs.declared.Item.the-variants.{Sequence, Feature, Qualifier}
+use Rattle.seeking.specs.declared.Place.{Place}
+use Rattle.seeking.specs.declared.Place.the-variants.{Missing, At}
 
 -- what is asked for, the name of its element, and how it is written
 abbrev pub Asked : Item → Type 0

@@ -1,7 +1,7 @@
--- `finding::item_here` meets its contract.
+-- `seeking::item_here` meets its contract.
 use borrow.Author.Needs.{needs}
-use Rattle.finding.proofs.item_here.Statement.{statement}
-use Rattle.finding.proofs.item_here.Tie as tie
+use Rattle.seeking.proofs.item_here.Statement.{statement}
+use Rattle.seeking.proofs.item_here.Tie as tie
 
 enum-told : tie.Need-enum-told
 enum-told c = search needs
