@@ -21,8 +21,8 @@ use Rattle.paper.proofs.Locate.{locates-once}
 use Rattle.paper.proofs.Once.{translates-once}
 use Rattle.scan.specs.Follow.{closing}
 use Rattle.scan.specs.Parts.{Shows}
+use Rattle.value.proofs.Read.{raw-symbols}
 use Rattle.value.proofs.Tests.{tells-true, tells-false}
-use Rattle.value.proofs.Residues.{raw-symbols}
 use Rattle.walk.specs.Stands.{There}
 use Rattle.walk.specs.declared.Part.{Part}
 use Rattle.items.specs.Items.{FindsQualifier}

@@ -270,7 +270,7 @@ pub fn qualifier<'l, 'k>(
 fn known_of(listing: &[u8], sequence: FoundSequence) -> Known
     ensures { λ r. ⌜ KnowsSequence (now (listing .entry)) sequence r ⌝ }
 {
-    let symbols = value::symbol_table();
+    let symbols = residues::symbol_table();
     texts::known_of(listing, sequence.moltype, sequence.residues, &symbols)
 }
 

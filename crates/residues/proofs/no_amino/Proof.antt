@@ -1,9 +1,8 @@
--- `value::no_amino` meets its contract.
-use Rattle.value.proofs.Residues.{amino-among}
+-- `residues::no_amino` meets its contract.
+use Rattle.residues.proofs.Residues.{amino-among}
 use native.Mathlib.Omega.{arith}
-use borrow.Author.Needs.{needs}
-use Rattle.value.proofs.no_amino.Statement.{statement}
-use Rattle.value.proofs.no_amino.Tie as tie
+use Rattle.residues.proofs.no_amino.Statement.{statement}
+use Rattle.residues.proofs.no_amino.Tie as tie
 
 returns : tie.Need-returns
 returns c = record { none = λ h. absurd (omega arith) }

@@ -1,14 +1,14 @@
--- `value::characters` meets its contract. The loop's invariant: the characters so far and those that start from `i` on are all of them.
+-- `residues::characters` meets its contract. The loop's invariant: the characters so far and those that start from `i` on are all of them.
 use Prim.Native.Nat.{_-_, _≤_}
 use native.Mathlib.Omega.{arith}
 use mathlib.Core.Path.{_∙_}
 use mathlib.Core.Logic.{⊎-elim}
 use lib.ListN.{length, getD}
 use borrow.Author.Tests.{eq-eqb, ne-eqb}
-use Rattle.value.proofs.Counting.{Left, left-next, left-none, counted}
+use Rattle.residues.proofs.Counting.{Left, left-next, left-none, counted}
 use borrow.Author.Needs.{needs}
-use Rattle.value.proofs.characters.Statement.{statement}
-use Rattle.value.proofs.characters.Tie as tie
+use Rattle.residues.proofs.characters.Statement.{statement}
+use Rattle.residues.proofs.characters.Tie as tie
 
 abbrev Inv-loop : tie.InvT-loop
 Inv-loop w n₀ inside₀ i₀ n inside i = (i ≤ length w) × Left w n inside i

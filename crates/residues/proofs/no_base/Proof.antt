@@ -1,9 +1,9 @@
--- `value::no_base` meets its contract.
-use Rattle.value.proofs.Residues.{base-among}
+-- `residues::no_base` meets its contract.
+use Rattle.residues.proofs.Residues.{base-among}
 use mathlib.Core.Path.{refl}
 use borrow.Author.Needs.{needs}
-use Rattle.value.proofs.no_base.Statement.{statement}
-use Rattle.value.proofs.no_base.Tie as tie
+use Rattle.residues.proofs.no_base.Statement.{statement}
+use Rattle.residues.proofs.no_base.Tie as tie
 
 differs-requires : tie.Need-differs-requires
 differs-requires c κs = search needs

@@ -1,13 +1,13 @@
--- `value::has_defined` meets its contract. The loop's invariant: those that are left to find and all there are, and the number asked for and those from `i` on.
-use Prim.Native.Nat.{ℕ, _+_, _-_, _≤_}
+-- `residues::has_defined` meets its contract. The loop's invariant: those that are left to find and all there are, and the number asked for and those from `i` on.
+use Prim.Native.Nat.{_+_, _-_, _≤_}
 use native.Mathlib.Omega.{arith}
 use mathlib.Core.Path.{_≡_}
 use mathlib.Core.Logic.{⊎-elim}
 use lib.ListN.{length, drop}
-use Rattle.value.proofs.Counting.{others, count-others, others-lack, others-have, others-none}
+use Rattle.residues.proofs.Counting.{others, count-others, others-lack, others-have, others-none}
 use borrow.Author.Needs.{needs}
-use Rattle.value.proofs.has_defined.Statement.{statement}
-use Rattle.value.proofs.has_defined.Tie as tie
+use Rattle.residues.proofs.has_defined.Statement.{statement}
+use Rattle.residues.proofs.has_defined.Tie as tie
 
 abbrev Inv-loop : tie.InvT-loop
 Inv-loop w undefined enough left₀ i₀ left i = (i ≤ length w) × (enough + others undefined (drop i w) ≡ left + others undefined w)

@@ -1,11 +1,11 @@
--- `value::foreign` meets its contract. The loop's invariant: each byte passed is a symbol of the class. The measure is what is left.
-use Rattle.value.proofs.Residues.{between-none, between-more, of-class, of-none}
-use Rattle.value.specs.Reading.{Between}
+-- `residues::foreign` meets its contract. The loop's invariant: each byte passed is a symbol of the class. The measure is what is left.
+use Rattle.residues.proofs.Residues.{between-none, between-more, of-class, of-none}
+use Rattle.residues.specs.Residues.{Between}
 use native.Mathlib.Omega.{arith}
 use Prim.Native.Nat.{_-_, _≤_}
 use borrow.Author.Needs.{needs}
-use Rattle.value.proofs.foreign.Statement.{statement}
-use Rattle.value.proofs.foreign.Tie as tie
+use Rattle.residues.proofs.foreign.Statement.{statement}
+use Rattle.residues.proofs.foreign.Tie as tie
 
 abbrev Inv-loop : tie.InvT-loop
 Inv-loop w from end class t i₀ i = (from ≤ i) × (i ≤ end) × Between w class from i

@@ -1,14 +1,14 @@
--- `value::symbols` meets its contract. The loop's invariant: each byte passed is a symbol of the class. The measure is what is left.
-use Rattle.value.proofs.Residues.{between-none, between-join, first-foreign}
-use Rattle.value.specs.Reading.{Between}
+-- `residues::symbols` meets its contract. The loop's invariant: each byte passed is a symbol of the class. The measure is what is left.
+use Rattle.residues.proofs.Residues.{between-none, between-join, first-foreign}
+use Rattle.residues.specs.Residues.{Between}
 use lib.ListN.{length}
 use mathlib.Core.Logic.{⊎-elim}
-use mathlib.Core.Path.{_≡_, subst}
+use mathlib.Core.Path.{subst}
 use native.Mathlib.Omega.{arith}
-use Prim.Native.Nat.{ℕ, _+_, _-_, _≤_}
+use Prim.Native.Nat.{_+_, _-_, _≤_}
 use borrow.Author.Needs.{needs}
-use Rattle.value.proofs.symbols.Statement.{statement}
-use Rattle.value.proofs.symbols.Tie as tie
+use Rattle.residues.proofs.symbols.Statement.{statement}
+use Rattle.residues.proofs.symbols.Tie as tie
 
 abbrev Inv-loop : tie.InvT-loop
 Inv-loop w class t i₀ i = (i ≤ length w) × Between w class 0 i

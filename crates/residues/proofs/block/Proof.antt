@@ -1,13 +1,13 @@
--- `value::block` meets its contract. The loop's invariant: where the tests joined are 0 each byte passed is a symbol. The measure is what is left of the 64 bytes.
-use Rattle.value.proofs.Residues.{between-more}
+-- `residues::block` meets its contract. The loop's invariant: where the tests joined are 0 each byte passed is a symbol. The measure is what is left of the 64 bytes.
+use Rattle.residues.proofs.Residues.{between-more}
 use Rattle.paper.proofs.Bits.{or-none}
-use Rattle.value.specs.Reading.{Between}
+use Rattle.residues.specs.Residues.{Between}
 use mathlib.Core.Path.{_≡_, subst}
 use native.Mathlib.Omega.{arith}
 use Prim.Native.Nat.{ℕ, _+_, _-_, _≤_}
 use borrow.Author.Needs.{needs}
-use Rattle.value.proofs.block.Statement.{statement}
-use Rattle.value.proofs.block.Tie as tie
+use Rattle.residues.proofs.block.Statement.{statement}
+use Rattle.residues.proofs.block.Tie as tie
 
 abbrev Inv-loop : tie.InvT-loop
 Inv-loop w at class bad₀ j₀ bad j = (j ≤ 64) × (bad ≡ 0 → Between w class at (at + j))

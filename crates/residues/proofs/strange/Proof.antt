@@ -1,12 +1,11 @@
--- `value::strange` meets its contract: by the class.
-use Rattle.value.proofs.Residues.{no-class}
-use Rattle.value.specs.Reading.{Strange}
+-- `residues::strange` meets its contract: by the class.
+use Rattle.residues.specs.Residues.{Strange}
 use native.Mathlib.Omega.{arith}
 use Prim.Native.Nat.{ℕ}
 use mathlib.Core.Path.{subst, sym}
 use borrow.Author.Needs.{needs}
-use Rattle.value.proofs.strange.Statement.{statement}
-use Rattle.value.proofs.strange.Tie as tie
+use Rattle.residues.proofs.strange.Statement.{statement}
+use Rattle.residues.proofs.strange.Tie as tie
 
 no-base-requires : tie.Need-no-base-requires
 no-base-requires c κs = search needs

@@ -14,18 +14,9 @@ use Rattle.paper.specs.Rules.{dna, rna, aa, isSymbol}
 use Rattle.paper.specs.Rules as Rules
 use Rattle.paper.proofs.Tables.{Test, at-each}
 use Rattle.paper.proofs.Texts.{raw-once}
-use Rattle.value.specs.Reading.{symbolClass, SymbolTable, OfClass, Differs, Strange, Between, Foreign, FirstForeign, Symbols}
-use Rattle.value.proofs.Read.{Plain, raw-plain}
-use Rattle.value.proofs.Tests.{all-at, at-all, below-next}
-
-symbol-plain : (k : Rules.Kind) → Plain (isSymbol k)
-symbol-plain dna = refl
-symbol-plain rna = refl
-symbol-plain aa = refl
-
--- symbols are written as they read
-pub raw-symbols : (k : Rules.Kind) (v : List ℕ) → all (isSymbol k) v → raw v ≡ v
-raw-symbols k = raw-plain (isSymbol k) (symbol-plain k)
+use Rattle.value.proofs.Read.{raw-symbols}
+use Rattle.value.proofs.Tests.{all-at, at-all}
+use Rattle.residues.specs.Residues.{symbolClass, SymbolTable, OfClass, Differs, Strange, Between, Foreign, FirstForeign, Symbols}
 
 -- ---- the table
 

@@ -9,8 +9,8 @@ use lib.Dec.{eqb}
 use borrow.Author.Tests.{eqb-true, eqb-false, eq-eqb, ne-eqb}
 use Rattle.paper.specs.Bytes.{spell, raw}
 use Rattle.paper.specs.Lists.{Count, end, has, lacks}
-use Rattle.value.specs.Reading.{Characters}
 use Rattle.value.proofs.Numbers.{suffix}
+use Rattle.residues.specs.Residues.{Characters}
 
 -- ---- characters
 
