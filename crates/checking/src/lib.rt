@@ -11,7 +11,7 @@ ghost use Rattle.checking.specs.Checks.{JudgesListing};
 fn judge(listing: &[u8]) -> Total
     ensures { λ r. ⌜ JudgesListing (now (listing .entry)) r ⌝ }
 {
-    let symbols = value::symbol_table();
+    let symbols = residues::symbol_table();
     let sets = codon::set_table();
     let turns = codon::turn_table();
     let letters = codon::letter_table();

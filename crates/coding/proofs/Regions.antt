@@ -18,8 +18,8 @@ use Rattle.paper.specs.declared.Fault.the-variants.{Clean, At}
 use Rattle.paper.proofs.Locate.{locates-once}
 use Rattle.paper.proofs.Once.{translates-once}
 use Rattle.scan.specs.Parts.{Shows}
+use Rattle.value.proofs.Read.{raw-symbols}
 use Rattle.value.proofs.Tests.{tells-true, tells-false}
-use Rattle.value.proofs.Residues.{raw-symbols}
 use Rattle.walk.specs.declared.Part.{Part}
 use Rattle.location.specs.Judging.{Judged as Placed}
 use Rattle.location.specs.declared.judging.Facts.{Facts}

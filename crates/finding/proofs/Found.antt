@@ -1,12 +1,9 @@
 -- What was found in an accepted listing, from where its items stand; and the refusals 30 to 33.
 use Prim.Native.Nat.{ℕ}
-use mathlib.Core.Path.{_≡_, refl, sym, ap, _∙_, subst}
-use mathlib.Core.Bool.{Bool, true, false, not, true≢false}
+use mathlib.Core.Path.{_≡_}
+use mathlib.Core.Bool.{Bool, true, false}
 use mathlib.Core.List.{List}
-use mathlib.Core.Option.{Option, none, some}
-use Rattle.paper.specs.Lists.{Numbered}
-use Rattle.paper.specs.Form.{Form}
-use Rattle.paper.specs.Tree.{Feature, Table, Listing, featuresIn, qualifiersOf}
+use Rattle.paper.specs.Tree.{Listing}
 use Rattle.paper.specs.Layout.{LaidOut, child}
 use Rattle.paper.specs.Layout as layout
 use Rattle.paper.specs.Rules.{Skipped}
@@ -15,23 +12,22 @@ use Rattle.paper.specs.Answers as paper
 use Rattle.paper.specs.declared.Verdict.the-variants.{Accepted}
 use Rattle.value.specs.Reading.{Tells}
 use Rattle.value.proofs.Tests.{tells-true, tells-false}
-use Rattle.items.specs.Items.{IsSequence, TableIs}
+use Rattle.items.specs.Items.{IsSequence}
 use Rattle.items.specs.Items as items
 use Rattle.items.specs.declared.FoundSequence.{FoundSequence}
 use Rattle.items.specs.declared.FoundFeature.{FoundFeature}
-use Rattle.items.specs.declared.FoundQualifier.{FoundQualifier}
-use Rattle.items.specs.declared.FoundTable.{FoundTable}
+use Rattle.seeking.specs.Items.{Here, PlaceIs, SeeksIn}
+use Rattle.seeking.specs.Within.{FeatureFound, QualifierFound}
+use Rattle.seeking.specs.declared.Place.{Place}
+use Rattle.seeking.specs.declared.Place.the-variants.{Missing, At}
+use Rattle.seeking.specs.declared.FeatureAt.{FeatureAt}
+use Rattle.seeking.specs.declared.FeatureAt.the-variants as feature
+use Rattle.seeking.specs.declared.QualifierAt.{QualifierAt}
+use Rattle.seeking.specs.declared.QualifierAt.the-variants as qualifier
 use Rattle.header.specs.Headers.{JudgesHeader}
 use Rattle.header.specs.declared.Headed.{Headed}
 use Rattle.texts.specs.Texts.{TellsSkipped}
-use Rattle.finding.specs.Items.{Here, PlaceIs, SeeksIn}
-use Rattle.finding.specs.Finds.{FirstIs, SequenceIs, FeatureFound, FeatureIs, FeatureAsked, QualifierFound, QualifierAsked}
-use Rattle.finding.specs.declared.Place.{Place}
-use Rattle.finding.specs.declared.Place.the-variants.{Missing, At}
-use Rattle.finding.specs.declared.FeatureAt.{FeatureAt}
-use Rattle.finding.specs.declared.FeatureAt.the-variants as feature
-use Rattle.finding.specs.declared.QualifierAt.{QualifierAt}
-use Rattle.finding.specs.declared.QualifierAt.the-variants as qualifier
+use Rattle.finding.specs.Finds.{FirstIs, SequenceIs, FeatureIs, FeatureAsked, QualifierAsked}
 
 laid-out : {w : List ℕ} {l : Listing ℕ} → Checked w (give l) → LaidOut l w
 laid-out (paper.accepted short laid clean) = laid
@@ -40,10 +36,6 @@ pub first-found : {w : List ℕ} {t s f j u : ℕ} {h : Headed} → CheckSays w 
 first-found c j =
     let y = j .says (c .0) (laid-out (c .1)) in
     record { listing = c .0; accepted = c .1; end = y .end; sequences = y .sequences; closes = y .closes }
-
--- what is promised of a place, of the variant that a match told
-pub placed : {A : Type 0} {F : A → Form} {s : List ℕ} {first k : ℕ} {r p : Place} → r ≡ p → SeeksIn F s first k r → SeeksIn F s first k p
-placed {F = F} {s} {first} {k} h x = subst (SeeksIn F s first k) h x
 
 -- ---- a sequence
 
@@ -74,33 +66,6 @@ module _ {w : List ℕ} {first k : ℕ} (f : FirstIs w first) where
 
 -- ---- a feature
 
-module _ {w : List ℕ} {j : ℕ} where
-  sought-in : (t : FoundTable) → not (t .present) ≡ false → {p : Place} → SeeksIn (child layout.feature) w (t .first) j p → (o : Option (Table ℕ)) → TableIs w o t
-      → PlaceIs (child layout.feature) w (featuresIn o) j p
-  sought-in t h n none i = absurd (true≢false (sym (ap not i) ∙ h))
-  sought-in t h n (some x) i = n .says (x .features) (i .1 .stop) (i .1 .features) (i .1 .closes)
-
-  module _ {r : FoundSequence} where
-    pub no-table : not (r .table .present) ≡ true → FeatureFound w r j (feature.Refused 32 0)
-    no-table h = record { says = λ q e x. (refl, refl, none-in (q .table) (x .table)) }
-      where
-        none-in : (o : Option (Table ℕ)) → TableIs w o (r .table) → (f : Feature ℕ) → ¬ Numbered (featuresIn o) j f
-        none-in none i f y = y .2
-        none-in (some x) i f y = true≢false (sym h ∙ ap not (i .0))
-
-    pub no-feature : not (r .table .present) ≡ false → SeeksIn (child layout.feature) w (r .table .first) j Missing → FeatureFound w r j (feature.Refused 32 0)
-    no-feature h n = record { says = λ q e x. (refl, refl, sought-in (r .table) h n (q .table) (x .table)) }
-
-    pub feature-so : {at : ℕ} {f : FoundFeature} → not (r .table .present) ≡ false → SeeksIn (child layout.feature) w (r .table .first) j (At at)
-        → items.FindsFeature w at f → FeatureFound w r j (feature.Found r f)
-    feature-so h n found =
-        record {
-          says =
-              λ q e x.
-              let y = sought-in (r .table) h n (q .table) (x .table) in
-              (refl, record { asked = y .item; numbered = y .numbered; end = y .end; is = found (y .item) (y .end) (y .stands) (y .follows) });
-        }
-
 pub feature-asked : {w : List ℕ} {k j : ℕ} {r : FoundSequence} → SequenceIs w k r → (y : FeatureAt) → FeatureFound w r j y → FeatureAsked w k j y
 feature-asked x (feature.Refused n p) f =
     let z = f .says (x .asked) (x .end) (x .is) in
@@ -115,20 +80,6 @@ pub feature-given : {w : List ℕ} {k j : ℕ} {s : FoundSequence} {f : FoundFea
 feature-given x = paper.feature (x .sequence .finds) (x .feature .numbered)
 
 -- ---- a qualifier
-
-module _ {w : List ℕ} {g : FoundFeature} {i : ℕ} where
-  pub no-qualifier : SeeksIn (child layout.qualifier) w (g .quals) i Missing → QualifierFound w g i (qualifier.Refused 33 0)
-  no-qualifier n = record { says = λ f e x. (refl, refl, n .says (qualifiersOf f) (x .stop) (x .quals) (x .closes)) }
-
-  pub qualifier-so : {at : ℕ} {r : FoundQualifier} → SeeksIn (child layout.qualifier) w (g .quals) i (At at) → items.FindsQualifier w at r
-      → QualifierFound w g i (qualifier.Found r)
-  qualifier-so n found =
-      record {
-        says =
-            λ f e x.
-            let y = n .says (qualifiersOf f) (x .stop) (x .quals) (x .closes) in
-            record { asked = y .item; numbered = y .numbered; end = y .end; is = found (y .item) (y .end) (y .stands) (y .follows) };
-      }
 
 pub qualifier-asked : {w : List ℕ} {k j i : ℕ} {s : FoundSequence} {g : FoundFeature} → FeatureIs w k j s g → (y : QualifierAt) → QualifierFound w g i y
     → QualifierAsked w k j i y

@@ -1,2 +1,1 @@
-pub mod Ahead
 pub mod Found

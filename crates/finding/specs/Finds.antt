@@ -1,27 +1,26 @@
 -- What is promised of the items of an accepted listing: which of the paper's tree is found, and where it stands.
 use Prim.Native.Nat.{ℕ}
-use mathlib.Core.Path.{_≡_}
 use mathlib.Core.List.{List}
 use lib.ListN.{drop}
-use Rattle.paper.specs.Lists.{Numbered}
 use Rattle.paper.specs.Form.{each}
-use Rattle.paper.specs.Tree.{Qualifier, Feature, Sequence, Listing, featuresOf, qualifiersOf}
+use Rattle.paper.specs.Tree.{Qualifier, Sequence, Listing}
 use Rattle.paper.specs.Layout.{child, sequence}
 use Rattle.paper.specs.Answers.{refuse, give, Checked, FindsSequence, FindsFeature, FindsQualifier}
 use Rattle.scan.specs.Follow.{Starts, closing}
 use Rattle.walk.specs.Stands.{Stands}
-use Rattle.items.specs.Items.{IsSequence, IsFeature, IsQualifier}
+use Rattle.items.specs.Items.{IsSequence, IsQualifier}
 use Rattle.items.specs.declared.FoundSequence.{FoundSequence}
 use Rattle.items.specs.declared.FoundFeature.{FoundFeature}
 use Rattle.items.specs.declared.FoundQualifier.{FoundQualifier}
+use Rattle.seeking.specs.Within.{FeatureHere}
+use Rattle.seeking.specs.declared.FeatureAt.{FeatureAt}
+use Rattle.seeking.specs.declared.FeatureAt.the-variants as feature
+use Rattle.seeking.specs.declared.QualifierAt.{QualifierAt}
+use Rattle.seeking.specs.declared.QualifierAt.the-variants as qualifier
 use Rattle.finding.specs.declared.First.{First}
 use Rattle.finding.specs.declared.First.the-variants as first
 use Rattle.finding.specs.declared.SequenceAt.{SequenceAt}
 use Rattle.finding.specs.declared.SequenceAt.the-variants as sequence
-use Rattle.finding.specs.declared.FeatureAt.{FeatureAt}
-use Rattle.finding.specs.declared.FeatureAt.the-variants as feature
-use Rattle.finding.specs.declared.QualifierAt.{QualifierAt}
-use Rattle.finding.specs.declared.QualifierAt.the-variants as qualifier
 
 -- ---- the sequences of an accepted listing
 
@@ -50,21 +49,6 @@ SequenceAsked w k (sequence.Found r) = SequenceIs w k r
 
 -- ---- a feature
 
--- the feature number j of q
-pub record FeatureHere (w : List ℕ) (q : Sequence ℕ) (j : ℕ) (f : FoundFeature) : Type 0 where
-  pub asked : Feature ℕ
-  pub numbered : Numbered (featuresOf q) j asked
-  pub end : ℕ
-  pub is : IsFeature w asked end f
-
--- in whichever sequence was found so
-abbrev pub FeatureIn : List ℕ → Sequence ℕ → FoundSequence → ℕ → FeatureAt → Type 0
-FeatureIn w q r j (feature.Refused n p) = (n ≡ 32) × (p ≡ 0) × ((f : Feature ℕ) → ¬ Numbered (featuresOf q) j f)
-FeatureIn w q r j (feature.Found s f) = (s ≡ r) × FeatureHere w q j f
-
-pub record FeatureFound (w : List ℕ) (r : FoundSequence) (j : ℕ) (y : FeatureAt) : Type 0 where
-  pub says : (q : Sequence ℕ) (e : ℕ) → IsSequence w q e r → FeatureIn w q r j y
-
 pub record FeatureIs (w : List ℕ) (k j : ℕ) (s : FoundSequence) (f : FoundFeature) : Type 0 where
   pub sequence : SequenceIs w k s
   pub feature : FeatureHere w (sequence .asked) j f
@@ -74,19 +58,6 @@ FeatureAsked w k j (feature.Refused n p) = FindsFeature w k j (refuse n p)
 FeatureAsked w k j (feature.Found s f) = FeatureIs w k j s f
 
 -- ---- a qualifier
-
-pub record QualifierHere (w : List ℕ) (f : Feature ℕ) (i : ℕ) (r : FoundQualifier) : Type 0 where
-  pub asked : Qualifier ℕ
-  pub numbered : Numbered (qualifiersOf f) i asked
-  pub end : ℕ
-  pub is : IsQualifier w asked end r
-
-abbrev pub QualifierIn : List ℕ → Feature ℕ → ℕ → QualifierAt → Type 0
-QualifierIn w f i (qualifier.Refused n p) = (n ≡ 33) × (p ≡ 0) × ((q : Qualifier ℕ) → ¬ Numbered (qualifiersOf f) i q)
-QualifierIn w f i (qualifier.Found r) = QualifierHere w f i r
-
-pub record QualifierFound (w : List ℕ) (g : FoundFeature) (i : ℕ) (y : QualifierAt) : Type 0 where
-  pub says : (f : Feature ℕ) (e : ℕ) → IsFeature w f e g → QualifierIn w f i y
 
 pub record QualifierIs (w : List ℕ) (k j i : ℕ) (r : FoundQualifier) : Type 0 where
   pub asked : Qualifier ℕ

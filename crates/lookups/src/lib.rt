@@ -1,8 +1,6 @@
 // The calls of document 01 that show a piece of an accepted listing: each is the check, a walk to the item, and its answer.
 // Any bytes, any numbers and any room may be given; nobody need check anything first.
 // Relies on the crates finding and translating, and on the parts of the judge for the kind and L.
-use finding::FeatureAt;
-use finding::QualifierAt;
 use finding::SequenceAt;
 use finding::find_feature;
 use finding::find_qualifier;
@@ -10,6 +8,8 @@ use finding::find_sequence;
 use items::FoundSequence;
 use judging::Known;
 use scan::bytes_of;
+use seeking::FeatureAt;
+use seeking::QualifierAt;
 use spanning::room::Answer;
 use translating::Written;
 use value::Kind;
@@ -270,7 +270,7 @@ pub fn qualifier<'l, 'k>(
 fn known_of(listing: &[u8], sequence: FoundSequence) -> Known
     ensures { λ r. ⌜ KnowsSequence (now (listing .entry)) sequence r ⌝ }
 {
-    let symbols = value::symbol_table();
+    let symbols = residues::symbol_table();
     texts::known_of(listing, sequence.moltype, sequence.residues, &symbols)
 }
 

@@ -4,7 +4,7 @@ use items::FoundSequence;
 use paper::Fault;
 ghost use mathlib.Core.Path.{_≡_};
 ghost use Rattle.codon.specs.Tables.{SetTable, TurnTable, LetterTable};
-ghost use Rattle.value.specs.Reading.{SymbolTable};
+ghost use Rattle.residues.specs.Residues.{SymbolTable};
 ghost use Rattle.sequences.specs.Sequences.{nothingYet, Plus, oneIf, Adds, JudgesSequence, JudgesSequences};
 
 // One sequence, judged: its first fault, its counts, and where it ends.

@@ -11,10 +11,11 @@ use Rattle.paper.specs.Rules.{Kind, dna, rna, aa, IsKind, isSymbol}
 use Rattle.paper.specs.Answers.{limit}
 use Rattle.paper.proofs.Texts.{spell-some}
 use Rattle.scan.specs.Parts.{Shows}
-use Rattle.value.specs.Reading.{Tells, KindIs, Moltypes, Symbols, symbolClass}
+use Rattle.value.specs.Reading.{Tells, KindIs, Moltypes}
 use Rattle.value.specs.declared.Kind as code
 use Rattle.value.specs.declared.Kind.the-variants as kind
-use Rattle.value.proofs.Residues.{all-symbols, not-all-symbols}
+use Rattle.residues.specs.Residues.{Symbols, symbolClass}
+use Rattle.residues.proofs.Residues.{all-symbols, not-all-symbols}
 use Rattle.walk.specs.Stands.{IsPart}
 use Rattle.walk.specs.declared.Part.{Part}
 use Rattle.judging.specs.Known.{CodeOf, Knows}

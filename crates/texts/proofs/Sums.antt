@@ -16,12 +16,12 @@ use Rattle.paper.specs.declared.Fault.the-variants.{Clean, At}
 use Rattle.paper.proofs.Lists.{count-once}
 use Rattle.paper.proofs.Firsts.{_or_}
 use Rattle.scan.specs.Parts.{Shows}
-use Rattle.value.specs.Reading.{Tells, OfRead, KindIs, Names, HasDefined}
+use Rattle.value.specs.Reading.{Tells, OfRead, KindIs, Names}
 use Rattle.value.specs.declared.Kind as code
 use Rattle.value.specs.declared.Kind.the-variants as kind
-use Rattle.value.proofs.Read.{tells-word}
+use Rattle.value.proofs.Read.{tells-word, raw-symbols}
 use Rattle.value.proofs.Tests.{told}
-use Rattle.value.proofs.Residues.{raw-symbols}
+use Rattle.residues.specs.Residues.{HasDefined}
 use Rattle.walk.specs.Stands.{IsPart}
 use Rattle.walk.specs.declared.Part.{Part}
 use Rattle.judging.specs.Sets.{Faults, Firsts, Bad, InTexts, rule-16, rule-17, rule-18, rule-19, rule-20, unlessOf}

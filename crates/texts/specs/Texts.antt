@@ -13,9 +13,10 @@ use Rattle.paper.specs.Rules.{Skipped, IsKind, isSymbol, undefined, fewest}
 use Rattle.paper.specs.Rules as Rules
 use Rattle.paper.specs.Answers.{limit}
 use Rattle.paper.specs.declared.Fault.{Fault}
-use Rattle.value.specs.Reading.{Tells, KindIs, symbolClass}
+use Rattle.value.specs.Reading.{Tells, KindIs}
 use Rattle.value.specs.declared.Kind.{Kind}
 use Rattle.value.specs.declared.Kind.the-variants.{Dna, Rna, Aa, Other}
+use Rattle.residues.specs.Residues.{symbolClass}
 use Rattle.walk.specs.Stands.{IsPart, isThere}
 use Rattle.walk.specs.declared.Part.{Part}
 use Rattle.judging.specs.Sets.{Firsts, Bad, InTexts, Empty}

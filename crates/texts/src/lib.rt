@@ -1,11 +1,11 @@
 // The texts of a sequence: its number, length, kind, division and residues. Rules 15 to 20 and 29, and what is known of a sequence for the
-// judgement of its features. Relies on the walk, the values and what the judge's parts share.
+// judgement of its features. Relies on the walk, the values, the residues and what the judge's parts share.
 use judging::Known;
 use paper::Fault;
 use value::Kind;
 use walk::Part;
 ghost use mathlib.Core.Path.{_≡_};
-ghost use Rattle.value.specs.Reading.{SymbolTable};
+ghost use Rattle.residues.specs.Residues.{SymbolTable};
 ghost use Rattle.texts.specs.Texts.{Sized, LengthOf, AllSymbols, Cleans, KnowsOf, JudgesNumber, TellsSkipped, TellsEmpty, TellsBlank, JudgesSymbols, JudgesResidues, JudgesTexts, namesOne};
 
 // A number of residues, as far as a listing can hold them.
@@ -23,7 +23,7 @@ fn all_symbols(w: &[u8], class: u8, t: &[u8; 256]) -> bool
     requires { ⌜ SymbolTable (now t) ⌝ }
     ensures { λ r. ⌜ AllSymbols (now (w .entry)) class r ⌝ }
 {
-    if value::symbols(w, class, t) < w.len() {
+    if residues::symbols(w, class, t) < w.len() {
         return false;
     }
     true
@@ -49,7 +49,7 @@ fn length_of(w: &[u8], clean: bool) -> usize
     if clean {
         return w.len();
     }
-    value::characters(w)
+    residues::characters(w)
 }
 
 // What is known of a sequence, from its moltype and its residues.
@@ -116,7 +116,7 @@ fn judge_symbols(w: &[u8], clean: bool, undefined: u8, fewest: usize, place: usi
     ensures { λ r. ⌜ JudgesSymbols (now (w .entry)) clean undefined fewest place r ⌝ }
 {
     if clean {
-        if value::has_defined(w, undefined, fewest) {
+        if residues::has_defined(w, undefined, fewest) {
             return Fault::Clean;
         }
         return Fault::At { rule: 19, place };

@@ -2,5 +2,3 @@ pub mod Read
 pub mod Tests
 pub mod Numbers
 pub mod Dates
-pub mod Counting
-pub mod Residues

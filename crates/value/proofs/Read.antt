@@ -8,7 +8,7 @@ use lib.Dec.{eqb}
 use borrow.Author.Tests.{ne-eqb}
 use Rattle.paper.specs.Bytes.{bytes, spell, raw, all}
 use Rattle.paper.specs.Values.{Two}
-use Rattle.paper.specs.Rules.{dna, rna, aa, kindName}
+use Rattle.paper.specs.Rules.{dna, rna, aa, kindName, isSymbol}
 use Rattle.paper.specs.Rules as Rules
 use Rattle.paper.proofs.Texts.{raw-once, raw-append}
 use Rattle.value.specs.Reading.{Tells, OfRead, Names}
@@ -67,3 +67,14 @@ pub unnamed : {w : List ℕ} → ¬ (w ≡ bytes "DNA") → ¬ (w ≡ bytes "RNA
 unnamed d r a v e dna = names dna false d .says v e
 unnamed d r a v e rna = names rna false r .says v e
 unnamed d r a v e aa = names aa false a .says v e
+
+-- ---- the symbols
+
+symbol-plain : (k : Rules.Kind) → Plain (isSymbol k)
+symbol-plain dna = refl
+symbol-plain rna = refl
+symbol-plain aa = refl
+
+-- symbols are written as they read
+pub raw-symbols : (k : Rules.Kind) (v : List ℕ) → all (isSymbol k) v → raw v ≡ v
+raw-symbols k = raw-plain (isSymbol k) (symbol-plain k)

@@ -3,7 +3,8 @@ use mathlib.Core.Path.{subst}
 use denote.Ref.{now}
 use Rattle.paper.specs.Answers as paper
 use Rattle.finding.specs.Finds.{FindsFirst}
-use Rattle.finding.proofs.Found.{placed, no-sequence, skipped-so, sequence-so}
+use Rattle.seeking.proofs.Within.{placed}
+use Rattle.finding.proofs.Found.{no-sequence, skipped-so, sequence-so}
 use borrow.Author.Needs.{needs}
 use Rattle.finding.proofs.find_sequence.Statement.{statement}
 use Rattle.finding.proofs.find_sequence.Tie as tie
