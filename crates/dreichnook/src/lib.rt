@@ -1,11 +1,11 @@
 // The library for the box: document 01's calls as C functions. include/dreichnook.h describes each.
 // Relies on the check and the lookups, and hands their answers over as numbers: 0 or the number of the refusal is returned, every number
 // pointed to is set in every case, and a part is given as start and size within the lent listing.
-use lookups::FeatureAnswer;
-use lookups::QualifierAnswer;
-use lookups::SequenceAnswer;
-use lookups::SpansAnswer;
-use lookups::TranslationAnswer;
+use answers::FeatureAnswer;
+use answers::QualifierAnswer;
+use answers::SequenceAnswer;
+use answers::SpansAnswer;
+use answers::TranslationAnswer;
 use paper::Verdict;
 ghost use mathlib.Core.Path.{_≡_};
 ghost use Rattle.paper.specs.Answers.{SequenceSays, FeatureSays, TranslationSays, TranslationsSays, SpansSays};
