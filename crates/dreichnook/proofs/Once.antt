@@ -7,7 +7,8 @@ use Rattle.paper.specs.declared.Verdict.{Verdict}
 use Rattle.paper.specs.declared.Verdict.the-variants.{Accepted, Refused}
 use Rattle.checking.proofs.Demands.{answers-once}
 use Rattle.lookups.proofs.Once.{qualifier-once}
-use Rattle.dreichnook.specs.Numbers.{flagOf, CheckNumbers, QualifierNumbers}
+use Rattle.answers.specs.Handed.{flagOf}
+use Rattle.dreichnook.specs.Numbers.{CheckNumbers, QualifierNumbers}
 
 -- the numbers of a verdict, in the order in which they are handed over
 abbrev numbers : Verdict → ℕ × ℕ × ℕ × ℕ × ℕ × ℕ × ℕ

@@ -1,10 +1,11 @@
 -- The answers that the paper gives as an enum or a Boolean, in numbers.
 use Prim.Native.Nat.{ℕ}
 use mathlib.Core.Path.{_≡_}
-use mathlib.Core.Bool.{Bool, true, false}
+use mathlib.Core.Bool.{Bool}
 use mathlib.Core.List.{List}
 use Rattle.paper.specs.Answers.{Part, CheckSays, QualifierSays}
 use Rattle.paper.specs.declared.Verdict.the-variants.{Accepted, Refused}
+use Rattle.answers.specs.Handed.{flagOf}
 
 -- "a definition gives this paper's number and values for each of its cases"
 pub data CheckNumbers (w : List ℕ) : (number place total skipped features judged unjudged : ℕ) → Type 0 where
@@ -13,10 +14,6 @@ pub data CheckNumbers (w : List ℕ) : (number place total skipped features judg
 
 abbrev pub part : ℕ → ℕ → Part
 part start size = record { start = start; size = size }
-
-abbrev pub flagOf : Bool → ℕ
-flagOf true = 1
-flagOf false = 0
 
 pub record QualifierNumbers (w : List ℕ) (k j i number place : ℕ) (name : Part) (flag : ℕ) (value : Part) : Type 0 where
   pub present : Bool

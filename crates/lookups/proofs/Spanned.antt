@@ -22,8 +22,9 @@ use Rattle.spanning.specs.declared.room.Answer.the-variants as answer
 use Rattle.location.proofs.Verdicts.{read-as}
 use Rattle.translating.specs.Plans.{Keeps}
 use Rattle.finding.specs.Finds.{FeatureIs}
-use Rattle.lookups.specs.Shows.{KnowsSequence, noSpans}
-use Rattle.lookups.specs.declared.SpansAnswer.{SpansAnswer}
+use Rattle.answers.specs.Stretches.{noSpans}
+use Rattle.answers.specs.declared.SpansAnswer.{SpansAnswer}
+use Rattle.lookups.specs.Shows.{KnowsSequence}
 use Rattle.lookups.proofs.Accepted.{accepts, keeps-feature}
 
 -- a refusal leaves the lent numbers as they are

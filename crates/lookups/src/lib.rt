@@ -1,6 +1,18 @@
 // The calls of document 01 that show a piece of an accepted listing: each is the check, a walk to the item, and its answer.
 // Any bytes, any numbers and any room may be given; nobody need check anything first.
-// Relies on the crates finding and translating, and on the parts of the judge for the kind and L.
+// Relies on the crates answers, finding, translating and lines, and on the parts of the judge for the kind and L.
+use answers::FeatureAnswer;
+use answers::QualifierAnswer;
+use answers::SequenceAnswer;
+use answers::SpansAnswer;
+use answers::TranslationAnswer;
+use answers::is_present;
+use answers::kind_number;
+use answers::no_spans;
+use answers::no_stretch;
+use answers::shown;
+use answers::stretch_of;
+use answers::value_stretch;
 use finding::SequenceAt;
 use finding::find_feature;
 use finding::find_qualifier;
@@ -12,59 +24,11 @@ use seeking::FeatureAt;
 use seeking::QualifierAt;
 use spanning::room::Answer;
 use translating::Written;
-use value::Kind;
-use walk::Maybe;
-use walk::Part;
-ghost use mathlib.Core.Path.{_≡_};
 ghost use Rattle.paper.specs.Answers.{SequenceSays, FeatureSays, QualifierSays, SpansSays, TranslationSays, TranslationsSays};
-ghost use Rattle.lookups.specs.Shows.{noStretch, partIs, Lies, StretchOf, IsPresent, ValueOf, kindIs, KnowsSequence, noSpans, PointsAt, ShowsSequence, ShowsFeature, ShowsQualifier};
-
-// A stretch of the listing.
-pub struct Stretch {
-    pub start: usize,
-    pub size: usize,
-}
-
-fn no_stretch() -> Stretch
-    ensures { λ r. ⌜ r ≡ noStretch ⌝ }
-{
-    Stretch { start: 0, size: 0 }
-}
-
-// The stretch of a part.
-fn stretch_of(part: Part) -> Stretch
-    ensures { λ r. ⌜ StretchOf part r ⌝ }
-{
-    if part.to < part.from {
-        return no_stretch();
-    }
-    Stretch {
-        start: part.from,
-        size: part.to - part.from,
-    }
-}
+ghost use Rattle.answers.specs.Stretches.{partIs, Lies};
+ghost use Rattle.lookups.specs.Shows.{KnowsSequence, ShowsSequence, ShowsFeature, ShowsQualifier};
 
 // ---- a sequence
-
-// 0 none, 1 DNA, 2 RNA, 3 AA.
-fn kind_number(kind: Kind) -> u8
-    ensures { λ r. ⌜ r ≡ kindIs kind ⌝ }
-{
-    match kind {
-        Kind::Dna => 1,
-        Kind::Rna => 2,
-        Kind::Aa => 3,
-        Kind::Other => 0,
-    }
-}
-
-// Its kind, and where its residues stand; or the number of a refusal and its place.
-pub struct SequenceAnswer {
-    pub number: usize,
-    pub place: usize,
-    pub kind: u8,
-    pub residues: Stretch,
-}
 
 pub fn locate_sequence(listing: &[u8], k: usize) -> SequenceAnswer
     ensures { λ r. ⌜ SequenceSays (now (listing .entry)) k (r .number) (r .place) (r .kind) (partIs (r .residues)) ⌝ }
@@ -90,21 +54,6 @@ pub fn locate_sequence(listing: &[u8], k: usize) -> SequenceAnswer
     }
 }
 
-// A stretch of the lent slice itself.
-fn shown<'l>(listing: &'l [u8], x: Stretch) -> &'l [u8]
-    ensures { λ r. ⌜ PointsAt (now (listing .entry)) (listing .entry .ptr) x (now r) (r .ptr) ⌝ }
-{
-    let from = x.start;
-    let size = x.size;
-    if listing.len() < from {
-        return &listing[0..0];
-    }
-    if listing.len() - from < size {
-        return &listing[0..0];
-    }
-    &listing[from..from + size]
-}
-
 // "its kind, and its residues as the part of the lent listing"
 pub fn sequence<'l>(
     listing: &'l [u8],
@@ -128,14 +77,6 @@ pub fn sequence<'l>(
 }
 
 // ---- a feature
-
-// Where its key and its location stand; or the number of a refusal and its place.
-pub struct FeatureAnswer {
-    pub number: usize,
-    pub place: usize,
-    pub key: Stretch,
-    pub location: Stretch,
-}
 
 pub fn locate_feature(listing: &[u8], k: usize, j: usize) -> FeatureAnswer
     ensures { λ r. ⌜ FeatureSays (now (listing .entry)) k j (r .number) (r .place) (partIs (r .key)) (partIs (r .location)) ⌝ }
@@ -184,33 +125,6 @@ pub fn feature<'l, 'k>(
 }
 
 // ---- a qualifier
-
-// Where its name and its value stand, and whether it has a value; or the number of a refusal and its place.
-pub struct QualifierAnswer {
-    pub number: usize,
-    pub place: usize,
-    pub name: Stretch,
-    pub present: bool,
-    pub value: Stretch,
-}
-
-fn is_present(value: Maybe) -> bool
-    ensures { λ r. ⌜ IsPresent value r ⌝ }
-{
-    match value {
-        Maybe::Absent => false,
-        Maybe::Present(_) => true,
-    }
-}
-
-fn value_stretch(value: Maybe) -> Stretch
-    ensures { λ r. ⌜ ValueOf value r ⌝ }
-{
-    match value {
-        Maybe::Absent => no_stretch(),
-        Maybe::Present(part) => stretch_of(part),
-    }
-}
 
 pub fn locate_qualifier(listing: &[u8], k: usize, j: usize, i: usize) -> QualifierAnswer
     ensures { λ r. ⌜ QualifierSays (now (listing .entry)) k j i (r .number) (r .place) (partIs (r .name)) (r .present) (partIs (r .value)) ⌝ }
@@ -274,25 +188,6 @@ fn known_of(listing: &[u8], sequence: FoundSequence) -> Known
     texts::known_of(listing, sequence.moltype, sequence.residues, &symbols)
 }
 
-// The operator (0 none, 1 join, 2 order) and the number of spans; or the number of a refusal and its place.
-pub struct SpansAnswer {
-    pub number: usize,
-    pub place: usize,
-    pub operator: u32,
-    pub count: usize,
-}
-
-fn no_spans(number: usize, place: usize) -> SpansAnswer
-    ensures { λ r. ⌜ r ≡ noSpans number place ⌝ }
-{
-    SpansAnswer {
-        number,
-        place,
-        operator: 0,
-        count: 0,
-    }
-}
-
 // The spans of a feature, three numbers of each at the front of out; or nothing is written.
 pub fn spans(listing: &[u8], k: usize, j: usize, out: &mut [u32]) -> SpansAnswer
     ensures { λ r. ⌜ SpansSays (now (listing .entry)) k j (now (out .entry)) (r .number) (r .place) (r .operator) (r .count) (now (out .exit)) ⌝ }
@@ -319,13 +214,6 @@ pub fn spans(listing: &[u8], k: usize, j: usize, out: &mut [u32]) -> SpansAnswer
 }
 
 // ---- translations
-
-// The length of what is written; or the number of a refusal and its place.
-pub struct TranslationAnswer {
-    pub number: usize,
-    pub place: usize,
-    pub size: usize,
-}
 
 // One translation at the front of out; or nothing is written.
 pub fn translation(listing: &[u8], k: usize, j: usize, out: &mut [u8]) -> TranslationAnswer

@@ -1,6 +1,5 @@
 -- `dreichnook::dreichnook_feature` meets its contract.
-use Rattle.dreichnook.proofs.Small.{feature-small}
-use native.Mathlib.Omega.{arith}
+use Rattle.dreichnook.proofs.Handed.{feature-handed}
 use borrow.Author.Needs.{needs}
 use Rattle.dreichnook.proofs.dreichnook_feature.Statement.{statement}
 use Rattle.dreichnook.proofs.dreichnook_feature.Tie as tie
@@ -8,11 +7,11 @@ use Rattle.dreichnook.proofs.dreichnook_feature.Tie as tie
 locate-feature-requires : tie.Need-locate-feature-requires
 locate-feature-requires c κs = search needs
 
-cast-result : tie.Need-cast-result
-cast-result c = omega (arith, feature-small (c .before .before .locate-feature .ensures .0))
+hand-feature-requires : tie.Need-hand-feature-requires
+hand-feature-requires c κs = search needs
 
 returns : tie.Need-returns
-returns c = c .before .before .locate-feature .ensures .0
+returns c = feature-handed (c .before .before .before .before .before .before .locate-feature .ensures .0) (c .hand-feature .ensures)
 
 pub dreichnook-feature-spec : {M : Type 1} → statement M
-dreichnook-feature-spec = tie.close (tie.spec locate-feature-requires cast-result returns)
+dreichnook-feature-spec = tie.close (tie.spec locate-feature-requires hand-feature-requires returns)

@@ -1,6 +1,5 @@
 -- `dreichnook::dreichnook_qualifier` meets its contract.
-use Rattle.dreichnook.proofs.Small.{qualifier-small}
-use native.Mathlib.Omega.{arith}
+use Rattle.dreichnook.proofs.Handed.{qualifier-handed}
 use borrow.Author.Needs.{needs}
 use Rattle.dreichnook.proofs.dreichnook_qualifier.Statement.{statement}
 use Rattle.dreichnook.proofs.dreichnook_qualifier.Tie as tie
@@ -8,15 +7,11 @@ use Rattle.dreichnook.proofs.dreichnook_qualifier.Tie as tie
 locate-qualifier-requires : tie.Need-locate-qualifier-requires
 locate-qualifier-requires c κs = search needs
 
-flag-requires : tie.Need-flag-requires
-flag-requires c κs = search needs
-
-cast-result : tie.Need-cast-result
-cast-result c = omega (arith, qualifier-small (c .before .before .before .locate-qualifier .ensures .0))
+hand-qualifier-requires : tie.Need-hand-qualifier-requires
+hand-qualifier-requires c κs = search needs
 
 returns : tie.Need-returns
-returns c = record { present = c .before .before .before .locate-qualifier .result .present; flagged = c .flag .ensures; says = c .before .before .before .locate-qualifier .ensures .0 }
+returns c = qualifier-handed (c .before .before .before .before .before .before .before .locate-qualifier .ensures .0) (c .hand-qualifier .ensures)
 
 pub dreichnook-qualifier-spec : {M : Type 1} → statement M
-dreichnook-qualifier-spec =
-    tie.close (tie.spec locate-qualifier-requires flag-requires cast-result returns)
+dreichnook-qualifier-spec = tie.close (tie.spec locate-qualifier-requires hand-qualifier-requires returns)

@@ -1,6 +1,5 @@
 -- `dreichnook::dreichnook_sequence` meets its contract.
-use Rattle.dreichnook.proofs.Small.{sequence-small}
-use native.Mathlib.Omega.{arith}
+use Rattle.dreichnook.proofs.Handed.{sequence-handed}
 use borrow.Author.Needs.{needs}
 use Rattle.dreichnook.proofs.dreichnook_sequence.Statement.{statement}
 use Rattle.dreichnook.proofs.dreichnook_sequence.Tie as tie
@@ -8,11 +7,11 @@ use Rattle.dreichnook.proofs.dreichnook_sequence.Tie as tie
 locate-sequence-requires : tie.Need-locate-sequence-requires
 locate-sequence-requires c κs = search needs
 
-cast-result : tie.Need-cast-result
-cast-result c = omega (arith, sequence-small (c .before .locate-sequence .ensures .0))
+hand-sequence-requires : tie.Need-hand-sequence-requires
+hand-sequence-requires c κs = search needs
 
 returns : tie.Need-returns
-returns c = c .before .locate-sequence .ensures .0
+returns c = sequence-handed (c .before .before .before .before .before .locate-sequence .ensures .0) (c .hand-sequence .ensures)
 
 pub dreichnook-sequence-spec : {M : Type 1} → statement M
-dreichnook-sequence-spec = tie.close (tie.spec locate-sequence-requires cast-result returns)
+dreichnook-sequence-spec = tie.close (tie.spec locate-sequence-requires hand-sequence-requires returns)

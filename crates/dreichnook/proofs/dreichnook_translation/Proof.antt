@@ -1,6 +1,5 @@
 -- `dreichnook::dreichnook_translation` meets its contract.
-use Rattle.dreichnook.proofs.Small.{translation-small}
-use native.Mathlib.Omega.{arith}
+use Rattle.dreichnook.proofs.Handed.{translation-handed}
 use borrow.Author.Needs.{needs}
 use Rattle.dreichnook.proofs.dreichnook_translation.Statement.{statement}
 use Rattle.dreichnook.proofs.dreichnook_translation.Tie as tie
@@ -8,15 +7,14 @@ use Rattle.dreichnook.proofs.dreichnook_translation.Tie as tie
 translation-requires : tie.Need-translation-requires
 translation-requires c κs = search needs
 
-cast-result : tie.Need-cast-result
-cast-result c = omega (arith, translation-small (c .before .before .translation .ensures))
+hand-translation-requires : tie.Need-hand-translation-requires
+hand-translation-requires c κs = search needs
 
 same-length : tie.Need-same-length
 same-length c = search needs
 
 returns : tie.Need-returns
-returns c = c .before .before .translation .ensures
+returns c = translation-handed (c .before .before .before .before .before .translation .ensures) (c .hand-translation .ensures)
 
 pub dreichnook-translation-spec : {M : Type 1} → statement M
-dreichnook-translation-spec =
-    tie.close (tie.spec translation-requires cast-result same-length returns)
+dreichnook-translation-spec = tie.close (tie.spec translation-requires hand-translation-requires same-length returns)

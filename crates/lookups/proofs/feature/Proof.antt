@@ -1,5 +1,5 @@
 -- `lookups::feature` meets its contract.
-use Rattle.lookups.proofs.Parts.{shows-feature}
+use Rattle.lookups.proofs.Shown.{shows-feature}
 use borrow.Author.Needs.{needs}
 use Rattle.lookups.proofs.feature.Statement.{statement}
 use Rattle.lookups.proofs.feature.Tie as tie

@@ -1,5 +1,5 @@
 -- `lookups::qualifier` meets its contract.
-use Rattle.lookups.proofs.Parts.{shows-qualifier}
+use Rattle.lookups.proofs.Shown.{shows-qualifier}
 use borrow.Author.Needs.{needs}
 use Rattle.lookups.proofs.qualifier.Statement.{statement}
 use Rattle.lookups.proofs.qualifier.Tie as tie

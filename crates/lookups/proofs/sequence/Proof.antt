@@ -1,5 +1,5 @@
 -- `lookups::sequence` meets its contract.
-use Rattle.lookups.proofs.Parts.{shows-sequence}
+use Rattle.lookups.proofs.Shown.{shows-sequence}
 use borrow.Author.Needs.{needs}
 use Rattle.lookups.proofs.sequence.Statement.{statement}
 use Rattle.lookups.proofs.sequence.Tie as tie

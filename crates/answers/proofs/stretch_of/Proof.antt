@@ -1,11 +1,11 @@
--- `lookups::stretch_of` meets its contract.
-use Rattle.lookups.proofs.Parts.{stretch-none, stretch-so}
-use Rattle.lookups.specs.Shows.{StretchOf}
+-- `answers::stretch_of` meets its contract.
+use Rattle.answers.proofs.Parts.{stretch-none, stretch-so}
+use Rattle.answers.specs.Stretches.{StretchOf}
 use native.Mathlib.Omega.{arith}
 use mathlib.Core.Path.{sym, subst}
 use borrow.Author.Needs.{needs}
-use Rattle.lookups.proofs.stretch_of.Statement.{statement}
-use Rattle.lookups.proofs.stretch_of.Tie as tie
+use Rattle.answers.proofs.stretch_of.Statement.{statement}
+use Rattle.answers.proofs.stretch_of.Tie as tie
 
 no-stretch-requires : tie.Need-no-stretch-requires
 no-stretch-requires c κs = search needs

@@ -8,12 +8,12 @@ use mathlib.Core.Option.{Option, none, some}
 use lib.ListN.{length, take, drop, length-append, length-drop}
 use Rattle.paper.specs.Bytes.{raw}
 use Rattle.paper.specs.Tree.{Text}
-use Rattle.paper.specs.Answers.{isPresent, valuePart, SequenceSays, FeatureSays, QualifierSays}
+use Rattle.paper.specs.Answers.{isPresent, valuePart}
 use Rattle.walk.specs.Stands.{MaybeIs}
 use Rattle.walk.specs.declared.Part.{Part}
 use Rattle.walk.specs.declared.Maybe.the-variants.{Absent, Present}
-use Rattle.lookups.specs.Shows.{noStretch, partIs, Lies, StretchOf, IsPresent, ValueOf, PointsAt, ShowsSequence, ShowsFeature, ShowsQualifier}
-use Rattle.lookups.specs.declared.Stretch.{Stretch}
+use Rattle.answers.specs.Stretches.{noStretch, partIs, Lies, StretchOf, IsPresent, ValueOf, PointsAt}
+use Rattle.answers.specs.declared.Stretch.{Stretch}
 
 pub stretch-none : {p : Part} → p .to < p .from → StretchOf p noStretch
 stretch-none h = record { says = λ s x i. absurd (omega (arith, i .first, i .behind, h)) }
@@ -79,19 +79,3 @@ points-so {w} x =
 -- where it lies outside nothing is said
 pub points-none : {w r : List ℕ} {at p : ℕ × ℕ} (x : Stretch) → length w < x .start + x .size → PointsAt w at x r p
 points-none x h = record { says = λ l. absurd (omega (arith, h, l)) }
-
-module _ {w : List ℕ} {at : ℕ × ℕ} where
-  pub shows-sequence : {k n p d : ℕ} {x : Stretch} {r : List ℕ} {a : ℕ × ℕ} → SequenceSays w k n p d (partIs x) × Lies w x → PointsAt w at x r a
-      → ShowsSequence w at k n p d r a
-  shows-sequence {x = x} h y = record { residues = partIs x; says = h .0; points = y .says (h .1) }
-
-  pub shows-feature : {k j n p : ℕ} {x v : Stretch} {r s : List ℕ} {a b : ℕ × ℕ} → FeatureSays w k j n p (partIs x) (partIs v) × (Lies w x × Lies w v)
-      → PointsAt w at x r a → PointsAt w at v s b → ShowsFeature w at k j n p r a s b
-  shows-feature {x = x} {v} h y z =
-      record { name = partIs x; location = partIs v; says = h .0; named = y .says (h .1 .0); located = z .says (h .1 .1) }
-
-  pub shows-qualifier : {k j i n p : ℕ} {x v : Stretch} {t : Bool} {r s : List ℕ} {a b : ℕ × ℕ}
-      → QualifierSays w k j i n p (partIs x) t (partIs v) × (Lies w x × Lies w v) → PointsAt w at x r a → PointsAt w at v s b
-      → ShowsQualifier w at k j i n p r a t s b
-  shows-qualifier {x = x} {v} h y z =
-      record { word = partIs x; value = partIs v; says = h .0; named = y .says (h .1 .0); valued = z .says (h .1 .1) }

@@ -1,11 +1,11 @@
--- `lookups::value_stretch` meets its contract.
-use Rattle.lookups.proofs.Parts.{value-none, value-some}
-use Rattle.lookups.specs.Shows.{ValueOf}
+-- `answers::value_stretch` meets its contract.
+use Rattle.answers.proofs.Parts.{value-none, value-some}
+use Rattle.answers.specs.Stretches.{ValueOf}
 use Rattle.walk.specs.declared.Maybe.{Maybe}
 use mathlib.Core.Path.{sym, subst, subst₂}
 use borrow.Author.Needs.{needs}
-use Rattle.lookups.proofs.value_stretch.Statement.{statement}
-use Rattle.lookups.proofs.value_stretch.Tie as tie
+use Rattle.answers.proofs.value_stretch.Statement.{statement}
+use Rattle.answers.proofs.value_stretch.Tie as tie
 
 enum-told : tie.Need-enum-told
 enum-told c = search needs

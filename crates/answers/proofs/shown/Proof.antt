@@ -1,9 +1,9 @@
--- `lookups::shown` meets its contract.
-use Rattle.lookups.proofs.Parts.{points-none, points-so}
+-- `answers::shown` meets its contract.
+use Rattle.answers.proofs.Parts.{points-none, points-so}
 use native.Mathlib.Omega.{arith}
 use borrow.Author.Needs.{needs}
-use Rattle.lookups.proofs.shown.Statement.{statement}
-use Rattle.lookups.proofs.shown.Tie as tie
+use Rattle.answers.proofs.shown.Statement.{statement}
+use Rattle.answers.proofs.shown.Tie as tie
 
 sub-result : tie.Need-sub-result
 sub-result c = search needs

@@ -1,12 +1,12 @@
--- `lookups::is_present` meets its contract.
-use Rattle.lookups.proofs.Parts.{present-none, present-some}
-use Rattle.lookups.specs.Shows.{IsPresent}
+-- `answers::is_present` meets its contract.
+use Rattle.answers.proofs.Parts.{present-none, present-some}
+use Rattle.answers.specs.Stretches.{IsPresent}
 use Rattle.walk.specs.declared.Maybe.{Maybe}
 use mathlib.Core.Bool.{true, false}
 use mathlib.Core.Path.{sym, subst}
 use borrow.Author.Needs.{needs}
-use Rattle.lookups.proofs.is_present.Statement.{statement}
-use Rattle.lookups.proofs.is_present.Tie as tie
+use Rattle.answers.proofs.is_present.Statement.{statement}
+use Rattle.answers.proofs.is_present.Tie as tie
 
 enum-told : tie.Need-enum-told
 enum-told c = search needs

@@ -1,0 +1,14 @@
+-- `answers::hand_sequence` meets its contract.
+use Rattle.answers.specs.Handed as handed
+use borrow.Author.Needs.{needs}
+use Rattle.answers.proofs.hand_sequence.Statement.{statement}
+use Rattle.answers.proofs.hand_sequence.Tie as tie
+
+narrow-requires : tie.Need-narrow-requires
+narrow-requires c κs = search needs
+
+returns : tie.Need-returns
+returns c = handed.sequence (c .narrow .ensures)
+
+pub hand-sequence-spec : {M : Type 1} → statement M
+hand-sequence-spec = tie.close (tie.spec narrow-requires returns)

@@ -1,0 +1,3 @@
+-- What the crate's promises cite beside the paper.
+pub mod Stretches
+pub mod Handed

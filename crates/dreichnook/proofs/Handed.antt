@@ -1,0 +1,63 @@
+-- What is handed over is what the answer says: its numbers are small, so each stays as it is.
+use Prim.Native.Nat.{ℕ, _≤_}
+use native.Mathlib.Omega.{arith}
+use mathlib.Core.Path.{_≡_, sym, subst, subst₂}
+use mathlib.Core.List.{List}
+use Rattle.paper.specs.Answers.{CheckSays, SequenceSays, FeatureSays, QualifierSays, SpansSays, TranslationSays, TranslationsSays}
+use Rattle.paper.specs.declared.Verdict.{Verdict}
+use Rattle.answers.specs.Stretches.{partIs}
+use Rattle.answers.specs.Handed.{Narrow, HandsVerdict, HandsSequence, HandsFeature, HandsQualifier, HandsSpans, HandsTranslation}
+use Rattle.answers.specs.declared.SequenceAnswer.{SequenceAnswer}
+use Rattle.answers.specs.declared.FeatureAnswer.{FeatureAnswer}
+use Rattle.answers.specs.declared.QualifierAnswer.{QualifierAnswer}
+use Rattle.answers.specs.declared.SpansAnswer.{SpansAnswer}
+use Rattle.answers.specs.declared.TranslationAnswer.{TranslationAnswer}
+use Rattle.dreichnook.specs.Numbers.{part, CheckNumbers, QualifierNumbers}
+use Rattle.dreichnook.proofs.Small.{check-small, sequence-small, feature-small, qualifier-small, spans-small, translation-small, translations-small}
+
+stays : {n r : ℕ} → Narrow n r → n ≤ 37 → n ≡ r
+stays h l = sym (h .says (omega (arith, l)))
+
+module _ {w : List ℕ} where
+  pub check-handed : {v : Verdict} {n p t s f j u : ℕ} → CheckSays w v → HandsVerdict v n p t s f j u → CheckNumbers w n p t s f j u
+  check-handed x HandsVerdict.accepted = CheckNumbers.accepted x
+  check-handed x (HandsVerdict.refused {p = p} h) =
+      subst (λ (n : ℕ). CheckNumbers w n p 0 0 0 0 0) (stays h (check-small x)) (CheckNumbers.refused x)
+
+  pub sequence-handed : {k : ℕ} {a : SequenceAnswer} {n p d s z : ℕ} → SequenceSays w k (a .number) (a .place) (a .kind) (partIs (a .residues))
+      → HandsSequence a n p d s z → SequenceSays w k n p d (part s z)
+  sequence-handed {k} {a} x (HandsSequence.sequence h) =
+      subst (λ (n : ℕ). SequenceSays w k n (a .place) (a .kind) (partIs (a .residues))) (stays h (sequence-small x)) x
+
+  module _ {k j : ℕ} where
+    pub feature-handed : {a : FeatureAnswer} {n p s z t y : ℕ} → FeatureSays w k j (a .number) (a .place) (partIs (a .key)) (partIs (a .location))
+        → HandsFeature a n p s z t y → FeatureSays w k j n p (part s z) (part t y)
+    feature-handed {a} x (HandsFeature.feature h) =
+        subst (λ (n : ℕ). FeatureSays w k j n (a .place) (partIs (a .key)) (partIs (a .location))) (stays h (feature-small x)) x
+
+    pub qualifier-handed : {i : ℕ} {a : QualifierAnswer} {n p s z f t y : ℕ}
+        → QualifierSays w k j i (a .number) (a .place) (partIs (a .name)) (a .present) (partIs (a .value)) → HandsQualifier a n p s z f t y
+        → QualifierNumbers w k j i n p (part s z) f (part t y)
+    qualifier-handed {i} {a} x (HandsQualifier.qualifier h e) =
+        record {
+          present = a .present;
+          flagged = e;
+          says =
+              subst (λ (n : ℕ). QualifierSays w k j i n (a .place) (partIs (a .name)) (a .present) (partIs (a .value))) (stays h (qualifier-small x)) x;
+        }
+
+    pub spans-handed : {out after : List ℕ} {a : SpansAnswer} {n p o c : ℕ} → SpansSays w k j out (a .number) (a .place) (a .operator) (a .count) after
+        → HandsSpans a n p o c → SpansSays w k j out n p o c after
+    spans-handed {out} {after} {a} x (HandsSpans.spans h g) =
+        let y = spans-small x in
+        subst₂ (λ (n o : ℕ). SpansSays w k j out n (a .place) o (a .count) after) (stays h (y .0)) (stays g (y .1)) x
+
+    pub translation-handed : {out after : List ℕ} {a : TranslationAnswer} {n p c : ℕ} → TranslationSays w k j out (a .number) (a .place) (a .size) after
+        → HandsTranslation a n p c → TranslationSays w k j out n p c after
+    translation-handed {out} {after} {a} x (HandsTranslation.translation h) =
+        subst (λ (n : ℕ). TranslationSays w k j out n (a .place) (a .size) after) (stays h (translation-small x)) x
+
+  pub translations-handed : {k : ℕ} {out after : List ℕ} {a : TranslationAnswer} {n p c : ℕ} → TranslationsSays w k out (a .number) (a .place) (a .size) after
+      → HandsTranslation a n p c → TranslationsSays w k out n p c after
+  translations-handed {k} {out} {after} {a} x (HandsTranslation.translation h) =
+      subst (λ (n : ℕ). TranslationsSays w k out n (a .place) (a .size) after) (stays h (translations-small x)) x
