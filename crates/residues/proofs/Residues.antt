@@ -58,11 +58,6 @@ amino-among l h dna k = absurd (omega (arith, k))
 amino-among l h rna k = absurd (omega (arith, k))
 amino-among l h aa k = simp (le-leb _ _ l, le-leb _ _ h)
 
-pub no-class : (class b : ℕ) → ¬ (class ≡ 1) → ¬ (class ≡ 2) → OfClass class b
-no-class class b n m dna k = absurd (n k)
-no-class class b n m rna k = absurd (n k)
-no-class class b n m aa k = absurd (m k)
-
 module _ (w : List ℕ) (class : ℕ) where
   pub between-none : (i : ℕ) → Between w class i i
   between-none i j h l = absurd (omega arith)

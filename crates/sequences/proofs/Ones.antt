@@ -1,24 +1,20 @@
 -- One sequence, from its texts and its table.
-use Prim.Native.Nat.{ℕ, _≤_}
+use Prim.Native.Nat.{ℕ}
 use native.Mathlib.Omega.{arith}
 use mathlib.Core.Path.{_≡_, refl, sym, ap, _∙_, subst}
-use mathlib.Core.Bool.{Bool, true, false, true≢false}
-use mathlib.Core.Logic.{_⊎_, inl, inr}
-use mathlib.Core.List.{List, []}
+use mathlib.Core.Bool.{Bool, true, false}
+use mathlib.Core.Logic.{inl, inr}
+use mathlib.Core.List.{List}
 use mathlib.Core.Option.{Option, none, some}
-use lib.ListN.{length, drop}
-use Rattle.paper.specs.Bytes.{isBlank}
+use lib.ListN.{length}
 use Rattle.paper.specs.Lists.{Count, end}
-use Rattle.paper.specs.Layout.{child, sequence}
-use Rattle.paper.specs.Tree.{Sequence, Feature, Table, featuresIn, featuresOf}
+use Rattle.paper.specs.Layout.{sequence}
+use Rattle.paper.specs.Tree.{Sequence, Table, featuresIn}
 use Rattle.paper.specs.Values.{Number}
 use Rattle.paper.specs.Rules.{Skipped, Earlier}
-use Rattle.paper.specs.Answers.{limit}
 use Rattle.paper.specs.declared.Fault.{Fault}
-use Rattle.paper.specs.declared.Fault.the-variants.{Clean, At}
 use Rattle.paper.proofs.Firsts.{_or_}
-use Rattle.scan.specs.Follow.{Not}
-use Rattle.walk.specs.Stands.{Stands, IsPart, isThere}
+use Rattle.walk.specs.Stands.{isThere}
 use Rattle.items.specs.Items.{FindsSequence, TableIs}
 use Rattle.items.specs.declared.FoundSequence.{FoundSequence}
 use Rattle.items.specs.declared.FoundTable.{FoundTable}

@@ -1,24 +1,22 @@
 -- Sequences added up, one by one.
-use Prim.Native.Nat.{ℕ, suc, _+_, _*_, _≤_, _<_}
+use Prim.Native.Nat.{ℕ, suc, _+_, _≤_, _<_}
 use native.Mathlib.Omega.{arith}
 use mathlib.Core.Path.{_≡_, refl, sym, ap, _∙_, subst}
 use mathlib.Core.Bool.{Bool, true, false}
-use mathlib.Core.Logic.{_⊎_, inl, inr}
 use mathlib.Core.List.{List, [], _∷_, _++_, map, append-assoc, append-nil}
-use lib.ListN.{length, drop, length-append}
+use lib.ListN.{length, length-append}
 use Rattle.paper.specs.Bytes.{bytes, isBlank}
-use Rattle.paper.specs.Lists.{Count, end, has, lacks, gather}
+use Rattle.paper.specs.Lists.{Count, end, has, lacks}
 use Rattle.paper.specs.Layout.{child, sequence}
 use Rattle.paper.specs.Tree.{Sequence, Feature, featuresOf}
 use Rattle.paper.specs.Rules.{Skipped}
 use Rattle.paper.specs.Answers.{limit, JudgedCds, UnjudgedCds}
-use Rattle.paper.specs.declared.Fault.{Fault}
 use Rattle.paper.proofs.Lists.{count-map, length-map}
 use Rattle.scan.specs.Follow.{Not, closing}
-use Rattle.walk.specs.Stands.{Stands, There, Over}
+use Rattle.walk.specs.Stands.{There, Over}
 use Rattle.items.proofs.Sequences.{sequence-leads}
 use Rattle.value.specs.Reading.{Tells}
-use Rattle.judging.specs.Sets.{Faults, Firsts, Some, InSequence}
+use Rattle.judging.specs.Sets.{Firsts, Some, InSequence}
 use Rattle.judging.proofs.Faults.{some-none, some-more, nth-front, nth-last}
 use Rattle.judging.proofs.Seen.{Seen, seen-none, seen-next, seen-stuck, seen-all, count-has, count-lacks}
 use Rattle.features.specs.Featured.{JudgedIn, UnjudgedIn}

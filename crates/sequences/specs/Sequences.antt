@@ -2,7 +2,7 @@
 use Prim.Native.Nat.{ℕ, _+_, _*_, _≤_, _<_}
 use mathlib.Core.Path.{_≡_}
 use mathlib.Core.Bool.{Bool, true, false}
-use mathlib.Core.List.{List, [], map}
+use mathlib.Core.List.{List, map}
 use lib.ListN.{length, drop}
 use Rattle.paper.specs.Bytes.{isBlank}
 use Rattle.paper.specs.Lists.{Count, gather}
@@ -11,7 +11,6 @@ use Rattle.paper.specs.Layout.{child, sequence}
 use Rattle.paper.specs.Tree.{Sequence, Feature, featuresOf}
 use Rattle.paper.specs.Rules.{Skipped, Earlier}
 use Rattle.paper.specs.Answers.{limit, JudgedCds, UnjudgedCds}
-use Rattle.paper.specs.declared.Fault.{Fault}
 use Rattle.paper.specs.declared.Fault.the-variants.{Clean}
 use Rattle.scan.specs.Follow.{Not, Starts, closing}
 use Rattle.walk.specs.Stands.{Stands}

@@ -1,5 +1,5 @@
 -- A text that is empty, and a skipped sequence that holds nothing (rule 29).
-use Prim.Native.Nat.{ℕ, _+_}
+use Prim.Native.Nat.{ℕ}
 use native.Mathlib.Omega.{arith}
 use mathlib.Core.Path.{_≡_, refl, sym, ap, _∙_, subst}
 use mathlib.Core.Bool.{Bool, true, false, true≢false}
@@ -7,9 +7,8 @@ use mathlib.Core.List.{List, [], _∷_}
 use mathlib.Core.Option.{Option, none, some}
 use lib.ListN.{length}
 use Rattle.paper.specs.Bytes.{raw}
-use Rattle.paper.specs.Tree.{Text, Sequence}
 use Rattle.value.specs.Reading.{Tells}
-use Rattle.walk.specs.Stands.{IsPart, isThere}
+use Rattle.walk.specs.Stands.{isThere}
 use Rattle.walk.specs.declared.Part.{Part}
 use Rattle.texts.specs.Texts.{TellsBlank, TellsEmpty}
 use Rattle.texts.proofs.Sizes.{raw-longer}

@@ -6,20 +6,18 @@ use mathlib.Core.Bool.{Bool, true, false, true≢false}
 use mathlib.Core.List.{List, [], _∷_, _++_}
 use lib.ListN.{length, drop, length-append, length-drop}
 use Rattle.paper.specs.Bytes.{raw, spell, all}
-use Rattle.paper.specs.Tree.{Text, Sequence}
-use Rattle.paper.specs.Rules.{Kind, dna, rna, aa, IsKind, isSymbol}
-use Rattle.paper.specs.Answers.{limit}
+use Rattle.paper.specs.Tree.{Text}
+use Rattle.paper.specs.Rules.{Kind, isSymbol}
 use Rattle.paper.proofs.Texts.{spell-some}
 use Rattle.scan.specs.Parts.{Shows}
-use Rattle.value.specs.Reading.{Tells, KindIs, Moltypes}
+use Rattle.value.specs.Reading.{Tells, Moltypes}
 use Rattle.value.specs.declared.Kind as code
 use Rattle.value.specs.declared.Kind.the-variants as kind
 use Rattle.residues.specs.Residues.{Symbols, symbolClass}
 use Rattle.residues.proofs.Residues.{all-symbols, not-all-symbols}
 use Rattle.walk.specs.Stands.{IsPart}
 use Rattle.walk.specs.declared.Part.{Part}
-use Rattle.judging.specs.Known.{CodeOf, Knows}
-use Rattle.judging.specs.declared.Known.{Known}
+use Rattle.judging.specs.Known.{CodeOf}
 use Rattle.judging.proofs.Bytes.{part-shows}
 use Rattle.judging.proofs.Moltypes.{code-is}
 use Rattle.texts.specs.Texts.{Sized, LengthOf, AllSymbols, Cleans, KnowsOf}

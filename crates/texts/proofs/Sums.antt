@@ -3,14 +3,13 @@ use Prim.Native.Nat.{ℕ, _≤_, _<_}
 use native.Mathlib.Omega.{arith}
 use mathlib.Core.Path.{_≡_, refl, sym, ap, _∙_, subst}
 use mathlib.Core.Bool.{Bool, true, false}
-use mathlib.Core.Logic.{_⊎_, inl, inr}
-use mathlib.Core.List.{List, []}
-use lib.ListN.{length}
+use mathlib.Core.Logic.{inl, inr}
+use mathlib.Core.List.{List}
 use Rattle.paper.specs.Bytes.{bytes, raw, all}
 use Rattle.paper.specs.Lists.{Count}
-use Rattle.paper.specs.Tree.{Text, Sequence}
+use Rattle.paper.specs.Tree.{Sequence}
 use Rattle.paper.specs.Values.{Number}
-use Rattle.paper.specs.Rules.{L, Kind, dna, rna, aa, IsKind, isSymbol, undefined, fewest, Skipped, Earlier}
+use Rattle.paper.specs.Rules.{L, Kind, dna, rna, aa, IsKind, isSymbol, undefined, fewest, Earlier}
 use Rattle.paper.specs.declared.Fault.{Fault}
 use Rattle.paper.specs.declared.Fault.the-variants.{Clean, At}
 use Rattle.paper.proofs.Lists.{count-once}
@@ -22,10 +21,8 @@ use Rattle.value.specs.declared.Kind.the-variants as kind
 use Rattle.value.proofs.Read.{tells-word, raw-symbols}
 use Rattle.value.proofs.Tests.{told}
 use Rattle.residues.specs.Residues.{HasDefined}
-use Rattle.walk.specs.Stands.{IsPart}
 use Rattle.walk.specs.declared.Part.{Part}
-use Rattle.judging.specs.Sets.{Faults, Firsts, Bad, InTexts, rule-16, rule-17, rule-18, rule-19, rule-20, unlessOf}
-use Rattle.judging.specs.Known.{Knows, CodeOf}
+use Rattle.judging.specs.Sets.{Firsts, Bad, InTexts, rule-16, rule-17, rule-18, rule-19, rule-20, unlessOf}
 use Rattle.judging.specs.declared.Known.{Known}
 use Rattle.judging.proofs.Bytes.{part-shows}
 use Rattle.judging.proofs.Faults.{firsts-or, firsts-as, firsts-none, firsts-unless}

@@ -1,6 +1,4 @@
 -- `sequences::add` meets its contract.
-use mathlib.Core.Path.{subst, ap}
-use Rattle.sequences.specs.Sequences.{Plus}
 use borrow.Author.Needs.{needs}
 use Rattle.sequences.proofs.add.Statement.{statement}
 use Rattle.sequences.proofs.add.Tie as tie
