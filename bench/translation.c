@@ -19,7 +19,7 @@ static const double transeq_target = 40.0;
 
 /* The coding texts: one that a listing of 60 KiB has room for and one of a million residues, beside transeq as a person runs
    it; and one so long that a listing of 16,777,216 bytes has room for it and for a join of all its members, beside
-   transeq's work alone, for which there is no target (docs/DECISIONS.md). */
+   transeq without its start-up. */
 static const struct size {
     size_t members;
     bool as_run;
@@ -197,17 +197,14 @@ struct question {
     struct row row;
 };
 
-static void open_question(struct question *question, const char *what, call *proved, const struct region *region,
-                          bool as_run)
+static void open_question(struct question *question, const char *what, call *proved, const struct region *region)
 {
     question->proved = proved;
     question->region = region;
     snprintf(question->words, sizeof question->words, "%s, %s", what, region->words);
     question->row = row_of(question->words, region->residues.length);
     question->row.targets[TABLE_LOOP] = loop_target;
-    if (as_run) {
-        question->row.targets[TRANSEQ] = transeq_target;
-    }
+    question->row.targets[TRANSEQ] = transeq_target;
 }
 
 /* The loop and the proved call, one after the other, each with room that has no letters yet. */
@@ -303,8 +300,8 @@ static bool measure(const struct size *size, const char *folder, int rounds)
     };
     struct question questions[2 * COUNT(regions)];
     for (size_t i = 0; i < COUNT(regions); i++) {
-        open_question(&questions[i], "translation", write_proved, &regions[i], size->as_run);
-        open_question(&questions[COUNT(regions) + i], "value compared", compare_proved, &regions[i], size->as_run);
+        open_question(&questions[i], "translation", write_proved, &regions[i]);
+        open_question(&questions[COUNT(regions) + i], "value compared", compare_proved, &regions[i]);
     }
     run_all(peers);
     compare_codons(codons, transeq_letters(&peers[START_UP]));
