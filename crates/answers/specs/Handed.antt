@@ -1,5 +1,5 @@
 -- An answer handed over as numbers: one is returned, the others go to the lent places.
-use Prim.Native.Nat.{ℕ, _≤_}
+use Prim.Native.Nat.{ℕ, _≤_, _<_}
 use mathlib.Core.Path.{_≡_}
 use mathlib.Core.Bool.{Bool, true, false}
 use Rattle.paper.specs.declared.Verdict.{Verdict}
@@ -10,9 +10,10 @@ use Rattle.answers.specs.declared.QualifierAnswer.{QualifierAnswer}
 use Rattle.answers.specs.declared.SpansAnswer.{SpansAnswer}
 use Rattle.answers.specs.declared.TranslationAnswer.{TranslationAnswer}
 
--- a number in a narrower type: one that a byte holds stays as it is
+-- a number in a narrower type: one that a byte holds stays as it is, and any other is 255
 pub record Narrow (n r : ℕ) : Type 0 where
   pub says : n ≤ 255 → r ≡ n
+  pub above : 255 < n → r ≡ 255
 
 abbrev pub flagOf : Bool → ℕ
 flagOf true = 1

@@ -1,5 +1,5 @@
 // One coding region of DNA or RNA: rules 27 and 28, and whether it is judged.
-// Relies on the walk along its qualifiers, the values, the judged location and the comparison with the translation.
+// Relies on the walk along its qualifiers, the values, the judged location, the framing of its codon_start and the comparison with the translation.
 use comparing::is_right;
 use framing::Frame;
 use framing::Noted;

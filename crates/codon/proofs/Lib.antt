@@ -1,3 +1,4 @@
 -- The laws behind the proofs.
 pub mod Rules
 pub mod Stopping
+pub mod Plain

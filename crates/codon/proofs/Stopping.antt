@@ -1,12 +1,14 @@
--- Stops told by comparing letters are the paper's: by tests over all bytes, and over all three sets.
-use Prim.Native.Nat.{ℕ, _+_, _*_, _/_, _%_, _<_}
+-- Stops told by comparing letters are the paper's, by tests over all bytes and over all three sets; and where no sums of letters are those of a stop there is none.
+use Prim.Native.Nat.{ℕ, _+_, _*_, _/_, _%_, _^_, _<_}
 use Prim.Native.Char.{code}
+use native.Mathlib.Nat.{add-comm}
 use native.Mathlib.Omega.{arith}
 use mathlib.Core.Path.{_≡_, refl, sym, _∙_}
-use mathlib.Core.Bool.{Bool, true, false, _&&_, _||_, cond}
+use mathlib.Core.Bool.{Bool, true, false, true≢false, _&&_, _||_, cond}
 use mathlib.Core.List.{List, [], _∷_}
 use lib.Bits.{bitAnd, bitOr}
 use lib.Dec.{eqb}
+use borrow.Author.Tests.{eqb-true, eqb-false, ne-eqb}
 use Rattle.paper.specs.Translation.{basesOf, complementOf, codonLetter}
 use Rattle.paper.proofs.Tables.{listed, each-same}
 use Rattle.codon.specs.Tables.{setBases, setsLetter, answerAt}
@@ -20,33 +22,64 @@ and-flags true false = refl
 and-flags false true = refl
 and-flags false false = refl
 
-or-flags : (p q : Bool) → bitOr (flag p) (flag q) ≡ flag (p || q)
+pub or-flags : (p q : Bool) → bitOr (flag p) (flag q) ≡ flag (p || q)
 or-flags true true = refl
 or-flags true false = refl
 or-flags false true = refl
 or-flags false false = refl
 
--- the tests of `stop_of`: of the first letter, of the second, of the third
-module _ (p q₁ q₂ q₃ s₁ s₂ s₃ : Bool) where
-  pub stop-flags : {x y₁ y₂ y₃ z₁ z₂ z₃ : ℕ} → x ≡ flag p → y₁ ≡ flag q₁ → y₂ ≡ flag q₂ → y₃ ≡ flag q₃ → z₁ ≡ flag s₁ → z₂ ≡ flag s₂ → z₃ ≡ flag s₃
-      → bitAnd x (bitOr (bitAnd y₁ (bitOr (bitOr z₁ z₂) z₃)) (bitAnd (bitOr y₂ y₃) z₁)) ≡ flag (p && (q₁ && (s₁ || s₂ || s₃) || (q₂ || q₃) && s₁))
-  stop-flags a b c d e f g =
-      rw (
-        a,
-        b,
-        c,
-        d,
-        e,
-        f,
-        g,
-        or-flags s₁ s₂,
-        or-flags (s₁ || s₂) s₃,
-        and-flags q₁ (s₁ || s₂ || s₃),
-        or-flags q₂ q₃,
-        and-flags (q₂ || q₃) s₁,
-        or-flags (q₁ && (s₁ || s₂ || s₃)) ((q₂ || q₃) && s₁),
-      )
-      (and-flags p _)
+pub flag-none : (p : Bool) → flag p ≡ 0 → p ≡ false
+flag-none true h = absurd (omega arith)
+flag-none false h = refl
+
+-- of a test and of three joined, as numbers
+module _ (p u v w : Bool) where
+  pub none-of : {x a b c : ℕ} → x ≡ flag p → a ≡ flag u → b ≡ flag v → c ≡ flag w → bitAnd x (bitOr (bitOr a b) c) ≡ 0
+      → p && (u || v || w) ≡ false
+  none-of e f g h k =
+      flag-none (p && (u || v || w)) (sym (rw (e, f, g, h, or-flags u v, or-flags (u || v) w) (and-flags p (u || v || w))) ∙ k)
+
+-- ---- sums of letters
+
+-- where two letters have another sum than a and b they aren't these, in either order
+module _ (y z a b : ℕ) (h : eqb ((y + z) % 2 ^ 8) ((a + b) % 2 ^ 8) ≡ false) where
+  apart : eqb y a ≡ true → eqb z b ≡ false
+  apart e = ne-eqb z b (λ f. eqb-false ((y + z) % 2 ^ 8) ((a + b) % 2 ^ 8) h (rw (eqb-true y a e, f)))
+
+  apart-back : eqb z a ≡ true → eqb y b ≡ false
+  apart-back e = ne-eqb y b (λ f. eqb-false ((y + z) % 2 ^ 8) ((a + b) % 2 ^ 8) h (rw (eqb-true z a e, f, add-comm b a)))
+
+never : (b : Bool) → b && false ≡ false
+never true = refl
+never false = refl
+
+neither : (u v w : Bool) → u || v || w ≡ false → (u ≡ false) × (v ≡ false) × (w ≡ false)
+neither false false false h = (refl, refl, refl)
+neither false false true h = absurd (true≢false h)
+neither false true w h = absurd (true≢false h)
+neither true v w h = absurd (true≢false h)
+
+-- the tests of `stopOf` behind its first letter
+last-none : (q₁ q₂ q₃ s₁ s₂ s₃ : Bool) → (q₁ ≡ true → (s₁ ≡ false) × (s₂ ≡ false) × (s₃ ≡ false)) → (s₁ ≡ true → (q₂ ≡ false) × (q₃ ≡ false))
+    → q₁ && (s₁ || s₂ || s₃) || (q₂ || q₃) && s₁ ≡ false
+last-none true q₂ q₃ s₁ s₂ s₃ f g = let h = f refl in rw (h .0, h .1, h .2) (never (q₂ || q₃))
+last-none false q₂ q₃ true s₂ s₃ f g = let h = g refl in rw (h .0, h .1)
+last-none false q₂ q₃ false s₂ s₃ f g = never (q₂ || q₃)
+
+-- the sum of two letters is that of a and a, of a and g, or of a and r
+abbrev hasSum : (a g r y z : ℕ) → Bool
+hasSum a g r y z = eqb ((y + z) % 2 ^ 8) ((a + a) % 2 ^ 8) || eqb ((y + z) % 2 ^ 8) ((a + g) % 2 ^ 8) || eqb ((y + z) % 2 ^ 8) ((a + r) % 2 ^ 8)
+
+pub sums-none : (t a g r x y z : ℕ) → eqb x t && hasSum a g r y z ≡ false → stopOf t a g r x y z ≡ false
+sums-none t a g r x y z = side (eqb x t)
+  where
+    side : (p : Bool) → p && hasSum a g r y z ≡ false → p && (eqb y a && (eqb z a || eqb z g || eqb z r) || (eqb y g || eqb y r) && eqb z a) ≡ false
+    side false h = refl
+    side true h =
+        let n = neither _ _ _ h in
+        last-none (eqb y a) (eqb y g) (eqb y r) (eqb z a) (eqb z g) (eqb z r)
+        (λ e. (apart y z a a (n .0) e, apart y z a g (n .1) e, apart y z a r (n .2) e))
+        (λ e. (apart-back y z a g (n .1) e, apart-back y z a r (n .2) e))
 
 -- ---- the set of a letter
 

@@ -1,3 +1,4 @@
 -- What the contracts cite.
 pub mod Tables
 pub mod Stops
+pub mod Plain

@@ -5,14 +5,10 @@ use mathlib.Core.Bool.{Bool, true, false, _&&_, _||_, cond}
 use lib.Dec.{eqb}
 use Rattle.paper.specs.Translation.{complementOf, codonLetter}
 
--- the letter of a residue on a strand
-abbrev pub letterOn : Bool → ℕ → ℕ
-letterOn true b = complementOf b
-letterOn false b = b
-
--- the letter of three residues, in the order in which they are read on a strand
-abbrev pub codonOn : Bool → ℕ → ℕ → ℕ → ℕ
-codonOn turned x y z = codonLetter (letterOn turned x) (letterOn turned y) (letterOn turned z)
+-- the letter of three residues, as they stand, on a strand: "complemented spans read backwards"
+abbrev pub letterHere : Bool → ℕ → ℕ → ℕ → ℕ
+letterHere true x y z = codonLetter (complementOf z) (complementOf y) (complementOf x)
+letterHere false x y z = codonLetter x y z
 
 abbrev pub isStop : ℕ → Bool
 isStop c = eqb c (code "*")

@@ -1,12 +1,17 @@
-// Codons: from the letters of a sequence to their base sets, and from three base sets to the letter of a protein. It relies on the paper alone.
+// Codons: from the letters of a sequence to their base sets, and from three base sets to the letter of a protein; and for speed from three plain bases
+// to it at once, with tests of stops and of plain bases. It relies on the paper alone.
 // The constant tables stand here. A constant array is stored anew wherever it is named, so each is named once, in the function that hands
-// it out with its rule; a public call takes it there and lends it on.
+// it out with its rule; a public call takes it there and lends it on. The letters of plain codons are taken for a span that is long enough to need them.
+use std::num::wrapping_add_u8;
 ghost use mathlib.Core.Path.{_≡_};
-ghost use Prim.Native.Nat.{ℕ, _<_};
+ghost use mathlib.Core.Bool.{false};
+ghost use Prim.Native.Nat.{ℕ, _+_, _*_, _<_};
 ghost use lib.Dec.{eqb};
+ghost use lib.ListN.{getD};
 ghost use Rattle.paper.specs.Translation.{codonLetter};
 ghost use Rattle.codon.specs.Tables.{setsLetter, FourBits, SetsOf, SetTable, TurnTable, LetterTable, SetAt};
-ghost use Rattle.codon.specs.Stops.{flag, stopOf, isStop, codonOn};
+ghost use Rattle.codon.specs.Stops.{flag, stopOf, isStop, letterHere};
+ghost use Rattle.codon.specs.Plain.{Plain, plainNumber, PlainTable};
 
 // The base set of each byte, sixteen to a line: 1 for a, 2 for c, 4 for g, 8 for t, added; 0 where it is none of `acgtmrwsykvhdbn`.
 const SETS: [u8; 256] = *b"\
@@ -113,6 +118,20 @@ const LETTERS: [u8; 4096] = *b"\
     XXXXXXXXXXXXXXXXXXXXXXXXXXXXXXXXXXXXXXXXXXXXXXXXXXXXXXXXXXXXXXXX\
     XXXXXXXXXXXXXXXXXXXXXXXXXXXXXXXXXXXXXXXXXXXXXXXXXXXXXXXXXXXXXXXX";
 
+// The letters of the plain codons, those of a, c, g and t alone, each at its codon's number (`plainNumber`); X where there is none.
+const PLAIN: [u8; 256] = *b"\
+    XXXXXXXXXXXXXXXXXKQEXX*XXRRGXX*XXXXXXTPAXXSXXXXXXXXILVXXLXXSRGXX\
+    CXXXXXXTPAXXSXXXXXXXXILVXXFXSRGXXCXXXXXXTPAXXSXXXXXXXXILVXXFXXXR\
+    RGXXWXXXXXXTPAXXSXXXXXXXXMLVXXLXXXXXXXXXXXXKQEXX*XXXXXXXXXXXXXXX\
+    XXXXXXXXXXXXXNHDXXYXXXXXXXXXXXXXXXXXXXXXXXXXXXNHDXXYXXXXXXXXXXXX";
+
+// The same on the complemented strand, where the three residues are read backwards.
+const PLAIN_TURNED: [u8; 256] = *b"\
+    XXXXXXXXXXXXXXXXXLLLXXLXXSSSXXSXXXXXXCWCXX*XXXXXXXXY*YXX*XXAAAXX\
+    AXXXXXXGGGXXGXXXXXXXXDEDXXEXTTTXXTXXXXXXSRSXXRXXXXXXXXNKNXXKXXXP\
+    PPXXPXXXXXXRRRXXRXXXXXXXXHQHXXQXXXXXXXXXXXXFLFXXLXXXXXXXXXXXXXXX\
+    XXXXXXXXXXXXXVVVXXVXXXXXXXXXXXXXXXXXXXXXXXXXXXIMIXXIXXXXXXXXXXXX";
+
 // The tables, each with its rule.
 pub fn set_table() -> [u8; 256]
     ensures { λ r. ⌜ SetTable r ⌝ }
@@ -140,6 +159,16 @@ pub fn set_of(b: u8, s: &[u8; 256]) -> usize
     s[b as usize] as usize
 }
 
+// The letters of plain codons on a strand.
+pub fn plain_table(turned: bool) -> [u8; 256]
+    ensures { λ r. ⌜ PlainTable turned r ⌝ }
+{
+    if turned {
+        return PLAIN_TURNED;
+    }
+    PLAIN
+}
+
 // The letter of three base sets.
 pub fn letter(x: usize, y: usize, z: usize, t: &[u8; 4096]) -> u8
     requires { ⌜ LetterTable (now t) ⌝ }
@@ -158,7 +187,7 @@ pub fn codon(a: u8, b: u8, c: u8, s: &[u8; 256], t: &[u8; 4096]) -> u8
     letter(set_of(a, s), set_of(b, s), set_of(c, s), t)
 }
 
-// ---- stops
+// ---- tests as numbers, with no branch, so that a loop that joins them is compiled to vector code
 
 // 1 where two bytes are the same.
 fn equal(a: u8, b: u8) -> u8
@@ -167,23 +196,55 @@ fn equal(a: u8, b: u8) -> u8
     if a == b { 1 } else { 0 }
 }
 
-// 1 where three bytes are a stop of the letters t, a, g and r.
+// 0 only where three bytes are no stop of the letters t, a, g and r. It compares the sum of the last two: of plain letters only those of a stop
+// behind a t have the sum of a and a, or of a and g.
 fn stop_of(x: u8, y: u8, z: u8, t: u8, a: u8, g: u8, r: u8) -> u8
-    ensures { λ n. ⌜ n ≡ flag (stopOf t a g r x y z) ⌝ }
+    ensures { λ n. ⌜ (n ≡ 0 → stopOf t a g r x y z ≡ false) ⌝ }
 {
-    let ends = equal(z, a);
-    let after_a = ends | equal(z, g) | equal(z, r);
-    let after_g = (equal(y, g) | equal(y, r)) & ends;
-    equal(x, t) & (equal(y, a) & after_a | after_g)
+    let sum = wrapping_add_u8(y, z);
+    let last = equal(sum, wrapping_add_u8(a, a))
+        | equal(sum, wrapping_add_u8(a, g))
+        | equal(sum, wrapping_add_u8(a, r));
+    equal(x, t) & last
 }
 
-// 1 where a codon is a stop, of the residues themselves or of their complements. By comparing, and with no branch, so that a loop over it is
-// compiled to vector code.
-pub fn stop(x: u8, y: u8, z: u8, turned: bool) -> u8
-    ensures { λ n. ⌜ n ≡ flag (isStop (codonOn turned x y z)) ⌝ }
+// 0 only where three residues, as they stand, are no stop on a strand; of plain ones also 0 wherever they are none.
+pub fn may_stop(x: u8, y: u8, z: u8, turned: bool) -> u8
+    ensures { λ n. ⌜ (n ≡ 0 → isStop (letterHere turned x y z) ≡ false) ⌝ }
 {
     if turned {
-        return stop_of(x, y, z, b'a', b't', b'c', b'y');
+        return stop_of(z, y, x, b'a', b't', b'c', b'y');
     }
     stop_of(x, y, z, b't', b'a', b'g', b'r')
+}
+
+// 0 only for the plain bases.
+pub fn no_plain(b: u8) -> u8
+    ensures { λ n. ⌜ (n ≡ 0 → Plain b) ⌝ }
+{
+    equal(
+        equal(b, b'a') | equal(b, b'c') | equal(b, b'g') | equal(b, b't'),
+        0,
+    )
+}
+
+// ---- plain codons
+
+// Two bytes as one number, the first lowest.
+fn two(a: u8, b: u8) -> u64
+    ensures { λ n. ⌜ n ≡ a + 256 * b ⌝ }
+{
+    a as u64 + 256 * (b as u64)
+}
+
+// Bits 24 to 31 of this times a codon's bytes as a number are others for each plain codon: the least multiple of 256 that does it. Since it is such a
+// multiple, a fourth byte doesn't reach them.
+const FACTOR: u64 = 4_002_048;
+
+// The letter of three plain residues x, y, z, as they stand, on the strand of the table. The residue w behind them says nothing: with it the four are
+// compiled to one load.
+pub fn plain_letter(x: u8, y: u8, z: u8, w: u8, t: &[u8; 256]) -> u8
+    ensures { λ r. ⌜ r ≡ getD (now (t .entry)) (plainNumber x y z w) 0 ⌝ }
+{
+    t[((two(x, y) + 65_536 * two(z, w)) * FACTOR / 16_777_216 % 256) as usize]
 }

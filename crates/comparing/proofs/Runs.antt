@@ -2,7 +2,7 @@
 use Prim.Native.Nat.{ℕ, _+_, _*_, _≤_, _<_}
 use Prim.Native.Char.{code}
 use native.Mathlib.Omega.{arith}
-use mathlib.Core.Path.{_≡_, _∙_}
+use mathlib.Core.Path.{_≡_, subst, _∙_}
 use mathlib.Core.List.{List}
 use lib.ListN.{length, getD}
 use borrow.Author.Count.{below-more}
@@ -20,3 +20,6 @@ same-more {n = n} f h i e k z =
       inside = omega arith;
       same = below-more _ n (f .same) (z ∙ e);
     }
+
+pub same-are : {low high from n m : ℕ} {l value : List ℕ} → Same low high l value from n → n ≡ m → Same low high l value from m
+same-are {low} {high} {from} {n} {m} {l} {value} f e = subst (Same low high l value from) e f

@@ -1,5 +1,6 @@
 // Translations compared: whether a qualifier's value is the translation (rule 28), letter after letter and without room. It relies on the paper
 // and on the reading of the coding text; parameters and lent tables are as there.
+use codon::plain_table;
 use reading::Letter;
 use reading::begin;
 use reading::ends;
@@ -7,11 +8,119 @@ use reading::least;
 use reading::letter_at;
 use reading::next;
 use reading::onward;
-ghost use Prim.Native.Nat.{_≤_};
+use reading::plain_at;
+use reading::plain_block;
+ghost use Prim.Native.Nat.{_+_, _*_, _≤_};
 ghost use lib.ListN.{length};
 ghost use Rattle.codon.specs.Tables.{SetTable, TurnTable, LetterTable};
-ghost use Rattle.reading.specs.Reading.{spanLetters};
+ghost use Rattle.codon.specs.Plain.{PlainTable};
+ghost use Rattle.reading.specs.Reading.{spanLetters, PlainBlock};
 ghost use Rattle.comparing.specs.Comparing.{Same, Compares};
+
+// How many codons at the front of a span give the letters of the value from `from` on, and no stop, where those before `start` do: the codons up to
+// `end` are looked up one by one.
+fn same_each(
+    r: &[u8],
+    low: usize,
+    high: usize,
+    turned: bool,
+    value: &[u8],
+    from: usize,
+    start: usize,
+    end: usize,
+    sets: &[u8; 256],
+    turns: &[u8; 256],
+    table: &[u8; 4096],
+) -> usize
+    requires { ⌜ low + 3 * end ≤ high ⌝ }
+    requires { ⌜ high ≤ length (now r) ⌝ }
+    requires { ⌜ from + end ≤ length (now value) ⌝ }
+    requires { ⌜ Same low high (spanLetters (now r) low high turned) (now value) from start ⌝ }
+    requires { ⌜ SetTable (now sets) ⌝ }
+    requires { ⌜ TurnTable (now turns) ⌝ }
+    requires { ⌜ LetterTable (now table) ⌝ }
+    ensures { λ n. ⌜ Same low high (spanLetters (now (r .entry)) low high turned) (now (value .entry)) from n ⌝ }
+{
+    let mut k = start;
+    while k < end {
+        let a = letter_at(r, low, high, turned, k, sets, turns, table);
+        if a == b'*' {
+            return k;
+        }
+        if value[from + k] != a {
+            return k;
+        }
+        k += 1;
+    }
+    k
+}
+
+// The same in a block of plain residues, by the strand's table of plain codons.
+fn same_plain(
+    r: &[u8],
+    low: usize,
+    high: usize,
+    turned: bool,
+    value: &[u8],
+    from: usize,
+    start: usize,
+    plain: &[u8; 256],
+) -> usize
+    requires { ⌜ low + 3 * (start + 64) ≤ high ⌝ }
+    requires { ⌜ high ≤ length (now r) ⌝ }
+    requires { ⌜ PlainBlock (now r) low high turned start ⌝ }
+    requires { ⌜ from + (start + 64) ≤ length (now value) ⌝ }
+    requires { ⌜ Same low high (spanLetters (now r) low high turned) (now value) from start ⌝ }
+    requires { ⌜ PlainTable turned (now plain) ⌝ }
+    ensures { λ n. ⌜ Same low high (spanLetters (now (r .entry)) low high turned) (now (value .entry)) from n ⌝ }
+{
+    let end = start + 64;
+    let mut k = start;
+    while k < end {
+        let a = plain_at(r, low, high, turned, k, plain);
+        if a == b'*' {
+            return k;
+        }
+        if value[from + k] != a {
+            return k;
+        }
+        k += 1;
+    }
+    k
+}
+
+// The same in all blocks of the first `whole` codons, as far as their residues are plain.
+fn same_blocks(
+    r: &[u8],
+    low: usize,
+    high: usize,
+    turned: bool,
+    value: &[u8],
+    from: usize,
+    whole: usize,
+) -> usize
+    requires { ⌜ low + 3 * whole ≤ high ⌝ }
+    requires { ⌜ high ≤ length (now r) ⌝ }
+    requires { ⌜ from + whole ≤ length (now value) ⌝ }
+    ensures { λ n. ⌜ Same low high (spanLetters (now (r .entry)) low high turned) (now (value .entry)) from n ⌝ }
+{
+    if whole < 64 {
+        return 0;
+    }
+    let plain = plain_table(turned);
+    let mut k: usize = 0;
+    while 64 <= whole - k {
+        if !plain_block(r, low, high, turned, k) {
+            return k;
+        }
+        let n = same_plain(r, low, high, turned, value, from, k, &plain);
+        if n != k + 64 {
+            return n;
+        }
+        k += 64;
+    }
+    k
+}
 
 // How many codons at the front of a span give the letters of the value from `from` on, and no stop.
 fn same(
@@ -34,22 +143,24 @@ fn same(
     ensures { λ n. ⌜ Same low high (spanLetters (now (r .entry)) low high turned) (now (value .entry)) from n ⌝ }
 {
     let whole = least((high - low) / 3, value.len() - from);
-    let mut k: usize = 0;
-    while k < whole {
-        let a = letter_at(r, low, high, turned, k, sets, turns, table);
-        if a == b'*' {
-            return k;
-        }
-        if value[from + k] != a {
-            return k;
-        }
-        k += 1;
-    }
-    k
+    let k = same_blocks(r, low, high, turned, value, from, whole);
+    same_each(
+        r,
+        low,
+        high,
+        turned,
+        value,
+        from,
+        k,
+        whole,
+        sets,
+        turns,
+        table,
+    )
 }
 
-// The value is the raw part of the listing. No codon is read past the first difference, nor more than one past the value's length, but for
-// the look whether a stop is the last: so a check stays linear, however often a location's members repeat.
+// The value is the raw part of the listing. No letter is looked up past the first difference, and no residue is read more than one codon past the
+// value's length, but for the look whether a stop is the last: so a check stays linear, however often a location's members repeat.
 pub fn is_right(
     r: &[u8],
     loc: &[u8],

@@ -15,10 +15,10 @@ use Rattle.walk.specs.Stands.{There}
 use Rattle.items.specs.Items.{FindsFeature}
 use Rattle.items.specs.declared.FoundFeature.{FoundFeature}
 use Rattle.reading.specs.Letters.{lettersOf}
-use Rattle.writing.specs.Writing.{Measured, Measures}
-use Rattle.writing.specs.declared.Size.{Size}
-use Rattle.writing.specs.declared.Size.the-variants as size
-use Rattle.writing.proofs.Measuring.{measures-are}
+use Rattle.measuring.specs.Measuring.{Measured, Measures}
+use Rattle.measuring.specs.declared.Size.{Size}
+use Rattle.measuring.specs.declared.Size.the-variants as size
+use Rattle.measuring.proofs.Measuring.{measures-are}
 use Rattle.judging.specs.Known.{Knows}
 use Rattle.judging.specs.declared.Known.{Known}
 use Rattle.framing.proofs.Lists.{in-last}

@@ -3,14 +3,14 @@
 use items::FoundFeature;
 use items::FoundTable;
 use judging::Known;
+use measuring::Size;
+use measuring::measure;
 use scan::bytes_of;
 use translating::Plan;
 use translating::Written;
 use translating::plan_of;
 use translating::refused;
 use translating::translate;
-use writing::Size;
-use writing::measure;
 ghost use Rattle.codon.specs.Tables.{SetTable, TurnTable, LetterTable};
 ghost use Rattle.lines.specs.Lines.{Dashes, MeasuresLine, PassesFeature, Adds, MeasuresLines, PutsDash, PutsLine, PutsLines, TranslatesAll};
 

@@ -3,3 +3,4 @@ pub mod Residues
 pub mod Codons
 pub mod Readings
 pub mod Stops
+pub mod Blocks

@@ -11,16 +11,15 @@ use Rattle.paper.specs.Locations.{Location}
 use Rattle.paper.specs.Locations as paper
 use Rattle.paper.specs.Translation.{basesOf, complementOf, codingText, codonLetter, letters}
 use Rattle.codon.specs.Tables.{setBases, setsLetter}
-use Rattle.codon.specs.Stops.{codonOn}
+use Rattle.blocks.specs.Blocks.{letterFrom}
 use Rattle.spanning.specs.Walking.{Left, stepsLeft, Starts, Steps}
 use Rattle.spanning.specs.declared.walking.Span.{Span}
 use Rattle.spanning.specs.declared.walking.Walk.{Walk}
 use Rattle.spanning.specs.declared.walking.Next.the-variants as next
 use Rattle.reading.specs.declared.Reading.{Reading}
-use Rattle.reading.specs.declared.Codon.{Codon}
 use Rattle.reading.specs.declared.Base.{Base}
 use Rattle.reading.specs.declared.Letter.{Letter}
-use Rattle.reading.specs.Reading.{Ready, strand, current, spanLetters, TextLeft, residuesLeft, Opens, Fills, BaseIs, BaseSays, Bases, CodonAt, Onward, Gives, LetterIs, LetterSays, Letters, Skips, Codes, Begins, Ends}
+use Rattle.reading.specs.Reading.{Ready, strand, current, spanLetters, placeOf, TextLeft, residuesLeft, Opens, Fills, BaseIs, BaseSays, Bases, Onward, Gives, LetterIs, LetterSays, Letters, Skips, Codes, Begins, Ends}
 use Rattle.reading.proofs.Residues.{strand-none, first-ahead, first-behind, three-ahead, three-behind, strand-length, drop-ahead, drop-behind}
 use Rattle.reading.proofs.Codons.{letters-within, letters-split, letters-at}
 
@@ -168,7 +167,7 @@ unfolding spanLetters
 span-within s low high turned k h i = letters-within (strand turned (slice low high s)) k (span-fits s low high turned k h i)
 
 module _ (s : List ℕ) (low high k : ℕ) (h : low + 3 * k + 3 ≤ high) (i : high ≤ length s) where
-  pub letter-ahead : {turned : Bool} → turned ≡ false
+  letter-ahead : {turned : Bool} → turned ≡ false
       → codonLetter (getD s (low + 3 * k) 0) (getD s (low + 3 * k + 1) 0) (getD s (low + 3 * k + 2) 0) ≡ getD (spanLetters s low high turned) k 0
   unfolding spanLetters
   letter-ahead t =
@@ -177,7 +176,7 @@ module _ (s : List ℕ) (low high k : ℕ) (h : low + 3 * k + 3 ≤ high) (i : h
       (letters-at (slice low high s) k (span-fits s low high false k (omega arith) i)
       (sym (drop-ahead s low high (3 * k)) ∙ three-ahead s (low + 3 * k) high (omega arith) i)))
 
-  pub letter-behind : {turned : Bool} → turned ≡ true
+  letter-behind : {turned : Bool} → turned ≡ true
       → codonLetter (complementOf (getD s (high - 3 * k - 1) 0)) (complementOf (getD s (high - 3 * k - 2) 0)) (complementOf (getD s (high - 3 * k - 3) 0))
       ≡ getD (spanLetters s low high turned) k 0
   unfolding spanLetters
@@ -187,9 +186,19 @@ module _ (s : List ℕ) (low high k : ℕ) (h : low + 3 * k + 3 ≤ high) (i : h
       (letters-at (reverse (map complementOf (slice low high s))) k (span-fits s low high true k (omega arith) i)
       (sym (drop-behind s low high (3 * k) (omega arith) i) ∙ three-behind s low (high - 3 * k) (omega arith) (omega arith))))
 
-pub codon-letter : {s : List ℕ} {low high : ℕ} {turned : Bool} {k : ℕ} {y : Codon} → CodonAt s low high turned k y → (t : Bool) → turned ≡ t
-    → codonOn t (y .first) (y .second) (y .third) ≡ getD (spanLetters s low high turned) k 0
-codon-letter h t e = rw (← e) (h .is)
+-- the codon that stands there on either strand
+pub letter-stands : (s : List ℕ) (low high : ℕ) (turned : Bool) (k : ℕ) → low + 3 * k + 3 ≤ high → high ≤ length s
+    → letterFrom s turned (placeOf low high turned k) ≡ getD (spanLetters s low high turned) k 0
+letter-stands s low high false k h i = letter-ahead s low high k h i refl
+letter-stands s low high true k h i =
+    let first : high - (3 * k + 3) + 2 ≡ high - 3 * k - 1 = omega arith in
+    let second : high - (3 * k + 3) + 1 ≡ high - 3 * k - 2 = omega arith in
+    let third : high - (3 * k + 3) ≡ high - 3 * k - 3 = omega arith in
+    rw (first, second, third) (letter-behind s low high k h i refl)
+
+pub at-place : (s : List ℕ) (low high : ℕ) (turned : Bool) (k : ℕ) {at : ℕ} → at ≡ placeOf low high turned k → (t : Bool) → turned ≡ t
+    → low + 3 * k + 3 ≤ high → high ≤ length s → letterFrom s t at ≡ getD (spanLetters s low high turned) k 0
+at-place s low high turned k e t f h i = rw (e, ← f) (letter-stands s low high turned k h i)
 
 -- k codons of it passed
 module _ (s : List ℕ) {x y : Reading} {k : ℕ} (r : Ready (length s) x) (o : Onward x k y) where

@@ -1,16 +1,16 @@
 -- Letters and stops, one letter after another.
-use Prim.Native.Nat.{ℕ, suc, _+_, _≤_}
+use Prim.Native.Nat.{ℕ, suc, _+_, _≤_, _<_}
 use Prim.Native.Char.{code}
 use native.Mathlib.Omega.{arith}
 use mathlib.Core.Path.{_≡_, refl, sym, ap, _∙_}
-use mathlib.Core.Bool.{true, false}
+use mathlib.Core.Bool.{Bool, true, false}
 use mathlib.Core.List.{List, [], _∷_, _++_}
 use lib.ListN.{length, take, getD}
 use lib.Seq.{getD-take, length-take-le}
-use borrow.Author.Tests.{eq-eqb, ne-eqb}
+use lib.Dec.{ltb}
+use borrow.Author.Tests.{ltb-true, ltb-false, eq-eqb, ne-eqb}
 use borrow.Author.Count.{below-more}
 use Rattle.paper.specs.Translation.{dropStop, hasStopInside}
-use Rattle.codon.specs.Stops.{flag, isStop}
 use Rattle.reading.specs.Letters.{NoStops, Clear}
 
 -- ---- no stop
@@ -22,9 +22,12 @@ module _ {l : List ℕ} {a b : ℕ} (h : NoStops l a b) where
   pub none-more : {c : ℕ} → c ≡ getD l b 0 → (c ≡ code "*" → ⊥) → NoStops l a (b + 1)
   none-more e n = record { none = below-more _ b (h .none) (λ i z. n (e ∙ z)) }
 
--- a test that is 0
-pub no-flag : (c : ℕ) → flag (isStop c) ≡ 0 → c ≡ code "*" → ⊥
-no-flag c e z = let k : flag (isStop c) ≡ 1 = ap flag (eq-eqb c (code "*") z) in omega arith
+  pub none-join : {c : ℕ} → NoStops l b c → NoStops l a c
+  none-join {c} k = record { none = λ i below above. side i below above (ltb i b) refl }
+    where
+      side : (i : ℕ) → i < c → a ≤ i → (t : Bool) → ltb i b ≡ t → getD l i 0 ≡ code "*" → ⊥
+      side i below above true e = h .none i (ltb-true i b e) above
+      side i below above false e = k .none i below (ltb-false i b e)
 
 pub clear-start : {low high : ℕ} (l : List ℕ) → low ≤ high → Clear low high l 0
 clear-start l h = record { within = omega arith; clear = none-start l 0 }

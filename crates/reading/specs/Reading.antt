@@ -10,12 +10,11 @@ use Rattle.paper.specs.Locations.{Location, Locates, breaks25}
 use Rattle.paper.specs.Locations as paper
 use Rattle.paper.specs.Translation.{basesOf, complementOf, residuesOf, codingText, letters}
 use Rattle.codon.specs.Tables.{setBases}
-use Rattle.codon.specs.Stops.{codonOn}
+use Rattle.blocks.specs.Blocks.{AllPlain}
 use Rattle.spanning.specs.Walking.{Left, stepsLeft, spanIs}
 use Rattle.spanning.specs.declared.walking.Span.{Span}
 use Rattle.spanning.specs.declared.walking.Walk.{Walk}
 use Rattle.reading.specs.declared.Reading.{Reading}
-use Rattle.reading.specs.declared.Codon.{Codon}
 use Rattle.reading.specs.declared.Base.{Base}
 use Rattle.reading.specs.declared.Base.the-variants as base
 use Rattle.reading.specs.declared.Letter.{Letter}
@@ -37,6 +36,21 @@ current s x = strand (x .turned) (slice (x .low) (x .high) s)
 -- the letters of the codons that stand whole between two places
 unfoldable pub spanLetters : List ℕ → ℕ → ℕ → Bool → List ℕ
 spanLetters s low high turned = letters (strand turned (slice low high s))
+
+-- where the codon k of them stands: the least place of its residues
+abbrev pub placeOf : (low high : ℕ) → Bool → ℕ → ℕ
+placeOf low high true k = high - (3 * k + 3)
+placeOf low high false k = low + 3 * k
+
+-- where the 64 codons from k on stand
+abbrev pub blockOf : (low high : ℕ) → Bool → ℕ → ℕ
+blockOf low high true k = placeOf low high true (k + 63)
+blockOf low high false k = placeOf low high false k
+
+-- the residues of the block from the codon k on are plain, and one more stands behind them
+pub record PlainBlock (s : List ℕ) (low high : ℕ) (turned : Bool) (k : ℕ) : Type 0 where
+  pub room : blockOf low high turned k + 193 ≤ length s
+  pub plain : AllPlain s (blockOf low high turned k) 192
 
 -- this text is left: "concatenate the spans' residues"
 pub record TextLeft (s loc : List ℕ) (L : ℕ) (x : Reading) (text : List ℕ) : Type 0 where
@@ -82,10 +96,6 @@ BaseSays s loc L x (base.Is b y) = BaseIs s loc L x b y
 
 pub record Bases (s loc : List ℕ) (L : ℕ) (x : Reading) (r : Base) : Type 0 where
   pub says : BaseSays s loc L x r
-
--- y is the codon k of the residues between two places on a strand: its letter is the one there
-pub record CodonAt (s : List ℕ) (low high : ℕ) (turned : Bool) (k : ℕ) (y : Codon) : Type 0 where
-  pub is : codonOn turned (y .first) (y .second) (y .third) ≡ getD (spanLetters s low high turned) k 0
 
 -- y has passed k whole codons of the current span of x
 pub record Onward (x : Reading) (k : ℕ) (y : Reading) : Type 0 where

@@ -2,21 +2,24 @@
 // the current span. It relies on the paper, the location's walk and the codon's tables. A caller takes the tables once and lends them to each
 // call. `r` are the residues, `loc` the raw part of the location, `top` is L, the number of residues, and `frame` the codon_start. A promise,
 // here and in the crates above, speaks of whichever location, that keeps rule 25, the part is written from.
+use blocks::strange;
 use codon::codon;
 use codon::letter;
+use codon::plain_letter;
 use codon::set_of;
-use codon::stop;
 use spanning::walking::Next;
 use spanning::walking::Span;
 use spanning::walking::Walk;
 use spanning::walking::start;
 use spanning::walking::step;
 ghost use mathlib.Core.Path.{_≡_};
+ghost use mathlib.Core.Bool.{true};
 ghost use Prim.Native.Nat.{_+_, _*_, _≤_, _<_};
 ghost use lib.ListN.{length, getD};
 ghost use Rattle.codon.specs.Tables.{SetTable, TurnTable, LetterTable};
-ghost use Rattle.codon.specs.Stops.{flag, isStop};
-ghost use Rattle.reading.specs.Reading.{Ready, spanLetters, Opens, Fills, Bases, CodonAt, Onward, Skips, Letters, Begins, Ends};
+ghost use Rattle.codon.specs.Plain.{PlainTable};
+ghost use Rattle.blocks.specs.Blocks.{AllPlain};
+ghost use Rattle.reading.specs.Reading.{Ready, spanLetters, placeOf, blockOf, PlainBlock, Opens, Fills, Bases, Onward, Skips, Letters, Begins, Ends};
 
 // What is left to read: of the current span the residues from low to before high, on the complemented strand from the back; and then the
 // spans that are left of the walk.
@@ -25,13 +28,6 @@ pub struct Reading {
     pub low: usize,
     pub high: usize,
     pub turned: bool,
-}
-
-// Three residues, in the order in which they are read on a strand.
-pub struct Codon {
-    pub first: u8,
-    pub second: u8,
-    pub third: u8,
 }
 
 pub enum Base {
@@ -174,27 +170,16 @@ fn slowly(
     }
 }
 
-// The codon k of the residues from low to before high on a strand. Which strand it is stays the same in a loop over k, so the compiler takes
-// the test out of the loop.
-fn codon_at(r: &[u8], low: usize, high: usize, turned: bool, k: usize) -> Codon
+// Where the codon k of the residues from low to before high on a strand stands: the least place of its three residues. Which strand it is stays
+// the same in a loop over k, so the compiler takes the test out of the loop.
+fn place(low: usize, high: usize, turned: bool, k: usize) -> usize
     requires { ⌜ low + 3 * k + 3 ≤ high ⌝ }
-    requires { ⌜ high ≤ length (now r) ⌝ }
-    ensures { λ y. ⌜ CodonAt (now (r .entry)) low high turned k y ⌝ }
+    ensures { λ y. ⌜ (y ≡ placeOf low high turned k) × (y + 3 ≤ high) ⌝ }
 {
     if turned {
-        let end = high - 3 * k;
-        return Codon {
-            first: r[end - 1],
-            second: r[end - 2],
-            third: r[end - 3],
-        };
+        return high - (3 * k + 3);
     }
-    let at = low + 3 * k;
-    Codon {
-        first: r[at],
-        second: r[at + 1],
-        third: r[at + 2],
-    }
+    low + 3 * k
 }
 
 // Its letter.
@@ -215,21 +200,48 @@ pub fn letter_at(
     requires { ⌜ LetterTable (now table) ⌝ }
     ensures { λ y. ⌜ y ≡ getD (spanLetters (now (r .entry)) low high turned) k 0 ⌝ }
 {
-    let x = codon_at(r, low, high, turned, k);
+    let at = place(low, high, turned, k);
     if turned {
-        return codon(x.first, x.second, x.third, turns, table);
+        return codon(r[at + 2], r[at + 1], r[at], turns, table);
     }
-    codon(x.first, x.second, x.third, sets, table)
+    codon(r[at], r[at + 1], r[at + 2], sets, table)
 }
 
-// 1 where it is a stop.
-pub fn stop_at(r: &[u8], low: usize, high: usize, turned: bool, k: usize) -> u8
+// Its letter, where its residues are plain and another stands behind them, by the strand's table of plain codons.
+pub fn plain_at(r: &[u8], low: usize, high: usize, turned: bool, k: usize, plain: &[u8; 256]) -> u8
     requires { ⌜ low + 3 * k + 3 ≤ high ⌝ }
     requires { ⌜ high ≤ length (now r) ⌝ }
-    ensures { λ y. ⌜ y ≡ flag (isStop (getD (spanLetters (now (r .entry)) low high turned) k 0)) ⌝ }
+    requires { ⌜ placeOf low high turned k + 4 ≤ length (now r) ⌝ }
+    requires { ⌜ AllPlain (now r) (placeOf low high turned k) 3 ⌝ }
+    requires { ⌜ PlainTable turned (now plain) ⌝ }
+    ensures { λ y. ⌜ y ≡ getD (spanLetters (now (r .entry)) low high turned) k 0 ⌝ }
 {
-    let x = codon_at(r, low, high, turned, k);
-    stop(x.first, x.second, x.third, turned)
+    let at = place(low, high, turned, k);
+    plain_letter(r[at], r[at + 1], r[at + 2], r[at + 3], plain)
+}
+
+// Where the 64 codons from the codon k on stand: the least place of their residues.
+pub fn block_at(low: usize, high: usize, turned: bool, k: usize) -> usize
+    requires { ⌜ low + 3 * (k + 64) ≤ high ⌝ }
+    ensures { λ y. ⌜ (y ≡ blockOf low high turned k) × (y + 192 ≤ high) ⌝ }
+{
+    if turned {
+        return place(low, high, true, k + 63);
+    }
+    place(low, high, false, k)
+}
+
+// Whether the block from the codon k on has plain residues only, and one more stands behind it.
+pub fn plain_block(r: &[u8], low: usize, high: usize, turned: bool, k: usize) -> bool
+    requires { ⌜ low + 3 * (k + 64) ≤ high ⌝ }
+    requires { ⌜ high ≤ length (now r) ⌝ }
+    ensures { λ y. ⌜ (y ≡ true → PlainBlock (now (r .entry)) low high turned k) ⌝ }
+{
+    let at = block_at(low, high, turned, k);
+    if r.len() - at < 193 {
+        return false;
+    }
+    strange(r, at) == 0
 }
 
 // k whole codons of the current span further.

@@ -10,9 +10,10 @@ use Rattle.paper.specs.Answers.{refuse, give, Translates, Lent}
 use Rattle.scan.specs.Parts.{Shows}
 use Rattle.items.specs.declared.FoundFeature.{FoundFeature}
 use Rattle.reading.specs.Letters.{lettersOf}
-use Rattle.writing.specs.Writing.{Measured, afterOf, Writes}
-use Rattle.writing.specs.declared.Size.{Size}
-use Rattle.writing.specs.declared.Size.the-variants as size
+use Rattle.measuring.specs.Measuring.{Measured}
+use Rattle.writing.specs.Writing.{afterOf, Writes}
+use Rattle.measuring.specs.declared.Size.{Size}
+use Rattle.measuring.specs.declared.Size.the-variants as size
 use Rattle.judging.specs.declared.Known.{Known}
 use Rattle.translating.specs.Plans.{PlanIs, Plans}
 use Rattle.translating.specs.Ones.{refusal, TranslatesOne}

@@ -13,8 +13,8 @@ use Rattle.spanning.specs.declared.room.Answer.{Answer}
 use Rattle.spanning.specs.declared.room.Answer.the-variants as answer
 use Rattle.comparing.specs.Comparing.{Compares}
 use Rattle.writing.specs.Writing.{Writes}
-use Rattle.writing.specs.declared.Size.{Size}
-use Rattle.writing.specs.declared.Size.the-variants as size
+use Rattle.measuring.specs.declared.Size.{Size}
+use Rattle.measuring.specs.declared.Size.the-variants as size
 
 pub data LayoutNumbers (w : List ℕ) : (number place : ℕ) → Type 0 where
   laid : Lays w → LayoutNumbers w 0 0

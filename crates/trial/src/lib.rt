@@ -2,8 +2,8 @@
 // Relies on those crates; nothing of the product relies on it.
 use layout::Shape;
 use location::judging::Verdict;
+use measuring::Size;
 use spanning::room::Answer;
-use writing::Size;
 ghost use mathlib.Core.Path.{_≡_};
 ghost use Rattle.paper.specs.Locations.{mark};
 ghost use Rattle.trial.specs.Numbers.{LayoutNumbers, LocationNumbers, SpansNumbers, TranslationNumbers, RightNumbers};

@@ -15,10 +15,11 @@ use Rattle.paper.specs.Answers.{front}
 use Rattle.reading.specs.declared.Reading.{Reading}
 use Rattle.reading.specs.Reading.{Ready, spanLetters, TextLeft, Onward, Gives, LetterIs, Begins}
 use Rattle.reading.proofs.Readings.{span-within, run-gives}
-use Rattle.writing.specs.declared.Size.{Size}
-use Rattle.writing.specs.declared.Size.the-variants as size
-use Rattle.writing.specs.Writing.{Lays, Measured, Measures, Puts, afterOf, Writes}
-use Rattle.writing.proofs.Measuring.{measured-once}
+use Rattle.measuring.specs.declared.Size.{Size}
+use Rattle.measuring.specs.declared.Size.the-variants as size
+use Rattle.measuring.specs.Measuring.{Measured, Measures}
+use Rattle.writing.specs.Writing.{Lays, Puts, afterOf, Writes}
+use Rattle.measuring.proofs.Measuring.{measured-once}
 
 -- ---- the translation is at the front of the letters
 

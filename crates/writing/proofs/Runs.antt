@@ -1,48 +1,33 @@
--- Codons of one span, one after another: those passed are no stop, are laid.
+-- Codons of one span, laid run after run.
 use Prim.Native.Nat.{ℕ, _+_, _*_, _≤_, _<_}
-use Prim.Native.Char.{code}
 use native.Mathlib.Numerals.{add-one}
 use native.Mathlib.Omega.{arith}
-use mathlib.Core.Path.{_≡_, refl, sym, _∙_}
-use mathlib.Core.Bool.{Bool, true, false}
+use mathlib.Core.Path.{_≡_, refl, sym, subst, _∙_}
 use mathlib.Core.List.{List}
-use lib.Bits.{bitOr}
-use lib.ListN.{length, getD, set}
+use lib.ListN.{length, getD, set, length-set}
 use lib.Seq.{paste-zero, paste-suc}
-use lib.Dec.{ltb}
-use borrow.Author.Tests.{ltb-true, ltb-false}
-use Rattle.reading.specs.Letters.{NoStops}
-use Rattle.codon.specs.Stops.{flag, isStop}
-use Rattle.paper.proofs.Bits.{or-none}
-use Rattle.reading.proofs.Stops.{none-more, no-flag}
-use Rattle.writing.specs.Writing.{Lays}
+use Rattle.writing.specs.Writing.{LaysOn, Lays}
 
--- ---- no stop
+module _ (l : List ℕ) (from k : ℕ) (out : List ℕ) where
+  pub lays-none : LaysOn l from k k out out
+  lays-none = record { size = refl; is = λ o e h. h }
 
-module _ {l : List ℕ} {a b : ℕ} (h : NoStops l a b) where
-  pub none-join : {c : ℕ} → NoStops l b c → NoStops l a c
-  none-join {c} k = record { none = λ i below above. side i below above (ltb i b) refl }
-    where
-      side : (i : ℕ) → i < c → a ≤ i → (t : Bool) → ltb i b ≡ t → getD l i 0 ≡ code "*" → ⊥
-      side i below above true e = h .none i (ltb-true i b e) above
-      side i below above false e = k .none i below (ltb-false i b e)
+  pub lays-more : {n c : ℕ} {after : List ℕ} → LaysOn l from k n out after → from + n < length out → n < length l → c ≡ getD l n 0
+      → LaysOn l from k (n + 1) out (set after (from + n) c)
+  lays-more {n} {c} {after} f h i e =
+      record {
+        size = length-set after (from + n) c ∙ f .size;
+        is = λ o g w. rw (f .is o g w, e, add-one n) (paste-suc o from l n 0 (omega arith) i);
+      }
 
--- where tests joined are 0 so is the test of the codon b
-pub none-joined : {l : List ℕ} {a b stops n : ℕ} → (stops ≡ 0 → NoStops l a b) → n ≡ flag (isStop (getD l b 0)) → bitOr stops n ≡ 0 → NoStops l a (b + 1)
-none-joined {l} {b = b} {stops} {n} h e k =
-    let z = or-none stops n k in
-    none-more (h (z .0)) refl (no-flag (getD l b 0) (sym e ∙ z .1))
+-- that many
+pub lays-are : {l : List ℕ} {from k n m : ℕ} {out after : List ℕ} → LaysOn l from k n out after → n ≡ m → LaysOn l from k m out after
+lays-are {l} {from} {k} {n} {m} {out} {after} f e = subst (λ (n : ℕ). LaysOn l from k n out after) e f
 
--- ---- laid
+-- runs of codons, one behind another
+pub lays-join : {l : List ℕ} {from a b c : ℕ} {x y z : List ℕ} → LaysOn l from a b x y → LaysOn l from b c y z → LaysOn l from a c x z
+lays-join f g = record { size = g .size ∙ f .size; is = λ o e h. g .is o (e ∙ sym (f .size)) (f .is o e h) }
 
-pub lays-start : {low high from count : ℕ} (l out : List ℕ) → low ≤ high → from ≤ count → Lays low high l from count 0 out out
-lays-start {from = from} l out h i = record { within = omega arith; inside = omega arith; is = paste-zero out from l }
-
-pub lays-more : {low high from count n c : ℕ} {l out after : List ℕ} → Lays low high l from count n out after → low + 3 * (n + 1) ≤ high
-    → from + n < count → count ≤ length out → n < length l → c ≡ getD l n 0 → Lays low high l from count (n + 1) out (set after (from + n) c)
-lays-more {from = from} {n = n} {c} {l} {out} f h i j k e =
-    record {
-      within = h;
-      inside = omega arith;
-      is = rw (f .is, e, add-one n) (paste-suc out from l n 0 (omega arith) k);
-    }
+pub lays-all : {low high from count n : ℕ} {l out after : List ℕ} → LaysOn l from 0 n out after → low + 3 * n ≤ high
+    → from + n ≤ count → Lays low high l from count n out after
+lays-all {from = from} {l = l} {out} f h i = record { within = h; inside = i; is = f .is out refl (paste-zero out from l) }

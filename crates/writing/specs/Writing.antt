@@ -1,4 +1,4 @@
--- What is promised of a translation that is measured and written.
+-- What is promised of a translation that is written.
 use Prim.Native.Nat.{ℕ, _+_, _*_, _≤_, _<_}
 use mathlib.Core.Path.{_≡_}
 use mathlib.Core.Bool.{Bool, true, false}
@@ -11,49 +11,22 @@ use Rattle.paper.specs.Answers.{front}
 use Rattle.reading.specs.declared.Reading.{Reading}
 use Rattle.reading.specs.Reading.{Codes, TextLeft}
 use Rattle.reading.specs.Letters.{lettersOf}
-use Rattle.writing.specs.declared.Count.{Count}
-use Rattle.writing.specs.declared.Size.{Size}
-use Rattle.writing.specs.declared.Size.the-variants as size
+use Rattle.measuring.specs.Measuring.{Measured}
+use Rattle.measuring.specs.declared.Size.{Size}
+use Rattle.measuring.specs.declared.Size.the-variants as size
 
 -- ---- the codons that stand whole in a span between two places, with the letters l
+
+-- where the first k were laid from a place on, the first n are now
+pub record LaysOn (l : List ℕ) (from k n : ℕ) (before after : List ℕ) : Type 0 where
+  pub size : length after ≡ length before
+  pub is : (out : List ℕ) → length out ≡ length before → before ≡ paste out from l k → after ≡ paste out from l n
 
 -- the first n are laid from a place on, before another
 pub record Lays (low high : ℕ) (l : List ℕ) (from count n : ℕ) (out after : List ℕ) : Type 0 where
   pub within : low + 3 * n ≤ high
   pub inside : from + n ≤ count
   pub is : after ≡ paste out from l n
-
--- ---- the length
-
--- m letters were counted in a room
-abbrev pub Tally : (room m n : ℕ) (over : Bool) → Type 0
-Tally room m n true = room < m
-Tally room m n false = (n ≡ m) × (m ≤ room)
-
--- k letters more
-pub record Counted (room : ℕ) (a : Count) (k : ℕ) (b : Count) : Type 0 where
-  pub within : b .n ≤ room
-  pub more : (m : ℕ) → Tally room m (a .n) (a .over) → Tally room (m + k) (b .n) (b .over)
-
-abbrev pub sizeOf : ℕ → Bool → Size
-sizeOf n true = size.Short
-sizeOf n false = size.Is n
-
--- ".. 37 stop inside; 34 lent output shorter than the answer": of the letters l, for room of so many bytes
-abbrev pub Measured : List ℕ → ℕ → Size → Type 0
-Measured l room (size.Is n) = (hasStopInside l ≡ false) × (n ≡ length (dropStop l)) × (n ≤ room)
-Measured l room size.Short = (hasStopInside l ≡ false) × (room < length (dropStop l))
-Measured l room size.Stop = hasStopInside l ≡ true
-
--- a length that is given is in the room, whatever the bytes are
-abbrev pub SizeWithin : ℕ → Size → Type 0
-SizeWithin room (size.Is n) = n ≤ room
-SizeWithin room size.Short = Unit {0}
-SizeWithin room size.Stop = Unit {0}
-
-pub record Measures (s loc : List ℕ) (L start room : ℕ) (r : Size) : Type 0 where
-  pub within : SizeWithin room r
-  pub says : (t : Location) → Codes s loc L t → Measured (lettersOf s start t) room r
 
 -- ---- in lent room
 

@@ -1,154 +1,165 @@
-// Translations written: a translation's length, and the translation in lent room. It relies on the paper and on the reading of the coding text;
-// parameters and lent tables are as there.
+// Translations written: the translation in lent room. It relies on the paper, on the reading of the coding text and on its measuring; parameters and
+// lent tables are as in reading.
+use codon::plain_table;
+use measuring::Size;
+use measuring::measure;
 use reading::Letter;
 use reading::Reading;
 use reading::begin;
-use reading::ends;
 use reading::least;
 use reading::letter_at;
 use reading::next;
 use reading::onward;
-use reading::stop_at;
-ghost use mathlib.Core.Path.{_≡_};
+use reading::plain_at;
+use reading::plain_block;
 ghost use Prim.Native.Nat.{_+_, _*_, _≤_};
 ghost use lib.ListN.{length};
 ghost use Rattle.codon.specs.Tables.{SetTable, TurnTable, LetterTable};
-ghost use Rattle.reading.specs.Reading.{Ready, spanLetters};
-ghost use Rattle.reading.specs.Letters.{NoStops, Clear};
-ghost use Rattle.writing.specs.Writing.{Counted, sizeOf, Lays, Measures, Puts, Writes};
+ghost use Rattle.codon.specs.Plain.{PlainTable};
+ghost use Rattle.reading.specs.Reading.{Ready, spanLetters, PlainBlock};
+ghost use Rattle.writing.specs.Writing.{LaysOn, Lays, Puts, Writes};
 
-pub enum Size {
-    // The translation's length.
-    Is(usize),
-    // It is longer than the room.
-    Short,
-    // A stop stands inside.
-    Stop,
-}
-
-// Letters that were counted: n of them, or more than the room holds. So no count overflows, however often a location's members repeat.
-pub struct Count {
-    pub n: usize,
-    pub over: bool,
-}
-
-// k letters more, or too many.
-fn counted(a: Count, k: usize, room: usize) -> Count
-    requires { ⌜ a .n ≤ room ⌝ }
-    ensures { λ y. ⌜ Counted room a k y ⌝ }
-{
-    if room - a.n < k {
-        return Count { n: a.n, over: true };
-    }
-    Count {
-        n: a.n + k,
-        over: a.over,
-    }
-}
-
-fn sized(a: Count) -> Size
-    ensures { λ y. ⌜ y ≡ sizeOf (a .n) (a .over) ⌝ }
-{
-    if a.over {
-        return Size::Short;
-    }
-    Size::Is(a.n)
-}
-
-// 0 only where none of 64 codons of a span, from the codon `from` on, is a stop. One test for so many codons, joined with no branch: it is
-// compiled to vector code.
-fn block(r: &[u8], low: usize, high: usize, turned: bool, from: usize) -> u8
-    requires { ⌜ low + 3 * (from + 64) ≤ high ⌝ }
-    requires { ⌜ high ≤ length (now r) ⌝ }
-    ensures { λ y. ⌜ (y ≡ 0 → NoStops (spanLetters (now (r .entry)) low high turned) from (from + 64)) ⌝ }
-{
-    let end = from + 64;
-    let mut stops: u8 = 0;
-    let mut k = from;
-    while k < end {
-        stops = stops | stop_at(r, low, high, turned, k);
-        k += 1;
-    }
-    stops
-}
-
-// How many codons at the front of a span stand in blocks without a stop.
-fn blocks(r: &[u8], low: usize, high: usize, turned: bool) -> usize
-    requires { ⌜ low ≤ high ⌝ }
-    requires { ⌜ high ≤ length (now r) ⌝ }
-    ensures { λ n. ⌜ Clear low high (spanLetters (now (r .entry)) low high turned) n ⌝ }
-{
-    let whole = (high - low) / 3;
-    let mut k: usize = 0;
-    while 64 <= whole - k {
-        if block(r, low, high, turned, k) != 0 {
-            return k;
-        }
-        k += 64;
-    }
-    k
-}
-
-// How many codons at the front of a span are no stop: whole blocks, and then one by one.
-fn clear(r: &[u8], low: usize, high: usize, turned: bool) -> usize
-    requires { ⌜ low ≤ high ⌝ }
-    requires { ⌜ high ≤ length (now r) ⌝ }
-    ensures { λ n. ⌜ Clear low high (spanLetters (now (r .entry)) low high turned) n ⌝ }
-{
-    let whole = (high - low) / 3;
-    let mut k = blocks(r, low, high, turned);
-    while k < whole {
-        if stop_at(r, low, high, turned, k) != 0 {
-            return k;
-        }
-        k += 1;
-    }
-    k
-}
-
-// The translation's length, for room of so many bytes.
-pub fn measure(
+// The letters of the codons of a span from `start` to before `end`, laid into out behind those of the codons before, looked up one by one.
+fn lay_each(
     r: &[u8],
-    loc: &[u8],
-    top: u32,
-    frame: usize,
-    room: usize,
+    low: usize,
+    high: usize,
+    turned: bool,
+    from: usize,
+    start: usize,
+    end: usize,
     sets: &[u8; 256],
     turns: &[u8; 256],
     table: &[u8; 4096],
-) -> Size
+    out: &mut [u8],
+)
+    requires { ⌜ start ≤ end ⌝ }
+    requires { ⌜ low + 3 * end ≤ high ⌝ }
+    requires { ⌜ high ≤ length (now r) ⌝ }
+    requires { ⌜ from + end ≤ length (now out) ⌝ }
     requires { ⌜ SetTable (now sets) ⌝ }
     requires { ⌜ TurnTable (now turns) ⌝ }
     requires { ⌜ LetterTable (now table) ⌝ }
-    ensures { λ y. ⌜ Measures (now (r .entry)) (now (loc .entry)) top frame room y ⌝ }
+    ensures { λ _. ⌜ LaysOn (spanLetters (now (r .entry)) low high turned) from start end (now (out .entry)) (now (out .exit)) ⌝ }
 {
-    if r.len() < top as usize {
-        return Size::Stop;
+    let mut k = start;
+    while k < end {
+        out[from + k] = letter_at(r, low, high, turned, k, sets, turns, table);
+        k += 1;
     }
-    let mut x = begin(r, loc, top, frame, sets, turns);
-    let mut count = Count { n: 0, over: false };
-    loop {
-        let low = x.low;
-        let high = x.high;
-        let turned = x.turned;
-        let k = clear(r, low, high, turned);
-        let passed = counted(count, k, room);
-        match next(r, loc, onward(x, k), top, sets, turns, table) {
-            Letter::Done => {
-                return sized(passed);
-            }
-            Letter::Is(c, y) => {
-                if c == b'*' {
-                    if ends(r, loc, y, top, sets, turns, table) {
-                        return sized(passed);
-                    }
-                    return Size::Stop;
-                }
-                count = counted(passed, 1, room);
-                x = y;
-            }
-        }
+}
+
+// The same for a block of plain residues, by the strand's table of plain codons.
+fn lay_plain(
+    r: &[u8],
+    low: usize,
+    high: usize,
+    turned: bool,
+    from: usize,
+    start: usize,
+    plain: &[u8; 256],
+    out: &mut [u8],
+)
+    requires { ⌜ low + 3 * (start + 64) ≤ high ⌝ }
+    requires { ⌜ high ≤ length (now r) ⌝ }
+    requires { ⌜ PlainBlock (now r) low high turned start ⌝ }
+    requires { ⌜ from + (start + 64) ≤ length (now out) ⌝ }
+    requires { ⌜ PlainTable turned (now plain) ⌝ }
+    ensures { λ _. ⌜ LaysOn (spanLetters (now (r .entry)) low high turned) from start (start + 64) (now (out .entry)) (now (out .exit)) ⌝ }
+{
+    let end = start + 64;
+    let mut k = start;
+    while k < end {
+        out[from + k] = plain_at(r, low, high, turned, k, plain);
+        k += 1;
     }
+}
+
+// The same for any block.
+fn lay_block(
+    r: &[u8],
+    low: usize,
+    high: usize,
+    turned: bool,
+    from: usize,
+    start: usize,
+    plain: &[u8; 256],
+    sets: &[u8; 256],
+    turns: &[u8; 256],
+    table: &[u8; 4096],
+    out: &mut [u8],
+)
+    requires { ⌜ low + 3 * (start + 64) ≤ high ⌝ }
+    requires { ⌜ high ≤ length (now r) ⌝ }
+    requires { ⌜ from + (start + 64) ≤ length (now out) ⌝ }
+    requires { ⌜ PlainTable turned (now plain) ⌝ }
+    requires { ⌜ SetTable (now sets) ⌝ }
+    requires { ⌜ TurnTable (now turns) ⌝ }
+    requires { ⌜ LetterTable (now table) ⌝ }
+    ensures { λ _. ⌜ LaysOn (spanLetters (now (r .entry)) low high turned) from start (start + 64) (now (out .entry)) (now (out .exit)) ⌝ }
+{
+    if plain_block(r, low, high, turned, start) {
+        lay_plain(r, low, high, turned, from, start, plain, out);
+        return;
+    }
+    lay_each(
+        r,
+        low,
+        high,
+        turned,
+        from,
+        start,
+        start + 64,
+        sets,
+        turns,
+        table,
+        out,
+    );
+}
+
+// The same for all blocks of the first `whole` codons: how many codons.
+fn lay_blocks(
+    r: &[u8],
+    low: usize,
+    high: usize,
+    turned: bool,
+    from: usize,
+    whole: usize,
+    sets: &[u8; 256],
+    turns: &[u8; 256],
+    table: &[u8; 4096],
+    out: &mut [u8],
+) -> usize
+    requires { ⌜ low + 3 * whole ≤ high ⌝ }
+    requires { ⌜ high ≤ length (now r) ⌝ }
+    requires { ⌜ from + whole ≤ length (now out) ⌝ }
+    requires { ⌜ SetTable (now sets) ⌝ }
+    requires { ⌜ TurnTable (now turns) ⌝ }
+    requires { ⌜ LetterTable (now table) ⌝ }
+    ensures { λ n. ⌜ (n ≤ whole) × LaysOn (spanLetters (now (r .entry)) low high turned) from 0 n (now (out .entry)) (now (out .exit)) ⌝ }
+{
+    if whole < 64 {
+        return 0;
+    }
+    let plain = plain_table(turned);
+    let mut k: usize = 0;
+    while 64 <= whole - k {
+        lay_block(
+            r,
+            low,
+            high,
+            turned,
+            from,
+            k,
+            &plain,
+            sets,
+            turns,
+            table,
+            out,
+        );
+        k += 64;
+    }
+    k
 }
 
 // The letters of codons at the front of a span, laid into out from `from` to before `count`: how many.
@@ -174,12 +185,21 @@ fn lay(
     ensures { λ n. ⌜ Lays low high (spanLetters (now (r .entry)) low high turned) from count n (now (out .entry)) (now (out .exit)) ⌝ }
 {
     let whole = least((high - low) / 3, count - from);
-    let mut k: usize = 0;
-    while k < whole {
-        out[from + k] = letter_at(r, low, high, turned, k, sets, turns, table);
-        k += 1;
-    }
-    k
+    let k = lay_blocks(r, low, high, turned, from, whole, sets, turns, table, out);
+    lay_each(
+        r,
+        low,
+        high,
+        turned,
+        from,
+        k,
+        whole,
+        sets,
+        turns,
+        table,
+        out,
+    );
+    whole
 }
 
 // The next `count` letters at the front of out.

@@ -1,15 +1,27 @@
--- `codon::stop_of` meets its contract: tests joined as numbers are tests.
+-- `codon::stop_of` meets its contract: where the sums are no stop's neither are the letters.
+use Rattle.codon.proofs.Stopping.{sums-none, none-of}
 use lib.Dec.{eqb}
 use borrow.Author.Needs.{needs}
-use Rattle.codon.proofs.Stopping.{stop-flags}
 use Rattle.codon.proofs.stop_of.Statement.{statement}
 use Rattle.codon.proofs.stop_of.Tie as tie
+
+wrapping-add-u8-requires : tie.Need-wrapping-add-u8-requires
+wrapping-add-u8-requires c κs = search needs
+
+wrapping-add-u8-requires-2 : tie.Need-wrapping-add-u8-requires-2
+wrapping-add-u8-requires-2 c κs = search needs
 
 equal-requires : tie.Need-equal-requires
 equal-requires c κs = search needs
 
+wrapping-add-u8-requires-3 : tie.Need-wrapping-add-u8-requires-3
+wrapping-add-u8-requires-3 c κs = search needs
+
 equal-requires-2 : tie.Need-equal-requires-2
 equal-requires-2 c κs = search needs
+
+wrapping-add-u8-requires-4 : tie.Need-wrapping-add-u8-requires-4
+wrapping-add-u8-requires-4 c κs = search needs
 
 equal-requires-3 : tie.Need-equal-requires-3
 equal-requires-3 c κs = search needs
@@ -17,32 +29,28 @@ equal-requires-3 c κs = search needs
 equal-requires-4 : tie.Need-equal-requires-4
 equal-requires-4 c κs = search needs
 
-equal-requires-5 : tie.Need-equal-requires-5
-equal-requires-5 c κs = search needs
-
-equal-requires-6 : tie.Need-equal-requires-6
-equal-requires-6 c κs = search needs
-
-equal-requires-7 : tie.Need-equal-requires-7
-equal-requires-7 c κs = search needs
-
 returns : tie.Need-returns
 returns c =
-    let a = c .before .before .before .before .before .before .before .args in
-    stop-flags (eqb (a .x) (a .t)) (eqb (a .y) (a .a)) (eqb (a .y) (a .g)) (eqb (a .y) (a .r)) (eqb (a .z) (a .a)) (eqb (a .z) (a .g)) (eqb (a .z) (a .r))
-    (c .before .equal6 .ensures) (c .equal7 .ensures) (c .before .before .before .equal4 .ensures) (c .before .before .equal5 .ensures)
-    (c .before .before .before .before .before .before .equal .ensures) (c .before .before .before .before .before .equal2 .ensures)
-    (c .before .before .before .before .equal3 .ensures)
+    let a = c .before .before .before .before .before .before .before .before .args in
+    let sum = c .before .before .before .before .before .before .before .wrapping-add-u8 in
+    let aa = c .before .before .before .before .before .before .wrapping-add-u82 in
+    let ag = c .before .before .before .before .wrapping-add-u83 in
+    let ar = c .before .before .wrapping-add-u84 in
+    λ h. sums-none (a .t) (a .a) (a .g) (a .r) (a .x) (a .y) (a .z)
+    (rw (← sum .ensures, ← aa .ensures, ← ag .ensures, ← ar .ensures)
+    (none-of (eqb (a .x) (a .t)) (eqb (sum .result) (aa .result)) (eqb (sum .result) (ag .result)) (eqb (sum .result) (ar .result)) (c .equal4 .ensures)
+    (c .before .before .before .before .before .equal .ensures) (c .before .before .before .equal2 .ensures) (c .before .equal3 .ensures) h))
 
 pub stop-of-spec : {M : Type 1} → statement M
 stop-of-spec =
     tie.close
     (tie.spec
+    wrapping-add-u8-requires
+    wrapping-add-u8-requires-2
     equal-requires
+    wrapping-add-u8-requires-3
     equal-requires-2
+    wrapping-add-u8-requires-4
     equal-requires-3
     equal-requires-4
-    equal-requires-5
-    equal-requires-6
-    equal-requires-7
     returns)

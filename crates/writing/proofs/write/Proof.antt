@@ -1,5 +1,5 @@
 -- The size, and then the letters where it is in the room.
-use Rattle.writing.proofs.Measuring.{measures-none, measures-are}
+use Rattle.measuring.proofs.Measuring.{measures-none, measures-are}
 use Rattle.writing.proofs.Putting.{writes-is, writes-short, writes-stop}
 use borrow.Author.Needs.{needs}
 use Rattle.writing.proofs.write.Statement.{statement}

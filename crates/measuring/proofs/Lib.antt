@@ -1,0 +1,3 @@
+-- Laws that no one function owns.
+pub mod Finished
+pub mod Measuring
