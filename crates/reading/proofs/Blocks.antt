@@ -1,14 +1,12 @@
 -- The codons of a block, and where they stand in their span.
 use Prim.Native.Nat.{ℕ, _+_, _*_, _-_, _≤_, _<_}
-use Prim.Native.Char.{code}
 use native.Mathlib.Omega.{arith}
-use mathlib.Core.Path.{_≡_, refl, sym, ap, subst, _∙_}
+use mathlib.Core.Path.{_≡_, sym, ap, subst, _∙_}
 use mathlib.Core.Bool.{Bool, true, false}
 use mathlib.Core.List.{List}
 use lib.ListN.{length, getD}
 use borrow.Author.Tests.{eqb-false}
 use Rattle.codon.specs.Plain.{Plain, plainNumber, PlainTable}
-use Rattle.codon.specs.Stops.{isStop}
 use Rattle.blocks.specs.Blocks.{letterFrom, NoStop, AllPlain}
 use Rattle.reading.specs.Reading.{spanLetters, placeOf, blockOf, PlainBlock}
 use Rattle.reading.specs.Letters.{NoStops}

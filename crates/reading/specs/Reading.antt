@@ -3,7 +3,7 @@ use Prim.Native.Nat.{ℕ, suc, _+_, _*_, _-_, _≤_, _<_}
 use mathlib.Core.Path.{_≡_}
 use mathlib.Core.Bool.{Bool, true, false, cond}
 use mathlib.Core.List.{List, [], _∷_, _++_, map, reverse}
-use lib.ListN.{length, drop, getD}
+use lib.ListN.{length, drop}
 use lib.Seq.{slice}
 use Rattle.paper.specs.Bytes.{raw}
 use Rattle.paper.specs.Locations.{Location, Locates, breaks25}

@@ -1,12 +1,11 @@
 -- What is promised of a translation that is written.
-use Prim.Native.Nat.{ℕ, _+_, _*_, _≤_, _<_}
+use Prim.Native.Nat.{ℕ, _+_, _*_, _≤_}
 use mathlib.Core.Path.{_≡_}
-use mathlib.Core.Bool.{Bool, true, false}
 use mathlib.Core.List.{List}
 use lib.ListN.{length, take}
 use lib.Seq.{paste}
 use Rattle.paper.specs.Locations.{Location}
-use Rattle.paper.specs.Translation.{letters, dropStop, hasStopInside}
+use Rattle.paper.specs.Translation.{letters, dropStop}
 use Rattle.paper.specs.Answers.{front}
 use Rattle.reading.specs.declared.Reading.{Reading}
 use Rattle.reading.specs.Reading.{Codes, TextLeft}
