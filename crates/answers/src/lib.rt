@@ -1,14 +1,9 @@
-// The answers of document 01's calls as structs, and the small steps that make them: a part as a stretch of the listing, a kind as a number.
-// And each answer handed over as numbers: every number lent is set in every case.
-// Any part, any stretch, any bytes and any answer may be given.
-// Relies on the crate walk for a part and what may be missing, and on the crate value for a kind.
+// The answers of document 01's calls as structs; and each handed over as numbers: every number lent is set in every case.
+// Any answer may be given. Relies on the paper alone.
 use paper::Verdict;
-use value::Kind;
-use walk::Maybe;
-use walk::Part;
 ghost use mathlib.Core.Path.{_≡_};
 ghost use Rattle.answers.specs.Handed.{Narrow, flagOf, HandsVerdict, HandsSequence, HandsFeature, HandsQualifier, HandsSpans, HandsTranslation};
-ghost use Rattle.answers.specs.Stretches.{noStretch, StretchOf, IsPresent, ValueOf, kindIs, noSpans, PointsAt};
+ghost use Rattle.answers.specs.Stretches.{noStretch, noSpans};
 
 // A stretch of the listing.
 pub struct Stretch {
@@ -22,47 +17,7 @@ pub fn no_stretch() -> Stretch
     Stretch { start: 0, size: 0 }
 }
 
-// The stretch of a part.
-pub fn stretch_of(part: Part) -> Stretch
-    ensures { λ r. ⌜ StretchOf part r ⌝ }
-{
-    if part.to < part.from {
-        return no_stretch();
-    }
-    Stretch {
-        start: part.from,
-        size: part.to - part.from,
-    }
-}
-
-// A stretch of the lent slice itself.
-pub fn shown<'l>(listing: &'l [u8], x: Stretch) -> &'l [u8]
-    ensures { λ r. ⌜ PointsAt (now (listing .entry)) (listing .entry .ptr) x (now r) (r .ptr) ⌝ }
-{
-    let from = x.start;
-    let size = x.size;
-    if listing.len() < from {
-        return &listing[0..0];
-    }
-    if listing.len() - from < size {
-        return &listing[0..0];
-    }
-    &listing[from..from + size]
-}
-
 // ---- a sequence
-
-// 0 none, 1 DNA, 2 RNA, 3 AA.
-pub fn kind_number(kind: Kind) -> u8
-    ensures { λ r. ⌜ r ≡ kindIs kind ⌝ }
-{
-    match kind {
-        Kind::Dna => 1,
-        Kind::Rna => 2,
-        Kind::Aa => 3,
-        Kind::Other => 0,
-    }
-}
 
 // Its kind, and where its residues stand; or the number of a refusal and its place.
 pub struct SequenceAnswer {
@@ -91,24 +46,6 @@ pub struct QualifierAnswer {
     pub name: Stretch,
     pub present: bool,
     pub value: Stretch,
-}
-
-pub fn is_present(value: Maybe) -> bool
-    ensures { λ r. ⌜ IsPresent value r ⌝ }
-{
-    match value {
-        Maybe::Absent => false,
-        Maybe::Present(_) => true,
-    }
-}
-
-pub fn value_stretch(value: Maybe) -> Stretch
-    ensures { λ r. ⌜ ValueOf value r ⌝ }
-{
-    match value {
-        Maybe::Absent => no_stretch(),
-        Maybe::Present(part) => stretch_of(part),
-    }
 }
 
 // ---- spans

@@ -14,7 +14,7 @@ fn judge_date(s: &[u8], m: Maybe) -> Fault
     match m {
         Maybe::Absent => Fault::Clean,
         Maybe::Present(p) => {
-            let ok = value::is_date(scan::bytes_of(s, p.from, p.to));
+            let ok = codes::is_date(scan::bytes_of(s, p.from, p.to));
             judging::unless(ok, 11, p.from)
         }
     }
@@ -27,7 +27,7 @@ fn judge_office(s: &[u8], m: Maybe) -> Fault
     match m {
         Maybe::Absent => Fault::Clean,
         Maybe::Present(p) => {
-            let ok = value::is_office(scan::bytes_of(s, p.from, p.to));
+            let ok = codes::is_office(scan::bytes_of(s, p.from, p.to));
             judging::unless(ok, 12, p.from)
         }
     }
@@ -40,7 +40,7 @@ fn judge_language(s: &[u8], m: Maybe) -> Fault
     match m {
         Maybe::Absent => Fault::Clean,
         Maybe::Present(p) => {
-            let ok = value::is_language(scan::bytes_of(s, p.from, p.to));
+            let ok = codes::is_language(scan::bytes_of(s, p.from, p.to));
             judging::unless(ok, 13, p.from)
         }
     }

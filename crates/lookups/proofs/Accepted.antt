@@ -17,7 +17,7 @@ use Rattle.judging.specs.Sets.{InTexts, InFeature}
 use Rattle.judging.specs.Sets as part
 use Rattle.judging.proofs.Whole.{listing-to}
 use Rattle.translating.specs.Plans.{Keeps}
-use Rattle.answers.specs.Stretches.{kindIs}
+use Rattle.showing.specs.Shown.{kindIs}
 
 pub record Accepts (w : List ℕ) (q : Sequence ℕ) : Type 0 where
   pub short : length w ≤ limit

@@ -13,9 +13,10 @@ use Rattle.items.specs.declared.FoundSequence.{FoundSequence}
 use Rattle.items.specs.declared.FoundFeature.{FoundFeature}
 use Rattle.items.specs.declared.FoundQualifier.{FoundQualifier}
 use Rattle.finding.specs.Finds.{SequenceIs, FeatureIs, QualifierIs}
-use Rattle.answers.specs.Stretches.{noStretch, partIs, Lies, StretchOf, IsPresent, ValueOf, kindIs}
+use Rattle.answers.specs.Stretches.{noStretch, partIs, Lies}
 use Rattle.answers.specs.declared.Stretch.{Stretch}
-use Rattle.answers.proofs.Parts.{lies-none}
+use Rattle.showing.specs.Shown.{StretchOf, IsPresent, ValueOf, kindIs}
+use Rattle.showing.proofs.Parts.{lies-none}
 use Rattle.lookups.proofs.Accepted.{accepts, kind-found}
 
 module _ {w : List ℕ} {k : ℕ} where

@@ -6,7 +6,7 @@ use mathlib.Core.List.{List}
 use Rattle.paper.specs.Answers.{shown, Part, SequenceSays, FeatureSays, QualifierSays, SpansSays, TranslationSays, TranslationsSays}
 use Rattle.paper.proofs.Once as once
 use Rattle.layout.proofs.Wholes.{laid-once}
-use Rattle.answers.specs.Stretches.{Points}
+use Rattle.showing.specs.Shown.{Points}
 use Rattle.lookups.specs.Shows.{ShowsSequence, ShowsFeature, ShowsQualifier}
 
 -- ---- the numbers and the places

@@ -3,8 +3,9 @@ use Prim.Native.Nat.{ℕ}
 use mathlib.Core.Bool.{Bool}
 use mathlib.Core.List.{List}
 use Rattle.paper.specs.Answers.{SequenceSays, FeatureSays, QualifierSays}
-use Rattle.answers.specs.Stretches.{partIs, Lies, PointsAt}
+use Rattle.answers.specs.Stretches.{partIs, Lies}
 use Rattle.answers.specs.declared.Stretch.{Stretch}
+use Rattle.showing.specs.Shown.{PointsAt}
 use Rattle.lookups.specs.Shows.{ShowsSequence, ShowsFeature, ShowsQualifier}
 
 module _ {w : List ℕ} {at : ℕ × ℕ} where

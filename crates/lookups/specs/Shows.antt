@@ -10,7 +10,7 @@ use Rattle.items.specs.Items.{IsSequence}
 use Rattle.items.specs.declared.FoundSequence.{FoundSequence}
 use Rattle.judging.specs.Known.{Knows}
 use Rattle.judging.specs.declared.Known.{Known}
-use Rattle.answers.specs.Stretches.{Points}
+use Rattle.showing.specs.Shown.{Points}
 
 -- what is known of whichever sequence was found so
 pub record KnowsSequence (s : List ℕ) (f : FoundSequence) (r : Known) : Type 0 where

@@ -1,18 +1,13 @@
 // The calls of document 01 that show a piece of an accepted listing: each is the check, a walk to the item, and its answer.
 // Any bytes, any numbers and any room may be given; nobody need check anything first.
-// Relies on the crates answers, finding, translating and lines, and on the parts of the judge for the kind and L.
+// Relies on the crates answers, showing, finding, translating and lines, and on the parts of the judge for the kind and L.
 use answers::FeatureAnswer;
 use answers::QualifierAnswer;
 use answers::SequenceAnswer;
 use answers::SpansAnswer;
 use answers::TranslationAnswer;
-use answers::is_present;
-use answers::kind_number;
 use answers::no_spans;
 use answers::no_stretch;
-use answers::shown;
-use answers::stretch_of;
-use answers::value_stretch;
 use finding::SequenceAt;
 use finding::find_feature;
 use finding::find_qualifier;
@@ -22,6 +17,11 @@ use judging::Known;
 use scan::bytes_of;
 use seeking::FeatureAt;
 use seeking::QualifierAt;
+use showing::is_present;
+use showing::kind_number;
+use showing::shown;
+use showing::stretch_of;
+use showing::value_stretch;
 use spanning::room::Answer;
 use translating::Written;
 ghost use Rattle.paper.specs.Answers.{SequenceSays, FeatureSays, QualifierSays, SpansSays, TranslationSays, TranslationsSays};

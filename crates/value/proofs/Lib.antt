@@ -1,4 +1,3 @@
 pub mod Read
 pub mod Tests
 pub mod Numbers
-pub mod Dates

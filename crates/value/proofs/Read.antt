@@ -7,7 +7,6 @@ use lib.ListN.{getD}
 use lib.Dec.{eqb}
 use borrow.Author.Tests.{ne-eqb}
 use Rattle.paper.specs.Bytes.{bytes, spell, raw, all}
-use Rattle.paper.specs.Values.{Two}
 use Rattle.paper.specs.Rules.{dna, rna, aa, kindName, isSymbol}
 use Rattle.paper.specs.Rules as Rules
 use Rattle.paper.proofs.Texts.{raw-once, raw-append}
@@ -44,10 +43,6 @@ tells-read K itself {w} false n = record { says = λ v e k. n (subst K (sym (e �
 -- the same for a word
 pub tells-word : (x : List ℕ) → raw x ≡ x → {w : List ℕ} (r : Bool) → Tells r (w ≡ x) → OfRead w (λ (v : List ℕ). v ≡ x) r
 tells-word x p r t = tells-read (λ (v : List ℕ). v ≡ x) (λ v e. ap raw e ∙ p ∙ sym e) r t
-
--- and for two letters of a class
-pub tells-two : (f : ℕ → Bool) → Plain f → {w : List ℕ} (r : Bool) → Tells r (Two f w) → OfRead w (Two f) r
-tells-two f plain r t = tells-read (Two f) (λ v x. raw-plain f plain v (x .1)) r t
 
 -- ---- the kinds
 

@@ -7,7 +7,6 @@ use mathlib.Core.Bool.{Bool, true, false, true≢false}
 use mathlib.Core.List.{List, [], _∷_}
 use lib.ListN.{length, getD}
 use Rattle.paper.specs.Bytes.{all}
-use Rattle.paper.specs.Values.{Two}
 use Rattle.paper.proofs.Tables.{listed}
 use Rattle.value.specs.Reading.{Tells}
 
@@ -55,12 +54,3 @@ all-at f (b ∷ w) (suc i) h a = all-at f w i (omega arith) (a .1)
 pub at-all : (f : ℕ → Bool) (w : List ℕ) → ((i : ℕ) → i < length w → f (getD w i 0) ≡ true) → all f w
 at-all f [] h = tt
 at-all f (b ∷ w) h = (h 0 (omega arith), at-all f w (λ i k. h (suc i) (omega arith)))
-
--- two bytes of a class
-module _ (f : ℕ → Bool) (w : List ℕ) where
-  pub two-not : (i : ℕ) → i < 2 → f (getD w i 0) ≡ false → ¬ Two f w
-  two-not i h e x = true≢false (sym (all-at f w i (omega (arith, x .0)) (x .1)) ∙ e)
-
-  pub two-is : length w ≡ 2 → f (getD w 0 0) ≡ true → (r : Bool) → r ≡ f (getD w 1 0) → Tells r (Two f w)
-  two-is h e true q = (h, subst (all f) (sym (spread 2 w h)) (e, (sym q, tt)))
-  two-is h e false q = two-not 1 (omega arith) (sym q)

@@ -1,3 +1,2 @@
 -- What the crate's promises cite.
 pub mod Reading
-pub mod Parts
