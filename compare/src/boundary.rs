@@ -124,10 +124,7 @@ fn checked(rule: u32, place: u64, counts: [u64; 5]) -> Result<Counts, Refusal> {
             judged,
             unjudged,
         }),
-        (1.., _, [0, 0, 0, 0, 0]) => Err(Refusal {
-            rule,
-            place: at,
-        }),
+        (1.., _, [0, 0, 0, 0, 0]) => Err(Refusal { rule, place: at }),
         _ => Err(Refusal {
             rule: u32::MAX,
             place: at,
