@@ -5,7 +5,7 @@ use mathlib.Core.Bool.{Bool}
 use mathlib.Core.Logic.{inr}
 use mathlib.Core.List.{List}
 use Rattle.paper.specs.Values.{Number}
-use Rattle.paper.specs.Rules.{Broken, Least, Earlier}
+use Rattle.paper.specs.Rules.{Broken, Least, Earlier, InSequence, InHeader}
 use Rattle.paper.specs.Answers.{CheckSays}
 use Rattle.paper.specs.Answers as paper
 use Rattle.paper.specs.declared.Fault.{Fault}
@@ -16,7 +16,7 @@ use Rattle.paper.proofs.Firsts.{_or_}
 use Rattle.scan.specs.Parts.{Shows}
 use Rattle.value.specs.Reading.{OfRead}
 use Rattle.layout.specs.Says.{Lays, Refuses, too-long, strays}
-use Rattle.judging.specs.Sets.{Firsts, Some, InSequence, InHeader, unlessOf}
+use Rattle.judging.specs.Sets.{Firsts, Some, unlessOf}
 use Rattle.judging.proofs.Faults.{firsts-or, firsts-as}
 use Rattle.judging.proofs.Values.{text-fault}
 use Rattle.judging.proofs.Whole.{InTotal, InListing, listing-to, listing-of}

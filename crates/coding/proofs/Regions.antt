@@ -11,7 +11,7 @@ use Rattle.paper.specs.Bytes.{raw, all}
 use Rattle.paper.specs.Tree.{Feature, Sequence, qualifiersOf}
 use Rattle.paper.specs.Locations.{Location, Locates, breaks25}
 use Rattle.paper.specs.Translation.{dropStop, hasStopInside}
-use Rattle.paper.specs.Rules.{L, Kind, isSymbol, Before, CodonStart, Judged}
+use Rattle.paper.specs.Rules.{L, Kind, isSymbol, Before, CodonStart, Judged, InCoding, rule-27, rule-28}
 use Rattle.paper.specs.Answers.{Translates}
 use Rattle.paper.specs.declared.Fault.{Fault}
 use Rattle.paper.specs.declared.Fault.the-variants.{Clean, At}
@@ -27,7 +27,7 @@ use Rattle.location.specs.declared.judging.Verdict.{Verdict}
 use Rattle.location.specs.declared.judging.Verdict.the-variants.{Bad, Is}
 use Rattle.reading.specs.Reading.{Codes}
 use Rattle.reading.specs.Letters.{lettersOf}
-use Rattle.judging.specs.Sets.{Firsts, Some, InCoding, rule-27, rule-28}
+use Rattle.judging.specs.Sets.{Firsts, Some}
 use Rattle.judging.specs.Known.{Knows}
 use Rattle.judging.specs.declared.Known.{Known}
 use Rattle.judging.proofs.Bytes.{part-shows}

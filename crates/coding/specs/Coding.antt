@@ -7,14 +7,14 @@ use lib.ListN.{drop}
 use Rattle.paper.specs.Form.{each}
 use Rattle.paper.specs.Layout.{child, qualifier}
 use Rattle.paper.specs.Tree.{Sequence, Feature, qualifiersOf}
-use Rattle.paper.specs.Rules.{L, Coding, CodonStart, Unjudged}
+use Rattle.paper.specs.Rules.{L, Coding, CodonStart, Unjudged, InCoding}
 use Rattle.scan.specs.Follow.{Starts, closing}
 use Rattle.walk.specs.Stands.{Stands, IsPart}
 use Rattle.walk.specs.declared.Part.{Part}
 use Rattle.value.specs.Reading.{Tells}
 use Rattle.location.specs.Judging.{Judged}
 use Rattle.location.specs.declared.judging.Verdict.{Verdict}
-use Rattle.judging.specs.Sets.{Firsts, InCoding}
+use Rattle.judging.specs.Sets.{Firsts}
 use Rattle.judging.specs.Known.{Knows}
 use Rattle.judging.specs.declared.Known.{Known}
 use Rattle.paper.specs.declared.Fault.{Fault}

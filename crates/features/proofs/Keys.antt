@@ -9,7 +9,7 @@ use lib.ListN.{getD}
 use Rattle.paper.specs.Bytes.{bytes, raw}
 use Rattle.paper.specs.Tree.{Text, Sequence, Feature}
 use Rattle.paper.specs.Locations.{Location, Locates, breaks25, hasComplement}
-use Rattle.paper.specs.Rules.{L, Kind, dna, rna, aa, IsKind, Keyed, sourceName, Coding}
+use Rattle.paper.specs.Rules.{L, Kind, dna, rna, aa, IsKind, Keyed, sourceName, Coding, InLocation, rule-24, rule-25, rule-26}
 use Rattle.paper.specs.declared.Fault.the-variants.{Clean, At}
 use Rattle.paper.proofs.Locate.{locates-once}
 use Rattle.value.specs.Reading.{Tells, KindIs, Names}
@@ -19,7 +19,7 @@ use Rattle.value.proofs.Read.{tells-word}
 use Rattle.location.specs.Judging.{Judged}
 use Rattle.location.specs.declared.judging.Verdict.{Verdict}
 use Rattle.location.specs.declared.judging.Verdict.the-variants.{Bad, Is}
-use Rattle.judging.specs.Sets.{Firsts, InLocation, rule-24, rule-25, rule-26}
+use Rattle.judging.specs.Sets.{Firsts}
 use Rattle.judging.proofs.Moltypes.{kind-once}
 use Rattle.features.specs.Featured.{ifAa, placeFault, IsSource, NamesSource}
 

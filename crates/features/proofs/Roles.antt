@@ -8,7 +8,7 @@ use Rattle.paper.specs.Bytes.{isBlank, raw}
 use Rattle.paper.specs.Form.{each}
 use Rattle.paper.specs.Layout.{child, qualifier, feature}
 use Rattle.paper.specs.Tree.{Sequence, Feature, qualifiersOf}
-use Rattle.paper.specs.Rules.{L, Kind, IsKind, Coding, Unjudged, Earlier}
+use Rattle.paper.specs.Rules.{L, Kind, IsKind, Coding, Unjudged, Earlier, InLocation, InCoding, rule-27, rule-28, InFeature}
 use Rattle.paper.specs.declared.Fault.{Fault}
 use Rattle.paper.specs.declared.Fault.the-variants.{Clean}
 use Rattle.scan.specs.Follow.{Not, Starts, closing}
@@ -22,7 +22,7 @@ use Rattle.value.proofs.Tests.{told}
 use Rattle.location.specs.Judging.{Judged, JudgesPart}
 use Rattle.location.specs.declared.judging.Verdict.{Verdict}
 use Rattle.location.proofs.Verdicts.{judged-by}
-use Rattle.judging.specs.Sets.{Firsts, InLocation, InCoding, rule-27, rule-28, InFeature}
+use Rattle.judging.specs.Sets.{Firsts}
 use Rattle.judging.specs.Known.{Knows}
 use Rattle.judging.specs.declared.Known.{Known}
 use Rattle.judging.proofs.Bytes.{part-shows, text-shown}

@@ -7,7 +7,7 @@ use mathlib.Core.Logic.{inl, inr}
 use mathlib.Core.List.{List, [], _∷_}
 use Rattle.paper.specs.Lists.{Nth, _∈_, Count, end, has, lacks}
 use Rattle.paper.specs.Tree.{Sequence, Feature, featuresOf}
-use Rattle.paper.specs.Rules.{Kind, dna, rna, aa, IsKind, Keyed, sourceName, OneSource, Source, tablePlace}
+use Rattle.paper.specs.Rules.{Kind, dna, rna, aa, IsKind, Keyed, sourceName, OneSource, Source, tablePlace, InSource, InFeature, InTable}
 use Rattle.paper.specs.declared.Fault.{Fault}
 use Rattle.paper.specs.declared.Fault.the-variants.{Clean, At}
 use Rattle.paper.proofs.Lists.{count-once}
@@ -15,8 +15,8 @@ use Rattle.paper.proofs.Firsts.{_or_}
 use Rattle.value.specs.Reading.{KindIs}
 use Rattle.value.specs.declared.Kind as code
 use Rattle.value.specs.declared.Kind.the-variants as kind
-use Rattle.judging.specs.Sets.{Faults, Firsts, Bad, Some, InSource, InFeature, InTable}
-use Rattle.judging.specs.Sets as part
+use Rattle.judging.specs.Sets.{Faults, Firsts, Bad, Some}
+use Rattle.paper.specs.Rules as part
 use Rattle.judging.proofs.Faults.{firsts-or, firsts-as, firsts-one}
 use Rattle.judging.proofs.Moltypes.{kind-once}
 use Rattle.features.specs.Featured.{IsSource, Tallied, WithSource, Finishes}

@@ -9,10 +9,10 @@ use lib.ListN.{length, length-append}
 use borrow.Author.Tests.{lt-ltb, le-ltb}
 use Rattle.paper.specs.Lists.{Nth, _∈_, Count, end, has, lacks}
 use Rattle.paper.specs.Tree.{Sequence, Feature}
-use Rattle.paper.specs.Rules.{Kind, IsKind, Keyed, sourceName, Unjudged, Source}
+use Rattle.paper.specs.Rules.{Kind, IsKind, Keyed, sourceName, Unjudged, Source, InSource, InFeature}
 use Rattle.paper.specs.declared.Fault.{Fault}
 use Rattle.paper.proofs.Firsts.{_or_}
-use Rattle.judging.specs.Sets.{Firsts, Some, InSource, InFeature}
+use Rattle.judging.specs.Sets.{Firsts, Some}
 use Rattle.judging.proofs.Faults.{some-none, some-more, nth-split}
 use Rattle.judging.proofs.Seen.{count-has, count-lacks}
 use Rattle.source.specs.Sources.{Capped}

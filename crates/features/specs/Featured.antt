@@ -10,7 +10,7 @@ use Rattle.paper.specs.Lists.{_∈_, Count}
 use Rattle.paper.specs.Form.{each}
 use Rattle.paper.specs.Layout.{child, feature}
 use Rattle.paper.specs.Tree.{Sequence, Feature, featuresOf}
-use Rattle.paper.specs.Rules.{Kind, IsKind, Keyed, sourceName, Coding, Unjudged, Earlier}
+use Rattle.paper.specs.Rules.{Kind, IsKind, Keyed, sourceName, Coding, Unjudged, Earlier, InSource, InFeature, InTable}
 use Rattle.paper.specs.declared.Fault.{Fault}
 use Rattle.paper.specs.declared.Fault.the-variants.{Clean, At}
 use Rattle.scan.specs.Follow.{Not, Starts, closing}
@@ -22,7 +22,7 @@ use Rattle.value.specs.declared.Kind as code
 use Rattle.value.specs.declared.Kind.the-variants as kind
 use Rattle.location.specs.declared.judging.Verdict.{Verdict}
 use Rattle.location.specs.declared.judging.Verdict.the-variants.{Bad, Is}
-use Rattle.judging.specs.Sets.{Firsts, Some, InSource, InFeature, InTable}
+use Rattle.judging.specs.Sets.{Firsts, Some}
 use Rattle.judging.specs.Known.{Knows}
 use Rattle.judging.specs.declared.Known.{Known}
 use Rattle.source.specs.Sources.{Capped}

@@ -11,7 +11,7 @@ use Rattle.paper.specs.Lists.{Nth, _∈_, gather, present}
 use Rattle.paper.specs.Tree.{Text, Spoken, Party, Identification, Heading, reference, application, Listing}
 use Rattle.paper.specs.Layout.{child, leaf, spoken, sequence}
 use Rattle.paper.specs.Values.{Date, Two, isUpper, isLower}
-use Rattle.paper.specs.Rules.{Earlier, identifiedIn, dates, offices, languages}
+use Rattle.paper.specs.Rules.{Earlier, identifiedIn, dates, offices, languages, InHeader, rule-10, rule-11, rule-12, rule-13}
 use Rattle.paper.specs.declared.Fault.{Fault}
 use Rattle.paper.specs.declared.Fault.the-variants.{Clean}
 use Rattle.paper.proofs.Firsts.{_or_}
@@ -31,7 +31,7 @@ use Rattle.walk.proofs.Elements.{leaf-leads}
 use Rattle.items.proofs.Sequences.{sequence-leads}
 use Rattle.heading.specs.Header.{officeIn, filedIn, languageIn, identifiedBy, FindsSpoken, Behind, FindsHeader}
 use Rattle.heading.specs.declared.FoundHeader.{FoundHeader}
-use Rattle.judging.specs.Sets.{Firsts, Bad, InHeader, rule-10, rule-11, rule-12, rule-13, unlessOf}
+use Rattle.judging.specs.Sets.{Firsts, Bad, unlessOf}
 use Rattle.judging.proofs.Faults.{firsts-or, firsts-as, firsts-none}
 use Rattle.judging.proofs.Values.{text-fault}
 use Rattle.header.specs.Headers.{Wrong, JudgesMaybe, JudgesVersion, JudgesDates, JudgesOffices, codes, JudgesTitles, JudgesLanguages, JudgesHeader}

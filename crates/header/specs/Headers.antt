@@ -10,14 +10,14 @@ use Rattle.paper.specs.Form.{each}
 use Rattle.paper.specs.Layout.{LaidOut, child, spoken, sequence}
 use Rattle.paper.specs.Tree.{Text, Spoken, Listing}
 use Rattle.paper.specs.Values.{Date, Two, isUpper, isLower}
-use Rattle.paper.specs.Rules.{dates, offices, languages}
+use Rattle.paper.specs.Rules.{dates, offices, languages, InHeader}
 use Rattle.paper.specs.declared.Fault.{Fault}
 use Rattle.scan.specs.Follow.{Starts, closing}
 use Rattle.walk.specs.Stands.{Stands, IsPart, MaybeIs}
 use Rattle.walk.specs.declared.Part.{Part}
 use Rattle.walk.specs.declared.Maybe.{Maybe}
 use Rattle.heading.specs.Header.{officeIn, filedIn, languageIn, identifiedBy}
-use Rattle.judging.specs.Sets.{Faults, Firsts, Bad, InHeader}
+use Rattle.judging.specs.Sets.{Faults, Firsts, Bad}
 use Rattle.header.specs.declared.Spoke.{Spoke}
 use Rattle.header.specs.declared.Headed.{Headed}
 

@@ -6,15 +6,13 @@ use mathlib.Core.List.{List}
 use lib.ListN.{length}
 use Rattle.paper.specs.Lists.{_∈_}
 use Rattle.paper.specs.Tree.{Sequence, Feature, featuresOf}
-use Rattle.paper.specs.Rules.{dna, rna, aa, IsKind}
+use Rattle.paper.specs.Rules.{dna, rna, aa, IsKind, InTexts, InFeature}
 use Rattle.paper.specs.Rules as Rules
 use Rattle.paper.specs.Answers.{limit, give, kindNumber, FindsSequence}
 use Rattle.paper.specs.Answers as paper
 use Rattle.value.specs.Reading.{KindIs}
 use Rattle.value.specs.declared.Kind.{Kind}
 use Rattle.value.specs.declared.Kind.the-variants.{Dna, Rna, Aa, Other}
-use Rattle.judging.specs.Sets.{InTexts, InFeature}
-use Rattle.judging.specs.Sets as part
 use Rattle.judging.proofs.Whole.{listing-to}
 use Rattle.translating.specs.Plans.{Keeps}
 use Rattle.showing.specs.Shown.{kindIs}
@@ -28,8 +26,8 @@ pub accepts : {w : List ℕ} {k : ℕ} {q : Sequence ℕ} → FindsSequence w k 
 accepts {k = k} {q} (paper.sequence {l} (paper.accepted short laid clean) i s) =
     record {
       short = short;
-      texts = λ n p h. clean n p (listing-to l n p (inr (inr (k, q, i, part.texts s h))));
-      features = λ f m n p h. clean n p (listing-to l n p (inr (inr (k, q, i, part.table s (part.feature f m h)))));
+      texts = λ n p h. clean n p (listing-to l n p (inr (inr (k, q, i, Rules.texts s h))));
+      features = λ f m n p h. clean n p (listing-to l n p (inr (inr (k, q, i, Rules.table s (Rules.feature f m h)))));
     }
 
 pub keeps-feature : {w : List ℕ} {q : Sequence ℕ} → Accepts w q → (f : Feature ℕ) → f ∈ featuresOf q → Keeps q f
@@ -45,4 +43,4 @@ pub kind-found : {w : List ℕ} {q : Sequence ℕ} (c : Kind) → Accepts w q �
 kind-found Dna a h = record { kind = dna; is = h; number = refl }
 kind-found Rna a h = record { kind = rna; is = h; number = refl }
 kind-found Aa a h = record { kind = aa; is = h; number = refl }
-kind-found {q = q} Other a h = absurd (a .texts 16 (q .moltype .place) (part.rule-16 h))
+kind-found {q = q} Other a h = absurd (a .texts 16 (q .moltype .place) (Rules.rule-16 h))

@@ -5,13 +5,13 @@ use mathlib.Core.Bool.{true}
 use mathlib.Core.Logic.{inl}
 use mathlib.Core.List.{List}
 use lib.ListN.{length}
+use Rattle.paper.specs.Rules.{rule-24, rule-25}
 use Rattle.paper.specs.Bytes.{raw}
 use Rattle.paper.specs.Locations.{Location, Locates, spans, operatorNumber, breaks25}
 use Rattle.paper.specs.Answers.{refuse, give, triples, front, FindsFeature, FindsLocation, SpansSays}
 use Rattle.paper.specs.Answers as paper
 use Rattle.items.specs.declared.FoundSequence.{FoundSequence}
 use Rattle.items.specs.declared.FoundFeature.{FoundFeature}
-use Rattle.judging.specs.Sets.{rule-24, rule-25}
 use Rattle.judging.specs.Known.{Knows}
 use Rattle.judging.specs.declared.Known.{Known}
 use Rattle.judging.proofs.Bytes.{text-shown}

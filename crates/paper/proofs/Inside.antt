@@ -13,7 +13,7 @@ use Rattle.paper.specs.Bytes.{bytes}
 use Rattle.paper.specs.Lists.{Nth, _∈_}
 use Rattle.paper.specs.Tree.{Feature, Table, Sequence, Listing, featuresIn, featuresOf}
 use Rattle.paper.specs.Locations.{Piece, point, before, after, range, site, Member, Location, one, many, pieceText, complement, memberText, membersText, locationText, Locates, Span, spanOf, memberSpan, spans, membersOf, any, isWrong, breaks25}
-use Rattle.paper.specs.Rules.{L, Skipped, rule-25, rule-29}
+use Rattle.paper.specs.Rules.{L, Skipped, sequence, table, feature, rule-25, rule-29}
 use Rattle.paper.specs.Answers.{give, Checked, accepted}
 use Rattle.paper.proofs.Decimal.{number-positive}
 use Rattle.paper.proofs.Lists.{of-map}
@@ -141,9 +141,9 @@ pub accepted-inside : {w : List ℕ} {l : Listing ℕ} → Checked w (give l) �
 accepted-inside {w} {l} (accepted short laid clean) s i f j t h = go (List-discrete ℕ-discrete (s .residues .read) (bytes "000"))
   where
     kept : ¬ Skipped s → (b : Bool) → breaks25 (L s) t ≡ b → breaks25 (L s) t ≡ false
-    kept u true e = absurd (clean 25 (f .location .place) (rule-25 s (record { listed = i; unskipped = u }) f j t h e))
+    kept u true e = absurd (clean 25 (f .location .place) (sequence (suc (i .0)) s (i .0, refl, i .1) (table u (feature f j (inl (rule-25 t h e))))))
     kept u false e = e
 
     go : Dec (Skipped s) → (x : Span) → x ∈ spans t → Inside (L s) x
-    go (yes k) = absurd (clean 29 (s .residues .place) (rule-29 s i k (λ z. no-features (s .table) f j (z .4))))
+    go (yes k) = absurd (clean 29 (s .residues .place) (sequence (suc (i .0)) s (i .0, refl, i .1) (rule-29 k (λ z. no-features (s .table) f j (z .4)))))
     go (no u) = spans-inside (L s) t h (kept u (breaks25 (L s) t) refl)

@@ -11,7 +11,7 @@ use Rattle.paper.specs.Lists.{Count, end}
 use Rattle.paper.specs.Layout.{sequence}
 use Rattle.paper.specs.Tree.{Sequence, Table, featuresIn}
 use Rattle.paper.specs.Values.{Number}
-use Rattle.paper.specs.Rules.{Skipped, Earlier}
+use Rattle.paper.specs.Rules.{Skipped, Earlier, InTexts, InTable, InSequence, rule-15, rule-29, texts, table, Empty}
 use Rattle.paper.specs.declared.Fault.{Fault}
 use Rattle.paper.proofs.Firsts.{_or_}
 use Rattle.walk.specs.Stands.{isThere}
@@ -20,7 +20,7 @@ use Rattle.items.specs.declared.FoundSequence.{FoundSequence}
 use Rattle.items.specs.declared.FoundTable.{FoundTable}
 use Rattle.value.specs.Reading.{Tells}
 use Rattle.value.proofs.Tests.{told}
-use Rattle.judging.specs.Sets.{Firsts, Bad, InTexts, InTable, InSequence, rule-15, rule-29, texts, table, Empty, unlessOf}
+use Rattle.judging.specs.Sets.{Firsts, Bad, unlessOf}
 use Rattle.judging.specs.declared.Known.{Known}
 use Rattle.judging.proofs.Faults.{firsts-or, firsts-as, firsts-unless}
 use Rattle.texts.specs.Texts.{KnowsOf, JudgesNumber, TellsSkipped, TellsEmpty, JudgesTexts}

@@ -9,14 +9,14 @@ use Rattle.paper.specs.Bytes.{bytes, isBlank}
 use Rattle.paper.specs.Lists.{Count, end, has, lacks}
 use Rattle.paper.specs.Layout.{child, sequence}
 use Rattle.paper.specs.Tree.{Sequence, Feature, featuresOf}
-use Rattle.paper.specs.Rules.{Skipped}
+use Rattle.paper.specs.Rules.{Skipped, InSequence}
 use Rattle.paper.specs.Answers.{limit, JudgedCds, UnjudgedCds}
 use Rattle.paper.proofs.Lists.{count-map, length-map}
 use Rattle.scan.specs.Follow.{Not, closing}
 use Rattle.walk.specs.Stands.{There, Over}
 use Rattle.items.proofs.Sequences.{sequence-leads}
 use Rattle.value.specs.Reading.{Tells}
-use Rattle.judging.specs.Sets.{Firsts, Some, InSequence}
+use Rattle.judging.specs.Sets.{Firsts, Some}
 use Rattle.judging.proofs.Faults.{some-none, some-more, nth-front, nth-last}
 use Rattle.judging.proofs.Seen.{Seen, seen-none, seen-next, seen-stuck, seen-all, count-has, count-lacks}
 use Rattle.features.specs.Featured.{JudgedIn, UnjudgedIn}

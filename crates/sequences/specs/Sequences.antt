@@ -9,13 +9,13 @@ use Rattle.paper.specs.Lists.{Count, gather}
 use Rattle.paper.specs.Form.{each}
 use Rattle.paper.specs.Layout.{child, sequence}
 use Rattle.paper.specs.Tree.{Sequence, Feature, featuresOf}
-use Rattle.paper.specs.Rules.{Skipped, Earlier}
+use Rattle.paper.specs.Rules.{Skipped, Earlier, InSequence}
 use Rattle.paper.specs.Answers.{limit, JudgedCds, UnjudgedCds}
 use Rattle.paper.specs.declared.Fault.the-variants.{Clean}
 use Rattle.scan.specs.Follow.{Not, Starts, closing}
 use Rattle.walk.specs.Stands.{Stands}
 use Rattle.value.specs.Reading.{Tells}
-use Rattle.judging.specs.Sets.{Firsts, Some, InSequence}
+use Rattle.judging.specs.Sets.{Firsts, Some}
 use Rattle.features.specs.Featured.{JudgedIn, UnjudgedIn}
 use Rattle.sequences.specs.declared.One.{One}
 use Rattle.sequences.specs.declared.Total.{Total}

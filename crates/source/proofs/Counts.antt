@@ -10,7 +10,7 @@ use mathlib.Core.List.{List, [], _∷_, _++_}
 use Rattle.paper.specs.Bytes.{bytes, raw}
 use Rattle.paper.specs.Lists.{Count, end}
 use Rattle.paper.specs.Tree.{Sequence, Feature, Qualifier, qualifiersOf}
-use Rattle.paper.specs.Rules.{L, Kind, aa, Named, organismName, molTypeName, Whole, Earlier}
+use Rattle.paper.specs.Rules.{L, Kind, aa, Named, organismName, molTypeName, Whole, Earlier, InSource, rule-22, rule-23}
 use Rattle.paper.specs.declared.Fault.{Fault}
 use Rattle.paper.proofs.Lists.{count-once}
 use Rattle.paper.proofs.Firsts.{_or_}
@@ -21,7 +21,7 @@ use Rattle.value.specs.declared.Kind.the-variants as kind
 use Rattle.value.proofs.Read.{tells-word}
 use Rattle.walk.specs.Stands.{IsPart}
 use Rattle.walk.specs.declared.Part.{Part}
-use Rattle.judging.specs.Sets.{Firsts, Bad, InSource, rule-22, rule-23, unlessOf}
+use Rattle.judging.specs.Sets.{Firsts, Bad, unlessOf}
 use Rattle.judging.specs.Known.{CodeOf}
 use Rattle.judging.specs.declared.Known.{Known}
 use Rattle.judging.proofs.Bytes.{part-shows}

@@ -9,11 +9,11 @@ use Rattle.paper.specs.Form.{each}
 use Rattle.paper.specs.Layout.{child, qualifier}
 use Rattle.paper.specs.Tree.{Sequence, Feature, Qualifier, qualifiersOf}
 use Rattle.paper.specs.Lists.{Count}
-use Rattle.paper.specs.Rules.{Kind, IsKind, Named}
+use Rattle.paper.specs.Rules.{Kind, IsKind, Named, InSource}
 use Rattle.scan.specs.Follow.{Starts, closing}
 use Rattle.walk.specs.Stands.{Stands, IsPart}
 use Rattle.walk.specs.declared.Part.{Part}
-use Rattle.judging.specs.Sets.{Firsts, InSource}
+use Rattle.judging.specs.Sets.{Firsts}
 use Rattle.judging.specs.Known.{Knows}
 use Rattle.judging.specs.declared.Known.{Known}
 use Rattle.value.specs.Reading.{Tells}

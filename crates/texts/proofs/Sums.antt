@@ -9,7 +9,7 @@ use Rattle.paper.specs.Bytes.{bytes, raw, all}
 use Rattle.paper.specs.Lists.{Count}
 use Rattle.paper.specs.Tree.{Sequence}
 use Rattle.paper.specs.Values.{Number}
-use Rattle.paper.specs.Rules.{L, Kind, dna, rna, aa, IsKind, isSymbol, undefined, fewest, Earlier}
+use Rattle.paper.specs.Rules.{L, Kind, dna, rna, aa, IsKind, isSymbol, undefined, fewest, Earlier, InResidues, InTexts, rule-16, rule-17, residues, rule-18, rule-19, rule-20}
 use Rattle.paper.specs.declared.Fault.{Fault}
 use Rattle.paper.specs.declared.Fault.the-variants.{Clean, At}
 use Rattle.paper.proofs.Lists.{count-once}
@@ -22,14 +22,13 @@ use Rattle.value.proofs.Read.{tells-word, raw-symbols}
 use Rattle.value.proofs.Tests.{told}
 use Rattle.residues.specs.Residues.{HasDefined}
 use Rattle.walk.specs.declared.Part.{Part}
-use Rattle.judging.specs.Sets.{Firsts, Bad, InTexts, rule-16, rule-17, rule-18, rule-19, rule-20, unlessOf}
+use Rattle.judging.specs.Sets.{Firsts, Bad, unlessOf}
 use Rattle.judging.specs.declared.Known.{Known}
 use Rattle.judging.proofs.Bytes.{part-shows}
 use Rattle.judging.proofs.Faults.{firsts-or, firsts-as, firsts-none, firsts-unless}
 use Rattle.judging.proofs.Moltypes.{kind-once}
 use Rattle.judging.proofs.Values.{text-fault}
-use Rattle.texts.specs.Texts.{InResidues, JudgesNumber, TellsSkipped, JudgesSymbols, JudgesResidues, JudgesTexts, namesOne}
-use Rattle.texts.specs.Texts as own
+use Rattle.texts.specs.Texts.{JudgesNumber, TellsSkipped, JudgesSymbols, JudgesResidues, JudgesTexts, namesOne}
 
 -- ---- rules 18 and 19
 
@@ -42,25 +41,25 @@ foreign {place = place} h =
           record {
             is =
                 record {
-                  broken = subst (λ (a : ℕ). InResidues q 18 a) (sym p) (own.rule-18 k i t');
+                  broken = subst (λ (a : ℕ). InResidues q 18 a) (sym p) (rule-18 k i t');
                   least = λ m a x. inr (p ∙ same q m a x, least q m a x);
                 };
           };
     }
   where
     same : (q : _) (m a : ℕ) → InResidues q m a → q .residues .place ≡ a
-    same q m a (own.rule-18 k i n) = refl
-    same q m a (own.rule-19 k i n c l) = refl
+    same q m a (rule-18 k i n) = refl
+    same q m a (rule-19 k i n c l) = refl
 
     least : (q : _) (m a : ℕ) → InResidues q m a → 18 ≤ m
-    least q m a (own.rule-18 k i n) = omega arith
-    least q m a (own.rule-19 k i n c l) = omega arith
+    least q m a (rule-18 k i n) = omega arith
+    least q m a (rule-19 k i n c l) = omega arith
 
 -- then rule 18 holds, and what is left is rule 19
 only-19 : (q : Sequence ℕ) (k : Kind) (n : ℕ) → IsKind k q → all (isSymbol k) (q .residues .read) → Count (λ (b : ℕ). ¬ (b ≡ undefined k)) (q .residues .read) n
     → (m a : ℕ) → InResidues q m a → (m ≡ 19) × (a ≡ q .residues .place) × (n < fewest k)
-only-19 q k n i t c m a (own.rule-18 j g x) = absurd (x (subst (λ (y : Kind). all (isSymbol y) (q .residues .read)) (kind-once (q .moltype .read) k j i g) t))
-only-19 q k n i t c m a (own.rule-19 j g x y l) =
+only-19 q k n i t c m a (rule-18 j g x) = absurd (x (subst (λ (y : Kind). all (isSymbol y) (q .residues .read)) (kind-once (q .moltype .read) k j i g) t))
+only-19 q k n i t c m a (rule-19 j g x y l) =
     let e = kind-once (q .moltype .read) j k g i in
     let y' = subst (λ (z : Kind). Count (λ (b : ℕ). ¬ (b ≡ undefined z)) (q .residues .read) x) e y in
     (refl, refl, subst (λ (z : Kind). n < fewest z) e (subst (λ (z : ℕ). z < fewest j) (count-once y' c) l))
@@ -85,7 +84,7 @@ module _ {w : List ℕ} {none few : ℕ} {clean ok : Bool} (h : clean ≡ true) 
             record {
               is =
                   record {
-                    broken = subst (λ (z : ℕ). InResidues q 19 z) (sym p) (own.rule-19 k i n c (omega (arith, l, f)));
+                    broken = subst (λ (z : ℕ). InResidues q 19 z) (sym p) (rule-19 k i n c (omega (arith, l, f)));
                     least = λ m b x. let y = only-19 q k n i a c m b x in inr (p ∙ sym (y .1), omega (arith, y .0));
                   };
             };
@@ -112,8 +111,8 @@ pub residues-other : {w : List ℕ} {place : ℕ} {clean : Bool} → JudgesResid
 residues-other = record { says = λ q h p e t. firsts-none (InResidues q) (λ m a x. none-of q h m a x) }
   where
     none-of : (q : Sequence ℕ) → ((k : Kind) → ¬ Names (q .moltype .read) k) → (m a : ℕ) → ¬ InResidues q m a
-    none-of q h m a (own.rule-18 k i n) = h k i
-    none-of q h m a (own.rule-19 k i n c l) = h k i
+    none-of q h m a (rule-18 k i n) = h k i
+    none-of q h m a (rule-19 k i n c l) = h k i
 
 -- ---- the others
 
@@ -158,8 +157,7 @@ texts-judged {known = known} {one} {right} pat {a} {b} {c} {d} {r} e f h1 sb tb 
         (_or_ (InResidues q) (Bad 20 (q .declared .place) (Number (L q) (q .declared .read)))) n p → InTexts q n p
     to q n p (inl (inl x)) = rw (x .0, x .1) (rule-16 (λ j h. x .2 (j, h)))
     to q n p (inl (inr x)) = rw (x .0, x .1) (rule-17 (x .2))
-    to q n p (inr (inl (own.rule-18 k i t))) = rule-18 k i t
-    to q n p (inr (inl (own.rule-19 k i m c l))) = rule-19 k i m c l
+    to q n p (inr (inl x)) = residues x
     to q n p (inr (inr x)) = rw (x .0, x .1) (rule-20 (x .2))
 
     of : (q : Sequence ℕ) (n p : ℕ) → InTexts q n p
@@ -167,6 +165,5 @@ texts-judged {known = known} {one} {right} pat {a} {b} {c} {d} {r} e f h1 sb tb 
         (_or_ (InResidues q) (Bad 20 (q .declared .place) (Number (L q) (q .declared .read)))) n p
     of q n p (rule-16 h) = inl (inl (refl, refl, λ x. h (x .0) (x .1)))
     of q n p (rule-17 h) = inl (inr (refl, refl, h))
-    of q n p (rule-18 k i t) = inr (inl (own.rule-18 k i t))
-    of q n p (rule-19 k i m c l) = inr (inl (own.rule-19 k i m c l))
+    of q n p (residues x) = inr (inl x)
     of q n p (rule-20 h) = inr (inr (refl, refl, h))

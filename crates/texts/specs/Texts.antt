@@ -1,15 +1,14 @@
 -- What is promised of the judgement of a sequence's texts.
-use Prim.Native.Nat.{ℕ, _≤_, _<_}
+use Prim.Native.Nat.{ℕ, _≤_}
 use mathlib.Core.Path.{_≡_}
 use mathlib.Core.Bool.{Bool, true, false}
 use mathlib.Core.List.{List, []}
 use mathlib.Core.Option.{none}
 use lib.ListN.{length}
 use Rattle.paper.specs.Bytes.{raw, all}
-use Rattle.paper.specs.Lists.{Count}
 use Rattle.paper.specs.Tree.{Text, Sequence}
 use Rattle.paper.specs.Values.{Number}
-use Rattle.paper.specs.Rules.{Skipped, IsKind, isSymbol, undefined, fewest}
+use Rattle.paper.specs.Rules.{Skipped, IsKind, isSymbol, undefined, fewest, InResidues, InTexts, Empty}
 use Rattle.paper.specs.Rules as Rules
 use Rattle.paper.specs.Answers.{limit}
 use Rattle.paper.specs.declared.Fault.{Fault}
@@ -19,7 +18,7 @@ use Rattle.value.specs.declared.Kind.the-variants.{Dna, Rna, Aa, Other}
 use Rattle.residues.specs.Residues.{symbolClass}
 use Rattle.walk.specs.Stands.{IsPart, isThere}
 use Rattle.walk.specs.declared.Part.{Part}
-use Rattle.judging.specs.Sets.{Firsts, Bad, InTexts, Empty}
+use Rattle.judging.specs.Sets.{Firsts, Bad}
 use Rattle.judging.specs.Known.{Knows, CodeOf}
 use Rattle.judging.specs.declared.Known.{Known}
 
@@ -64,12 +63,7 @@ namesOne Rna = true
 namesOne Aa = true
 namesOne Other = false
 
--- rules 18 and 19
-pub data InResidues (q : Sequence ℕ) : ℕ → ℕ → Type 0 where
-  rule-18 : (k : Rules.Kind) → IsKind k q → ¬ all (isSymbol k) (q .residues .read) → InResidues q 18 (q .residues .place)
-  rule-19 : (k : Rules.Kind) → IsKind k q → (n : ℕ) → Count (λ (b : ℕ). ¬ (b ≡ undefined k)) (q .residues .read) n → n < fewest k
-      → InResidues q 19 (q .residues .place)
-
+-- rules 18 and 19, by what the kind asks
 pub record JudgesSymbols (w : List ℕ) (clean : Bool) (none few place : ℕ) (r : Fault) : Type 0 where
   pub says : (q : Sequence ℕ) (k : Rules.Kind) → IsKind k q → none ≡ undefined k → few ≡ fewest k → place ≡ q .residues .place → w ≡ raw (q .residues .read)
       → Tells clean (all (isSymbol k) (q .residues .read)) → Firsts (InResidues q) r

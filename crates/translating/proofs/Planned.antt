@@ -7,7 +7,7 @@ use mathlib.Core.List.{List}
 use Rattle.paper.specs.Bytes.{raw, all}
 use Rattle.paper.specs.Tree.{Sequence, Feature}
 use Rattle.paper.specs.Locations.{Location, Locates, breaks25}
-use Rattle.paper.specs.Rules.{L, isSymbol, Coding, Judged}
+use Rattle.paper.specs.Rules.{L, isSymbol, Coding, Judged, residues, rule-18, rule-24, rule-25, rule-27}
 use Rattle.scan.specs.Parts.{Shows}
 use Rattle.value.specs.Reading.{Tells}
 use Rattle.value.proofs.Tests.{tells-true, tells-false}
@@ -19,7 +19,6 @@ use Rattle.location.specs.declared.judging.Verdict.the-variants.{Bad, Is}
 use Rattle.location.proofs.Verdicts.{judged-by}
 use Rattle.reading.specs.Reading.{Codes}
 use Rattle.reading.specs.Letters.{lettersOf}
-use Rattle.judging.specs.Sets.{rule-18, rule-24, rule-25, rule-27}
 use Rattle.judging.specs.Known.{Knows}
 use Rattle.judging.specs.declared.Known.{Known}
 use Rattle.judging.proofs.Bytes.{part-shows, text-shown}
@@ -40,7 +39,7 @@ module _ {q : Sequence ℕ} {f : Feature ℕ} (keeps : Keeps q f) where
     where
       by : (b : Bool) → Tells b (all (isSymbol (c .kind)) (q .residues .read)) → all (isSymbol (c .kind)) (q .residues .read)
       by true t = t
-      by false t = absurd (keeps .texts 18 (q .residues .place) (rule-18 (c .kind) (c .is) t))
+      by false t = absurd (keeps .texts 18 (q .residues .place) (residues (rule-18 (c .kind) (c .is) t)))
 
   location-right : (v : Verdict) → Placed (L q) (f .location .read) v → (t : Location) × Locates t (f .location .read) × (breaks25 (L q) t ≡ false)
   location-right Bad j = absurd (keeps .feature 24 (f .location .place) (inl (rule-24 j)))

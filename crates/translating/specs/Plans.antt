@@ -5,11 +5,10 @@ use mathlib.Core.Bool.{false}
 use mathlib.Core.List.{List}
 use Rattle.paper.specs.Tree.{Sequence, Feature}
 use Rattle.paper.specs.Locations.{Location, Locates, breaks25}
-use Rattle.paper.specs.Rules.{L, Coding, Unjudged, Judged}
+use Rattle.paper.specs.Rules.{L, Coding, Unjudged, Judged, InTexts, InFeature}
 use Rattle.items.specs.Items.{IsFeature}
 use Rattle.items.specs.declared.FoundFeature.{FoundFeature}
 use Rattle.reading.specs.Letters.{lettersOf}
-use Rattle.judging.specs.Sets.{InTexts, InFeature}
 use Rattle.judging.specs.Known.{Knows}
 use Rattle.judging.specs.declared.Known.{Known}
 use Rattle.translating.specs.declared.Plan.{Plan}
