@@ -5,13 +5,13 @@ use mathlib.Core.Path.{_≡_, sym, subst, subst₂}
 use mathlib.Core.List.{List}
 use Rattle.paper.specs.Answers.{CheckSays, SequenceSays, FeatureSays, QualifierSays, SpansSays, TranslationSays, TranslationsSays}
 use Rattle.paper.specs.declared.Verdict.{Verdict}
-use Rattle.answers.specs.Stretches.{partIs}
-use Rattle.answers.specs.Handed.{Narrow, HandsVerdict, HandsSequence, HandsFeature, HandsQualifier, HandsSpans, HandsTranslation}
-use Rattle.answers.specs.declared.SequenceAnswer.{SequenceAnswer}
-use Rattle.answers.specs.declared.FeatureAnswer.{FeatureAnswer}
-use Rattle.answers.specs.declared.QualifierAnswer.{QualifierAnswer}
-use Rattle.answers.specs.declared.SpansAnswer.{SpansAnswer}
-use Rattle.answers.specs.declared.TranslationAnswer.{TranslationAnswer}
+use Rattle.ask_answers.specs.Stretches.{partIs}
+use Rattle.ask_answers.specs.Handed.{Narrow, HandsVerdict, HandsSequence, HandsFeature, HandsQualifier, HandsSpans, HandsTranslation}
+use Rattle.ask_answers.specs.declared.SequenceAnswer.{SequenceAnswer}
+use Rattle.ask_answers.specs.declared.FeatureAnswer.{FeatureAnswer}
+use Rattle.ask_answers.specs.declared.QualifierAnswer.{QualifierAnswer}
+use Rattle.ask_answers.specs.declared.SpansAnswer.{SpansAnswer}
+use Rattle.ask_answers.specs.declared.TranslationAnswer.{TranslationAnswer}
 use Rattle.dreichnook.specs.Numbers.{part, CheckNumbers, QualifierNumbers}
 use Rattle.dreichnook.proofs.Small.{check-small, sequence-small, feature-small, qualifier-small, spans-small, translation-small, translations-small}
 

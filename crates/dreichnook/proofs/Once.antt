@@ -5,9 +5,9 @@ use mathlib.Core.List.{List}
 use Rattle.paper.specs.Answers.{Part}
 use Rattle.paper.specs.declared.Verdict.{Verdict}
 use Rattle.paper.specs.declared.Verdict.the-variants.{Accepted, Refused}
-use Rattle.checking.proofs.Demands.{answers-once}
-use Rattle.lookups.proofs.Once.{qualifier-once}
-use Rattle.answers.specs.Handed.{flagOf}
+use Rattle.ask_check.proofs.Demands.{answers-once}
+use Rattle.ask_lookups.proofs.Once.{qualifier-once}
+use Rattle.ask_answers.specs.Handed.{flagOf}
 use Rattle.dreichnook.specs.Numbers.{CheckNumbers, QualifierNumbers}
 
 -- the numbers of a verdict, in the order in which they are handed over

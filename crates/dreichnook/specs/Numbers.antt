@@ -5,7 +5,7 @@ use mathlib.Core.Bool.{Bool}
 use mathlib.Core.List.{List}
 use Rattle.paper.specs.Answers.{Part, CheckSays, QualifierSays}
 use Rattle.paper.specs.declared.Verdict.the-variants.{Accepted, Refused}
-use Rattle.answers.specs.Handed.{flagOf}
+use Rattle.ask_answers.specs.Handed.{flagOf}
 
 -- "a definition gives this paper's number and values for each of its cases"
 pub data CheckNumbers (w : List ℕ) : (number place total skipped features judged unjudged : ℕ) → Type 0 where

@@ -16,8 +16,8 @@ pub extern "C" fn dreichnook_check(
 ) -> u32
     ensures { λ r. ⌜ CheckNumbers (now (listing .entry)) r (now (place .exit)) (now (total .exit)) (now (skipped .exit)) (now (features .exit)) (now (judged .exit)) (now (unjudged .exit)) ⌝ }
 {
-    answers::hand_verdict(
-        checking::check(listing),
+    ask_answers::hand_verdict(
+        ask_check::check(listing),
         place,
         total,
         skipped,
@@ -38,8 +38,8 @@ pub extern "C" fn dreichnook_sequence(
 ) -> u32
     ensures { λ r. ⌜ SequenceSays (now (listing .entry)) sequence r (now (place .exit)) (now (kind .exit)) (part (now (start .exit)) (now (size .exit))) ⌝ }
 {
-    answers::hand_sequence(
-        lookups::locate_sequence(listing, sequence),
+    ask_answers::hand_sequence(
+        ask_lookups::locate_sequence(listing, sequence),
         place,
         kind,
         start,
@@ -60,8 +60,8 @@ pub extern "C" fn dreichnook_feature(
 ) -> u32
     ensures { λ r. ⌜ FeatureSays (now (listing .entry)) sequence feature r (now (place .exit)) (part (now (keystart .exit)) (now (keysize .exit))) (part (now (locationstart .exit)) (now (locationsize .exit))) ⌝ }
 {
-    answers::hand_feature(
-        lookups::locate_feature(listing, sequence, feature),
+    ask_answers::hand_feature(
+        ask_lookups::locate_feature(listing, sequence, feature),
         place,
         keystart,
         keysize,
@@ -85,8 +85,8 @@ pub extern "C" fn dreichnook_qualifier(
 ) -> u32
     ensures { λ r. ⌜ QualifierNumbers (now (listing .entry)) sequence feature qualifier r (now (place .exit)) (part (now (namestart .exit)) (now (namesize .exit))) (now (present .exit)) (part (now (valuestart .exit)) (now (valuesize .exit))) ⌝ }
 {
-    answers::hand_qualifier(
-        lookups::locate_qualifier(listing, sequence, feature, qualifier),
+    ask_answers::hand_qualifier(
+        ask_lookups::locate_qualifier(listing, sequence, feature, qualifier),
         place,
         namestart,
         namesize,
@@ -108,8 +108,8 @@ pub extern "C" fn dreichnook_spans(
 ) -> u32
     ensures { λ r. ⌜ SpansSays (now (listing .entry)) sequence feature (now (out .entry)) r (now (place .exit)) (now (operator .exit)) (now (count .exit)) (now (out .exit)) ⌝ }
 {
-    answers::hand_spans(
-        lookups::spans(listing, sequence, feature, out),
+    ask_answers::hand_spans(
+        ask_lookups::spans(listing, sequence, feature, out),
         place,
         operator,
         count,
@@ -127,8 +127,8 @@ pub extern "C" fn dreichnook_translation(
 ) -> u32
     ensures { λ r. ⌜ TranslationSays (now (listing .entry)) sequence feature (now (out .entry)) r (now (place .exit)) (now (size .exit)) (now (out .exit)) ⌝ }
 {
-    answers::hand_translation(
-        lookups::translation(listing, sequence, feature, out),
+    ask_answers::hand_translation(
+        ask_lookups::translation(listing, sequence, feature, out),
         place,
         size,
     )
@@ -144,5 +144,9 @@ pub extern "C" fn dreichnook_translations(
 ) -> u32
     ensures { λ r. ⌜ TranslationsSays (now (listing .entry)) sequence (now (out .entry)) r (now (place .exit)) (now (size .exit)) (now (out .exit)) ⌝ }
 {
-    answers::hand_translation(lookups::translations(listing, sequence, out), place, size)
+    ask_answers::hand_translation(
+        ask_lookups::translations(listing, sequence, out),
+        place,
+        size,
+    )
 }

@@ -11,8 +11,8 @@ fn main() {
         io::write_all(STDOUT_FILENO, b"verdict too long for this program\n");
         return;
     }
-    let verdict = checking::check(&listing[..n]);
+    let verdict = ask_check::check(&listing[..n]);
     let mut page = [0u8; 256];
-    let size = report::put_page(verdict, &mut page);
+    let size = program_page::put_page(verdict, &mut page);
     io::write_all(STDOUT_FILENO, &page[..size]);
 }

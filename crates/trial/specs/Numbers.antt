@@ -4,17 +4,17 @@ use mathlib.Core.Path.{_≡_}
 use mathlib.Core.Bool.{Bool}
 use mathlib.Core.List.{List}
 use Rattle.paper.specs.Locations.{mark}
-use Rattle.layout.specs.Says.{Lays, Refuses}
-use Rattle.location.specs.Judging.{Judges}
-use Rattle.spanning.specs.Room.{Answers}
-use Rattle.location.specs.declared.judging.Facts.{Facts}
-use Rattle.location.specs.declared.judging.Verdict.the-variants.{Bad, Is}
-use Rattle.spanning.specs.declared.room.Answer.{Answer}
-use Rattle.spanning.specs.declared.room.Answer.the-variants as answer
-use Rattle.comparing.specs.Comparing.{Compares}
-use Rattle.writing.specs.Writing.{Writes}
-use Rattle.measuring.specs.declared.Size.{Size}
-use Rattle.measuring.specs.declared.Size.the-variants as size
+use Rattle.read_layout.specs.Says.{Lays, Refuses}
+use Rattle.location_judge.specs.Judging.{Judges}
+use Rattle.location_spans.specs.Room.{Answers}
+use Rattle.location_judge.specs.declared.judging.Facts.{Facts}
+use Rattle.location_judge.specs.declared.judging.Verdict.the-variants.{Bad, Is}
+use Rattle.location_spans.specs.declared.room.Answer.{Answer}
+use Rattle.location_spans.specs.declared.room.Answer.the-variants as answer
+use Rattle.protein_compare.specs.Comparing.{Compares}
+use Rattle.protein_write.specs.Writing.{Writes}
+use Rattle.protein_measure.specs.declared.Size.{Size}
+use Rattle.protein_measure.specs.declared.Size.the-variants as size
 
 pub data LayoutNumbers (w : List ℕ) : (number place : ℕ) → Type 0 where
   laid : Lays w → LayoutNumbers w 0 0

@@ -1,9 +1,9 @@
 // Calls of the inner crates as C functions, so that they can be compared and measured outside the prover (compare/, bench/).
 // Relies on those crates; nothing of the product relies on it.
-use layout::Shape;
-use location::judging::Verdict;
-use measuring::Size;
-use spanning::room::Answer;
+use location_judge::judging::Verdict;
+use location_spans::room::Answer;
+use protein_measure::Size;
+use read_layout::Shape;
 ghost use mathlib.Core.Path.{_≡_};
 ghost use Rattle.paper.specs.Locations.{mark};
 ghost use Rattle.trial.specs.Numbers.{LayoutNumbers, LocationNumbers, SpansNumbers, TranslationNumbers, RightNumbers};
@@ -13,7 +13,7 @@ ghost use Rattle.trial.specs.Numbers.{LayoutNumbers, LocationNumbers, Sp
 pub extern "C" fn trial_layout(listing: &[u8], place: &mut usize) -> usize
     ensures { λ r. ⌜ LayoutNumbers (now (listing .entry)) r (now (place .exit)) ⌝ }
 {
-    match layout::layout(listing) {
+    match read_layout::layout(listing) {
         Shape::Laid => {
             *place = 0;
             0
@@ -47,7 +47,7 @@ pub extern "C" fn trial_location(
 ) -> u32
     ensures { λ r. ⌜ LocationNumbers (now (part .entry)) top r (now (operator .exit)) (now (count .exit)) (now (wrong .exit)) (now (complemented .exit)) (now (unjudged .exit)) ⌝ }
 {
-    match location::judging::judge_location(part, 0, part.len(), top) {
+    match location_judge::judging::judge_location(part, 0, part.len(), top) {
         Verdict::Bad => {
             *operator = 0;
             *count = 0;
@@ -78,7 +78,7 @@ pub extern "C" fn trial_spans(
 ) -> u32
     ensures { λ r. ⌜ SpansNumbers (now (part .entry)) top (now (out .entry)) r (now (operator .exit)) (now (count .exit)) (now (out .exit)) ⌝ }
 {
-    match spanning::room::spans(part, 0, part.len(), top, out) {
+    match location_spans::room::spans(part, 0, part.len(), top, out) {
         Answer::Bad => {
             *operator = 0;
             *count = 0;
@@ -115,10 +115,10 @@ pub extern "C" fn trial_translation(
 ) -> u32
     ensures { λ n. ⌜ TranslationNumbers (now (r .entry)) (now (loc .entry)) top frame (now (out .entry)) n (now (size .exit)) (now (out .exit)) ⌝ }
 {
-    let sets = codon::set_table();
-    let turns = codon::turn_table();
-    let table = codon::letter_table();
-    match writing::write(r, loc, top, frame, &sets, &turns, &table, out) {
+    let sets = protein_code::set_table();
+    let turns = protein_code::turn_table();
+    let table = protein_code::letter_table();
+    match protein_write::write(r, loc, top, frame, &sets, &turns, &table, out) {
         Size::Is(n) => {
             *size = n;
             0
@@ -139,9 +139,9 @@ pub extern "C" fn trial_translation(
 pub extern "C" fn trial_is_right(r: &[u8], loc: &[u8], top: u32, frame: usize, value: &[u8]) -> u32
     ensures { λ n. ⌜ RightNumbers (now (r .entry)) (now (loc .entry)) top frame (now (value .entry)) n ⌝ }
 {
-    let sets = codon::set_table();
-    let turns = codon::turn_table();
-    let table = codon::letter_table();
-    let right = comparing::is_right(r, loc, top, frame, value, &sets, &turns, &table);
+    let sets = protein_code::set_table();
+    let turns = protein_code::turn_table();
+    let table = protein_code::letter_table();
+    let right = protein_compare::is_right(r, loc, top, frame, value, &sets, &turns, &table);
     flag(right, 1)
 }

@@ -1,6 +1,6 @@
--- `trial::trial_layout` meets its contract: the answer of `layout::layout`, in numbers.
+-- `trial::trial_layout` meets its contract: the answer of `read_layout::layout`, in numbers.
 use mathlib.Core.Path.{subst}
-use Rattle.layout.specs.Says.{ShapeSays}
+use Rattle.read_layout.specs.Says.{ShapeSays}
 use Rattle.trial.specs.Numbers.{laid, refused}
 use borrow.Author.Needs.{needs}
 use Rattle.trial.proofs.trial_layout.Statement.{statement}

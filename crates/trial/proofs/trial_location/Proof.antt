@@ -1,7 +1,7 @@
 -- `trial::trial_location` meets its contract: the answer of `judge_location`, in numbers.
 use mathlib.Core.Path.{subst}
-use Rattle.scan.proofs.Parts.{shows-whole}
-use Rattle.location.specs.Judging.{Judges}
+use Rattle.read_steps.proofs.Parts.{shows-whole}
+use Rattle.location_judge.specs.Judging.{Judges}
 use Rattle.trial.specs.Numbers.{LocationNumbers}
 use borrow.Author.Needs.{needs}
 use Rattle.trial.proofs.trial_location.Statement.{statement}

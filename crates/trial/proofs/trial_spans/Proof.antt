@@ -1,6 +1,6 @@
 -- `trial::trial_spans` meets its contract: the answer of `spans`, in numbers.
 use mathlib.Core.Path.{sym, ap}
-use Rattle.scan.proofs.Parts.{shows-whole}
+use Rattle.read_steps.proofs.Parts.{shows-whole}
 use Rattle.trial.specs.Numbers.{numberOf, operatorOf, countOf}
 use borrow.Author.Needs.{needs}
 use Rattle.trial.proofs.trial_spans.Statement.{statement}

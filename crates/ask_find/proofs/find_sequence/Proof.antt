@@ -1,0 +1,63 @@
+-- `ask_find::find_sequence` meets its contract: the check's refusal, 30, 31, or the sequence.
+use mathlib.Core.Path.{subst}
+use denote.Ref.{now}
+use Rattle.paper.specs.Answers as paper
+use Rattle.ask_find.specs.Finds.{FindsFirst}
+use Rattle.walk_seek.proofs.Within.{placed}
+use Rattle.ask_find.proofs.Found.{no-sequence, skipped-so, sequence-so}
+use borrow.Author.Needs.{needs}
+use Rattle.ask_find.proofs.find_sequence.Statement.{statement}
+use Rattle.ask_find.proofs.find_sequence.Tie as tie
+
+first-sequence-requires : tie.Need-first-sequence-requires
+first-sequence-requires c κs = search needs
+
+enum-known-rule : tie.Need-enum-known-rule
+enum-known-rule c = search needs
+
+enum-known-first : tie.Need-enum-known-first
+enum-known-first c = search needs
+
+nth-requires : tie.Need-nth-requires
+nth-requires c κs = search needs
+
+enum-told : tie.Need-enum-told
+enum-told c = search needs
+
+enum-known-at : tie.Need-enum-known-at
+enum-known-at c = search needs
+
+sequence-requires : tie.Need-sequence-requires
+sequence-requires c κs = search needs
+
+is-skipped-requires : tie.Need-is-skipped-requires
+is-skipped-requires c κs = search needs
+
+returns : tie.Need-returns
+returns c = skipped-so (subst (FindsFirst (now (c .before .before .before .before .before .before .before .before .before .before .before .before .args .listing))) (c .before .before .before .before .before .before .before .before .first .given .1) (c .before .before .before .before .before .before .before .before .before .before .first-sequence .ensures)) (placed (c .before .before .before .before .at .given .1) (c .before .before .before .before .before .before .nth .ensures)) (c .before .before .sequence .ensures) (c .before .is-skipped .ensures) (c .if1 .taken)
+
+returns-2 : tie.Need-returns-2
+returns-2 c = paper.own (subst (FindsFirst (now (c .before .before .before .before .before .args .listing))) (c .before .rule .given .1) (c .before .before .before .first-sequence .ensures))
+
+returns-3 : tie.Need-returns-3
+returns-3 c = no-sequence (subst (FindsFirst (now (c .before .before .before .before .before .before .before .before .args .listing))) (c .before .before .before .before .first .given .1) (c .before .before .before .before .before .before .first-sequence .ensures)) (placed (c .enum-told .given .1) (c .before .before .nth .ensures))
+
+returns-4 : tie.Need-returns-4
+returns-4 c = sequence-so (subst (FindsFirst (now (c .before .before .before .before .before .before .before .before .before .before .before .before .args .listing))) (c .before .before .before .before .before .before .before .before .first .given .1) (c .before .before .before .before .before .before .before .before .before .before .first-sequence .ensures)) (placed (c .before .before .before .before .at .given .1) (c .before .before .before .before .before .before .nth .ensures)) (c .before .before .sequence .ensures) (c .before .is-skipped .ensures) (c .if1 .left)
+
+pub find-sequence-spec : {M : Type 1} → statement M
+find-sequence-spec =
+    tie.close
+    (tie.spec
+    first-sequence-requires
+    enum-known-rule
+    enum-known-first
+    nth-requires
+    enum-told
+    enum-known-at
+    sequence-requires
+    is-skipped-requires
+    returns
+    returns-2
+    returns-3
+    returns-4)

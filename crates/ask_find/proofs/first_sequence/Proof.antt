@@ -1,0 +1,31 @@
+-- `ask_find::first_sequence` meets its contract.
+use mathlib.Core.Path.{subst}
+use denote.Ref.{now}
+use Rattle.paper.specs.Answers.{CheckSays}
+use Rattle.ask_find.proofs.Found.{first-found}
+use borrow.Author.Needs.{needs}
+use Rattle.ask_find.proofs.first_sequence.Statement.{statement}
+use Rattle.ask_find.proofs.first_sequence.Tie as tie
+
+check-requires : tie.Need-check-requires
+check-requires c κs = search needs
+
+enum-known-rule : tie.Need-enum-known-rule
+enum-known-rule c = search needs
+
+enum-told : tie.Need-enum-told
+enum-told c = search needs
+
+judge-header-requires : tie.Need-judge-header-requires
+judge-header-requires c κs = search needs
+
+returns : tie.Need-returns
+returns c = subst (CheckSays (now (c .before .before .before .before .before .args .listing))) (c .before .rule .given .1) (c .before .before .before .check .ensures)
+
+returns-2 : tie.Need-returns-2
+returns-2 c = first-found (subst (CheckSays (now (c .before .before .before .before .before .args .listing))) (c .before .enum-told .given .1) (c .before .before .before .check .ensures)) (c .judge-header .ensures)
+
+pub first-sequence-spec : {M : Type 1} → statement M
+first-sequence-spec =
+    tie.close
+    (tie.spec check-requires enum-known-rule enum-told judge-header-requires returns returns-2)

@@ -1,0 +1,46 @@
+-- A sequence that is found is one of an accepted listing: no rule is broken on its texts or on its features.
+use Prim.Native.Nat.{ℕ, _≤_}
+use mathlib.Core.Path.{_≡_, refl}
+use mathlib.Core.Logic.{inr}
+use mathlib.Core.List.{List}
+use lib.ListN.{length}
+use Rattle.paper.specs.Lists.{_∈_}
+use Rattle.paper.specs.Tree.{Sequence, Feature, featuresOf}
+use Rattle.paper.specs.Rules.{dna, rna, aa, IsKind, InTexts, InFeature}
+use Rattle.paper.specs.Rules as Rules
+use Rattle.paper.specs.Answers.{limit, give, kindNumber, FindsSequence}
+use Rattle.paper.specs.Answers as paper
+use Rattle.value_words.specs.Reading.{KindIs}
+use Rattle.value_words.specs.declared.Kind.{Kind}
+use Rattle.value_words.specs.declared.Kind.the-variants.{Dna, Rna, Aa, Other}
+use Rattle.judge_faults.proofs.Whole.{listing-to}
+use Rattle.ask_translation.specs.Plans.{Keeps}
+use Rattle.ask_show.specs.Shown.{kindIs}
+
+pub record Accepts (w : List ℕ) (q : Sequence ℕ) : Type 0 where
+  pub short : length w ≤ limit
+  pub texts : (n p : ℕ) → ¬ InTexts q n p
+  pub features : (f : Feature ℕ) → f ∈ featuresOf q → (n p : ℕ) → ¬ InFeature q f n p
+
+pub accepts : {w : List ℕ} {k : ℕ} {q : Sequence ℕ} → FindsSequence w k (give q) → Accepts w q
+accepts {k = k} {q} (paper.sequence {l} (paper.accepted short laid clean) i s) =
+    record {
+      short = short;
+      texts = λ n p h. clean n p (listing-to l n p (inr (inr (k, q, i, Rules.texts s h))));
+      features = λ f m n p h. clean n p (listing-to l n p (inr (inr (k, q, i, Rules.table s (Rules.feature f m h)))));
+    }
+
+pub keeps-feature : {w : List ℕ} {q : Sequence ℕ} → Accepts w q → (f : Feature ℕ) → f ∈ featuresOf q → Keeps q f
+keeps-feature a f m = record { texts = a .texts; feature = a .features f m }
+
+-- the kind that its moltype names (rule 16)
+pub record KindOf (q : Sequence ℕ) (c : Kind) : Type 0 where
+  pub kind : Rules.Kind
+  pub is : IsKind kind q
+  pub number : kindIs c ≡ kindNumber kind
+
+pub kind-found : {w : List ℕ} {q : Sequence ℕ} (c : Kind) → Accepts w q → KindIs (q .moltype .read) c → KindOf q c
+kind-found Dna a h = record { kind = dna; is = h; number = refl }
+kind-found Rna a h = record { kind = rna; is = h; number = refl }
+kind-found Aa a h = record { kind = aa; is = h; number = refl }
+kind-found {q = q} Other a h = absurd (a .texts 16 (q .moltype .place) (Rules.rule-16 h))

@@ -1,0 +1,53 @@
+-- `ask_lookups::locate_sequence` meets its contract.
+use Rattle.ask_lookups.proofs.Located.{sequence-refused, sequence-located}
+use Rattle.ask_find.specs.Finds.{SequenceAsked}
+use denote.Ref.{now}
+use mathlib.Core.Path.{subst}
+use borrow.Author.Needs.{needs}
+use Rattle.ask_lookups.proofs.locate_sequence.Statement.{statement}
+use Rattle.ask_lookups.proofs.locate_sequence.Tie as tie
+
+find-sequence-requires : tie.Need-find-sequence-requires
+find-sequence-requires c κs = search needs
+
+enum-known-rule : tie.Need-enum-known-rule
+enum-known-rule c = search needs
+
+no-stretch-requires : tie.Need-no-stretch-requires
+no-stretch-requires c κs = search needs
+
+enum-known-found : tie.Need-enum-known-found
+enum-known-found c = search needs
+
+bytes-of-requires : tie.Need-bytes-of-requires
+bytes-of-requires c κs = search needs
+
+kind-of-requires : tie.Need-kind-of-requires
+kind-of-requires c κs = search needs
+
+kind-number-requires : tie.Need-kind-number-requires
+kind-number-requires c κs = search needs
+
+stretch-of-requires : tie.Need-stretch-of-requires
+stretch-of-requires c κs = search needs
+
+returns : tie.Need-returns
+returns c = sequence-refused (subst (SequenceAsked (now (c .before .before .before .before .before .before .args .listing)) (c .before .before .before .before .before .before .args .k)) (c .before .before .rule .given .1) (c .before .before .before .before .find-sequence .ensures)) (c .no-stretch .ensures)
+
+returns-2 : tie.Need-returns-2
+returns-2 c = sequence-located (subst (SequenceAsked (now (c .before .before .before .before .before .before .before .before .before .before .args .listing)) (c .before .before .before .before .before .before .before .before .before .before .args .k)) (c .before .before .before .before .before .before .found .given .1) (c .before .before .before .before .before .before .before .before .find-sequence .ensures)) (c .before .before .before .bytes-of .ensures) (c .before .before .kind-of .ensures) (c .before .kind-number .ensures) (c .stretch-of .ensures)
+
+pub locate-sequence-spec : {M : Type 1} → statement M
+locate-sequence-spec =
+    tie.close
+    (tie.spec
+    find-sequence-requires
+    enum-known-rule
+    no-stretch-requires
+    enum-known-found
+    bytes-of-requires
+    kind-of-requires
+    kind-number-requires
+    stretch-of-requires
+    returns
+    returns-2)

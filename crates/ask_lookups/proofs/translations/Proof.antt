@@ -1,0 +1,57 @@
+-- `ask_lookups::translations` meets its contract.
+use Rattle.ask_lookups.proofs.Translated.{translations-refused, translations-found}
+use Rattle.ask_find.specs.Finds.{SequenceAsked}
+use denote.Ref.{now}
+use mathlib.Core.Path.{subst}
+use borrow.Author.Needs.{needs}
+use Rattle.ask_lookups.proofs.translations.Statement.{statement}
+use Rattle.ask_lookups.proofs.translations.Tie as tie
+
+find-sequence-requires : tie.Need-find-sequence-requires
+find-sequence-requires c κs = search needs
+
+enum-known-rule : tie.Need-enum-known-rule
+enum-known-rule c = search needs
+
+enum-known-sequence : tie.Need-enum-known-sequence
+enum-known-sequence c = search needs
+
+known-of-requires : tie.Need-known-of-requires
+known-of-requires c κs = search needs
+
+set-table-requires : tie.Need-set-table-requires
+set-table-requires c κs = search needs
+
+turn-table-requires : tie.Need-turn-table-requires
+turn-table-requires c κs = search needs
+
+letter-table-requires : tie.Need-letter-table-requires
+letter-table-requires c κs = search needs
+
+translate-all-requires : tie.Need-translate-all-requires
+translate-all-requires c κs = search needs
+
+returns : tie.Need-returns
+returns c = translations-refused (subst (SequenceAsked (now (c .before .before .before .before .before .before .args .listing)) (c .before .before .before .before .before .before .args .k)) (c .before .rule .given .1) (c .before .before .before .find-sequence .ensures))
+
+same-length : tie.Need-same-length
+same-length c = search needs
+
+returns-2 : tie.Need-returns-2
+returns-2 c = translations-found (subst (SequenceAsked (now (c .before .before .before .before .before .before .before .before .before .before .before .before .before .before .before .before .before .before .args .listing)) (c .before .before .before .before .before .before .before .before .before .before .before .before .before .before .before .before .before .before .args .k)) (c .before .before .before .before .before .before .before .before .before .before .before .before .before .sequence .given .1) (c .before .before .before .before .before .before .before .before .before .before .before .before .before .before .before .find-sequence .ensures)) (c .before .before .before .before .before .before .before .before .before .before .before .known-of .ensures) (c .before .before .translate-all .ensures)
+
+pub translations-spec : {M : Type 1} → statement M
+translations-spec =
+    tie.close
+    (tie.spec
+    find-sequence-requires
+    enum-known-rule
+    enum-known-sequence
+    known-of-requires
+    set-table-requires
+    turn-table-requires
+    letter-table-requires
+    translate-all-requires
+    returns
+    same-length
+    returns-2)

@@ -1,0 +1,283 @@
+// The calls of document 01 that show a piece of an accepted listing: each is the check, a walk to the item, and its answer.
+// Any bytes, any numbers and any room may be given; nobody need check anything first.
+// Relies on the crates answers, showing, finding, translating and lines, and on the parts of the judge for the kind and L.
+use ask_answers::FeatureAnswer;
+use ask_answers::QualifierAnswer;
+use ask_answers::SequenceAnswer;
+use ask_answers::SpansAnswer;
+use ask_answers::TranslationAnswer;
+use ask_answers::no_spans;
+use ask_answers::no_stretch;
+use ask_find::SequenceAt;
+use ask_find::find_feature;
+use ask_find::find_qualifier;
+use ask_find::find_sequence;
+use ask_show::is_present;
+use ask_show::kind_number;
+use ask_show::shown;
+use ask_show::stretch_of;
+use ask_show::value_stretch;
+use ask_translation::Written;
+use judge_faults::Known;
+use location_spans::room::Answer;
+use read_steps::bytes_of;
+use walk_items::FoundSequence;
+use walk_seek::FeatureAt;
+use walk_seek::QualifierAt;
+ghost use Rattle.paper.specs.Answers.{SequenceSays, FeatureSays, QualifierSays, SpansSays, TranslationSays, TranslationsSays};
+ghost use Rattle.ask_answers.specs.Stretches.{partIs, Lies};
+ghost use Rattle.ask_lookups.specs.Shows.{KnowsSequence, ShowsSequence, ShowsFeature, ShowsQualifier};
+
+// ---- a sequence
+
+pub fn locate_sequence(listing: &[u8], k: usize) -> SequenceAnswer
+    ensures { λ r. ⌜ SequenceSays (now (listing .entry)) k (r .number) (r .place) (r .kind) (partIs (r .residues)) ⌝ }
+    ensures { λ r. ⌜ Lies (now (listing .entry)) (r .residues) ⌝ }
+{
+    match find_sequence(listing, k) {
+        SequenceAt::Refused { rule, place } => SequenceAnswer {
+            number: rule,
+            place,
+            kind: 0,
+            residues: no_stretch(),
+        },
+        SequenceAt::Found(found) => {
+            let moltype = found.moltype;
+            let kind = value_words::kind_of(bytes_of(listing, moltype.from, moltype.to));
+            SequenceAnswer {
+                number: 0,
+                place: 0,
+                kind: kind_number(kind),
+                residues: stretch_of(found.residues),
+            }
+        }
+    }
+}
+
+// "its kind, and its residues as the part of the lent listing"
+pub fn sequence<'l>(
+    listing: &'l [u8],
+    k: usize,
+    number: &mut usize,
+    place: &mut usize,
+    kind: &mut u8,
+) -> &'l [u8]
+    ensures { λ r. ⌜ ShowsSequence (now (listing .entry)) (listing .entry .ptr) k (now (number .exit)) (now (place .exit)) (now (kind .exit)) (now r) (r .ptr) ⌝ }
+{
+    let SequenceAnswer {
+        number: n,
+        place: p,
+        kind: d,
+        residues,
+    } = locate_sequence(listing, k);
+    *number = n;
+    *place = p;
+    *kind = d;
+    shown(listing, residues)
+}
+
+// ---- a feature
+
+pub fn locate_feature(listing: &[u8], k: usize, j: usize) -> FeatureAnswer
+    ensures { λ r. ⌜ FeatureSays (now (listing .entry)) k j (r .number) (r .place) (partIs (r .key)) (partIs (r .location)) ⌝ }
+    ensures { λ r. ⌜ Lies (now (listing .entry)) (r .key) × Lies (now (listing .entry)) (r .location) ⌝ }
+{
+    match find_feature(listing, k, j) {
+        FeatureAt::Refused { rule, place } => FeatureAnswer {
+            number: rule,
+            place,
+            key: no_stretch(),
+            location: no_stretch(),
+        },
+        FeatureAt::Found {
+            sequence: _,
+            feature,
+        } => FeatureAnswer {
+            number: 0,
+            place: 0,
+            key: stretch_of(feature.key),
+            location: stretch_of(feature.location),
+        },
+    }
+}
+
+// "its key and location parts": the location is returned, the key goes to the lent place.
+pub fn feature<'l, 'k>(
+    listing: &'l [u8],
+    k: usize,
+    j: usize,
+    number: &mut usize,
+    place: &mut usize,
+    key: &'k mut &'l [u8],
+) -> &'l [u8]
+    ensures { λ r. ⌜ ShowsFeature (now (listing .entry)) (listing .entry .ptr) k j (now (number .exit)) (now (place .exit)) (now (now (key .exit))) (now (key .exit) .ptr) (now r) (r .ptr) ⌝ }
+{
+    let FeatureAnswer {
+        number: n,
+        place: p,
+        key: name,
+        location,
+    } = locate_feature(listing, k, j);
+    *number = n;
+    *place = p;
+    *key = shown(listing, name);
+    shown(listing, location)
+}
+
+// ---- a qualifier
+
+pub fn locate_qualifier(listing: &[u8], k: usize, j: usize, i: usize) -> QualifierAnswer
+    ensures { λ r. ⌜ QualifierSays (now (listing .entry)) k j i (r .number) (r .place) (partIs (r .name)) (r .present) (partIs (r .value)) ⌝ }
+    ensures { λ r. ⌜ Lies (now (listing .entry)) (r .name) × Lies (now (listing .entry)) (r .value) ⌝ }
+{
+    match find_qualifier(listing, k, j, i) {
+        QualifierAt::Refused { rule, place } => QualifierAnswer {
+            number: rule,
+            place,
+            name: no_stretch(),
+            present: false,
+            value: no_stretch(),
+        },
+        QualifierAt::Found(found) => {
+            let value = found.value;
+            QualifierAnswer {
+                number: 0,
+                place: 0,
+                name: stretch_of(found.name),
+                present: is_present(value),
+                value: value_stretch(value),
+            }
+        }
+    }
+}
+
+// "its name part, whether a value is present, and its part": the value is returned, the name goes to the lent place.
+pub fn qualifier<'l, 'k>(
+    listing: &'l [u8],
+    k: usize,
+    j: usize,
+    i: usize,
+    number: &mut usize,
+    place: &mut usize,
+    present: &mut bool,
+    name: &'k mut &'l [u8],
+) -> &'l [u8]
+    ensures { λ r. ⌜ ShowsQualifier (now (listing .entry)) (listing .entry .ptr) k j i (now (number .exit)) (now (place .exit)) (now (now (name .exit))) (now (name .exit) .ptr) (now (present .exit)) (now r) (r .ptr) ⌝ }
+{
+    let QualifierAnswer {
+        number: n,
+        place: p,
+        name: word,
+        present: has,
+        value,
+    } = locate_qualifier(listing, k, j, i);
+    *number = n;
+    *place = p;
+    *present = has;
+    *name = shown(listing, word);
+    shown(listing, value)
+}
+
+// ---- spans
+
+// What is known of a sequence that was found.
+fn known_of(listing: &[u8], sequence: FoundSequence) -> Known
+    ensures { λ r. ⌜ KnowsSequence (now (listing .entry)) sequence r ⌝ }
+{
+    let symbols = value_residues::symbol_table();
+    judge_texts::known_of(listing, sequence.moltype, sequence.residues, &symbols)
+}
+
+// The spans of a feature, three numbers of each at the front of out; or nothing is written.
+pub fn spans(listing: &[u8], k: usize, j: usize, out: &mut [u32]) -> SpansAnswer
+    ensures { λ r. ⌜ SpansSays (now (listing .entry)) k j (now (out .entry)) (r .number) (r .place) (r .operator) (r .count) (now (out .exit)) ⌝ }
+{
+    match find_feature(listing, k, j) {
+        FeatureAt::Refused { rule, place } => no_spans(rule, place),
+        FeatureAt::Found { sequence, feature } => {
+            let known = known_of(listing, sequence);
+            let location = feature.location;
+            match location_spans::room::spans(listing, location.from, location.to, known.top, out) {
+                Answer::Are(operator, count) => SpansAnswer {
+                    number: 0,
+                    place: 0,
+                    operator,
+                    count,
+                },
+                Answer::Short => no_spans(34, 0),
+                // An accepted listing has neither.
+                Answer::Bad => no_spans(24, 0),
+                Answer::Wrong => no_spans(25, 0),
+            }
+        }
+    }
+}
+
+// ---- translations
+
+// One translation at the front of out; or nothing is written.
+pub fn translation(listing: &[u8], k: usize, j: usize, out: &mut [u8]) -> TranslationAnswer
+    ensures { λ r. ⌜ TranslationSays (now (listing .entry)) k j (now (out .entry)) (r .number) (r .place) (r .size) (now (out .exit)) ⌝ }
+{
+    match find_feature(listing, k, j) {
+        FeatureAt::Refused { rule, place } => TranslationAnswer {
+            number: rule,
+            place,
+            size: 0,
+        },
+        FeatureAt::Found { sequence, feature } => {
+            let known = known_of(listing, sequence);
+            let sets = protein_code::set_table();
+            let turns = protein_code::turn_table();
+            let letters = protein_code::letter_table();
+            let Written { number, size } = ask_translation::translate(
+                listing,
+                known,
+                feature,
+                &sets,
+                &turns,
+                &letters,
+                out,
+            );
+            TranslationAnswer {
+                number,
+                place: 0,
+                size,
+            }
+        }
+    }
+}
+
+// All translations of a sequence at the front of out, each closed by byte 10; or nothing is written.
+pub fn translations(listing: &[u8], k: usize, out: &mut [u8]) -> TranslationAnswer
+    ensures { λ r. ⌜ TranslationsSays (now (listing .entry)) k (now (out .entry)) (r .number) (r .place) (r .size) (now (out .exit)) ⌝ }
+{
+    match find_sequence(listing, k) {
+        SequenceAt::Refused { rule, place } => TranslationAnswer {
+            number: rule,
+            place,
+            size: 0,
+        },
+        SequenceAt::Found(sequence) => {
+            let known = known_of(listing, sequence);
+            let table = sequence.table;
+            let sets = protein_code::set_table();
+            let turns = protein_code::turn_table();
+            let letters = protein_code::letter_table();
+            let Written { number, size } = ask_translations::translate_all(
+                listing,
+                known,
+                table,
+                &sets,
+                &turns,
+                &letters,
+                out,
+            );
+            TranslationAnswer {
+                number,
+                place: 0,
+                size,
+            }
+        }
+    }
+}

@@ -1,0 +1,43 @@
+-- What is shown of what the walk found: the stretch of a text, the number of a kind, and the bytes of a stretch in the lent listing itself.
+use Prim.Native.Nat.{ℕ, _+_}
+use mathlib.Core.Path.{_≡_}
+use mathlib.Core.Bool.{Bool}
+use mathlib.Core.List.{List}
+use mathlib.Core.Option.{Option}
+use Rattle.paper.specs.Tree.{Text}
+use Rattle.paper.specs.Answers.{shown, partOf, isPresent, valuePart}
+use Rattle.paper.specs.Answers as paper
+use Rattle.value_words.specs.declared.Kind.{Kind}
+use Rattle.value_words.specs.declared.Kind.the-variants.{Dna, Rna, Aa, Other}
+use Rattle.walk_steps.specs.Stands.{IsPart, MaybeIs}
+use Rattle.walk_steps.specs.declared.Part.{Part}
+use Rattle.walk_steps.specs.declared.Maybe.{Maybe}
+use Rattle.ask_answers.specs.Stretches.{partIs, Lies}
+use Rattle.ask_answers.specs.declared.Stretch.{Stretch}
+
+-- whichever text is found there, this is its part
+pub record StretchOf (p : Part) (r : Stretch) : Type 0 where
+  pub says : (s : List ℕ) (x : Text ℕ) → IsPart s x p → (partIs r ≡ partOf x) × Lies s r
+
+pub record IsPresent (p : Maybe) (r : Bool) : Type 0 where
+  pub says : (s : List ℕ) (o : Option (Text ℕ)) → MaybeIs s o p → r ≡ isPresent o
+
+pub record ValueOf (p : Maybe) (r : Stretch) : Type 0 where
+  pub says : (s : List ℕ) (o : Option (Text ℕ)) → MaybeIs s o p → (partIs r ≡ valuePart o) × Lies s r
+
+abbrev pub kindIs : Kind → ℕ
+kindIs Dna = 1
+kindIs Rna = 2
+kindIs Aa = 3
+kindIs Other = 0
+
+-- ---- where a part points: `at` is where the lent listing stands, a block and an offset
+
+-- the bytes r, which stand at p, are the part x of the listing w itself
+pub record Points (w : List ℕ) (at : ℕ × ℕ) (x : paper.Part) (r : List ℕ) (p : ℕ × ℕ) : Type 0 where
+  pub bytes : r ≡ shown w x
+  pub there : p ≡ (at .0, x .start + at .1)
+
+-- where the stretch lies within the listing
+pub record PointsAt (w : List ℕ) (at : ℕ × ℕ) (x : Stretch) (r : List ℕ) (p : ℕ × ℕ) : Type 0 where
+  pub says : Lies w x → Points w at (partIs x) r p

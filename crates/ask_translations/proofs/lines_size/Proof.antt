@@ -1,0 +1,64 @@
+-- `ask_translations::lines_size` meets its contract. The loop's invariant: the lines of the features passed have that length. The measure is what is left of the text.
+use Prim.Native.Nat.{_-_}
+use native.Mathlib.Omega.{arith}
+use denote.Ref.{now}
+use lib.ListN.{length}
+use Rattle.paper.specs.Bytes.{bytes}
+use Rattle.walk_steps.proofs.Loops.{there-inside}
+use Rattle.ask_translations.proofs.Sizes.{Sizing, sizing-none, sizing-more, sizing-stuck, sizing-done}
+use borrow.Author.Needs.{needs}
+use Rattle.ask_translations.proofs.lines_size.Statement.{statement}
+use Rattle.ask_translations.proofs.lines_size.Tie as tie
+
+abbrev Inv-loop : tie.InvT-loop
+Inv-loop s first known room sets turns table at₀ size₀ at size = Sizing s first at known room size
+
+abbrev μ-loop : tie.MeasureT-loop
+μ-loop s first known room sets turns table at₀ size₀ at size = length s - at
+
+loop-holds : tie.Need-loop-holds Inv-loop μ-loop
+loop-holds c = sizing-none
+
+feature-here-requires : tie.Need-feature-here-requires Inv-loop μ-loop
+feature-here-requires c κs = search needs
+
+feature-requires : tie.Need-feature-requires Inv-loop μ-loop
+feature-requires c κs = search needs
+
+past-requires : tie.Need-past-requires Inv-loop μ-loop
+past-requires c κs = search needs
+
+returns : tie.Need-returns Inv-loop μ-loop
+returns c = sizing-stuck (c .before .before .before .before .feature-here .ensures) (c .before .before .before .before .before .loop .inv) (c .before .before .before .if1 .taken) (c .before .before .feature .ensures) (c .before .past .ensures) (c .if2 .taken)
+
+line-size-requires : tie.Need-line-size-requires Inv-loop μ-loop
+line-size-requires c κs = search needs
+
+both-requires : tie.Need-both-requires Inv-loop μ-loop
+both-requires c κs = search needs
+
+loop-less : tie.Need-loop-less Inv-loop μ-loop
+loop-less c = omega (arith, there-inside 60 (bytes "INSDFeature") (now (c .before .before .before .before .before .before .before .before .before .args .s)) (c .before .before .before .before .before .before .before .loop .at) (c .before .before .before .before .before .if1 .taken) (c .before .before .before .before .before .before .feature-here .ensures))
+
+loop-again : tie.Need-loop-again Inv-loop μ-loop
+loop-again c = sizing-more (c .before .before .before .before .before .before .feature-here .ensures) (c .before .before .before .before .before .before .before .loop .inv) (c .before .before .before .before .before .if1 .taken) (c .before .before .before .before .feature .ensures) (c .before .before .before .past .ensures) (c .before .line-size .ensures) (c .both .ensures)
+
+returns-2 : tie.Need-returns-2 Inv-loop μ-loop
+returns-2 c = sizing-done (c .before .feature-here .ensures) (c .before .before .loop .inv) (c .if1 .left)
+
+pub lines-size-spec : {M : Type 1} → statement M
+lines-size-spec =
+    tie.close
+    (tie.spec
+    Inv-loop
+    μ-loop
+    loop-holds
+    feature-here-requires
+    feature-requires
+    past-requires
+    returns
+    line-size-requires
+    both-requires
+    loop-less
+    loop-again
+    returns-2)

@@ -1,0 +1,84 @@
+-- `ask_translations::put_lines` meets its contract. The loop's invariant: the lines of the features passed stand at the front, where they fit. The measure is what is left of the text.
+use Prim.Native.Nat.{_-_}
+use native.Mathlib.Omega.{arith}
+use denote.Ref.{now}
+use lib.ListN.{length}
+use Rattle.paper.specs.Bytes.{bytes}
+use Rattle.walk_steps.proofs.Loops.{there-inside}
+use Rattle.ask_translations.proofs.Puts.{Putting, putting-none, putting-within, putting-more, putting-stuck, putting-done}
+use borrow.Author.Needs.{needs}
+use Rattle.ask_translations.proofs.put_lines.Statement.{statement}
+use Rattle.ask_translations.proofs.put_lines.Tie as tie
+
+abbrev Inv-loop : tie.InvT-loop
+Inv-loop s first known sets turns table out₀ at₀ end₀ out at end = Putting s first at known out₀ out end
+
+abbrev μ-loop : tie.MeasureT-loop
+μ-loop s first known sets turns table out₀ at₀ end₀ out at end = length s - at
+
+loop-holds : tie.Need-loop-holds Inv-loop μ-loop
+loop-holds c = putting-none _
+
+feature-here-requires : tie.Need-feature-here-requires Inv-loop μ-loop
+feature-here-requires c κs = search needs
+
+feature-requires : tie.Need-feature-requires Inv-loop μ-loop
+feature-requires c κs = search needs
+
+past-requires : tie.Need-past-requires Inv-loop μ-loop
+past-requires c κs = search needs
+
+same-length : tie.Need-same-length Inv-loop μ-loop
+same-length c = c .before .before .before .before .before .loop .inv .kept
+
+returns : tie.Need-returns Inv-loop μ-loop
+returns c = putting-stuck (c .before .before .before .before .feature-here .ensures) (c .before .before .before .before .before .loop .inv) (c .before .before .before .if1 .taken) (c .before .before .feature .ensures) (c .before .past .ensures) (c .if2 .taken)
+
+sub-put-line : tie.Need-sub-put-line Inv-loop μ-loop
+sub-put-line c = omega (arith, c .before .before .before .before .before .loop .inv .within)
+
+part-put-line-start : tie.Need-part-put-line-start Inv-loop μ-loop
+part-put-line-start c = omega (arith, c .before .before .before .before .before .loop .inv .within)
+
+part-put-line-end : tie.Need-part-put-line-end Inv-loop μ-loop
+part-put-line-end c = omega (arith, c .before .before .before .before .before .loop .inv .within)
+
+put-line-requires : tie.Need-put-line-requires Inv-loop μ-loop
+put-line-requires c κs = search needs
+
+add-end : tie.Need-add-end Inv-loop μ-loop
+add-end c = omega (arith, putting-within (c .before .before .before .before .before .before .before .before .before .loop .inv) (c .before .before .put-line .ensures), c .before .before .before .before .before .before .before .before .before .before .before .before .good .1 .1 .1 .1 .1 .1 .0 .0)
+
+loop-less : tie.Need-loop-less Inv-loop μ-loop
+loop-less c = omega (arith, there-inside 60 (bytes "INSDFeature") (now (c .before .before .before .before .before .before .before .before .before .before .before .before .args .s)) (c .before .before .before .before .before .before .before .before .before .loop .at) (c .before .before .before .before .before .before .before .if1 .taken) (c .before .before .before .before .before .before .before .before .feature-here .ensures))
+
+loop-again : tie.Need-loop-again Inv-loop μ-loop
+loop-again c = putting-more (c .before .before .before .before .before .before .before .before .feature-here .ensures) (c .before .before .before .before .before .before .before .before .before .loop .inv) (c .before .before .before .before .before .before .before .if1 .taken) (c .before .before .before .before .before .before .feature .ensures) (c .before .before .before .before .before .past .ensures) (c .before .before .put-line .ensures)
+
+same-length-2 : tie.Need-same-length-2 Inv-loop μ-loop
+same-length-2 c = c .before .before .loop .inv .kept
+
+returns-2 : tie.Need-returns-2 Inv-loop μ-loop
+returns-2 c = putting-done (c .before .feature-here .ensures) (c .before .before .loop .inv) (c .if1 .left)
+
+pub put-lines-spec : {M : Type 1} → statement M
+put-lines-spec =
+    tie.close
+    (tie.spec
+    Inv-loop
+    μ-loop
+    loop-holds
+    feature-here-requires
+    feature-requires
+    past-requires
+    same-length
+    returns
+    sub-put-line
+    part-put-line-start
+    part-put-line-end
+    put-line-requires
+    add-end
+    loop-less
+    loop-again
+    same-length-2
+    returns-2)

@@ -1,0 +1,228 @@
+// All translations of a sequence of an accepted listing, a line for each feature that is a CDS, into lent bytes.
+// Relies on the translation of one feature and the walk along the features.
+use ask_translation::Plan;
+use ask_translation::Written;
+use ask_translation::plan_of;
+use ask_translation::refused;
+use ask_translation::translate;
+use judge_faults::Known;
+use protein_measure::Size;
+use protein_measure::measure;
+use read_steps::bytes_of;
+use walk_items::FoundFeature;
+use walk_items::FoundTable;
+ghost use Rattle.protein_code.specs.Tables.{SetTable, TurnTable, LetterTable};
+ghost use Rattle.ask_translations.specs.Lines.{Dashes, MeasuresLine, PassesFeature, Adds, MeasuresLines, PutsDash, PutsLine, PutsLines, TranslatesAll};
+
+// The length of some lines, or that they are longer than the room.
+pub enum Lined {
+    Is(usize),
+    Short,
+}
+
+// The length of the line `-`.
+fn dash_size(room: usize) -> Lined
+    ensures { λ r. ⌜ Dashes room r ⌝ }
+{
+    if room < 2 {
+        return Lined::Short;
+    }
+    Lined::Is(2)
+}
+
+// The length of a feature's line.
+fn line_size(
+    s: &[u8],
+    known: Known,
+    feature: FoundFeature,
+    room: usize,
+    sets: &[u8; 256],
+    turns: &[u8; 256],
+    table: &[u8; 4096],
+) -> Lined
+    requires { ⌜ SetTable (now sets) ⌝ }
+    requires { ⌜ TurnTable (now turns) ⌝ }
+    requires { ⌜ LetterTable (now table) ⌝ }
+    ensures { λ r. ⌜ MeasuresLine (now (s .entry)) known feature room r ⌝ }
+{
+    match plan_of(s, known, feature) {
+        Plan::NoCds => Lined::Is(0),
+        Plan::Unjudged => dash_size(room),
+        Plan::From(start) => {
+            let r = bytes_of(s, known.residues.from, known.residues.to);
+            let loc = bytes_of(s, feature.location.from, feature.location.to);
+            match measure(r, loc, known.top, start, room, sets, turns, table) {
+                Size::Is(n) => {
+                    if n < room {
+                        return Lined::Is(n + 1);
+                    }
+                    Lined::Short
+                }
+                Size::Short => Lined::Short,
+                Size::Stop => dash_size(room),
+            }
+        }
+    }
+}
+
+// From behind its last qualifier past the end of a feature.
+fn past(s: &[u8], feature: FoundFeature) -> usize
+    ensures { λ r. ⌜ PassesFeature (now (s .entry)) feature r ⌝ }
+{
+    let a = walk_items::qualifiers_over(s, feature.quals);
+    walk_items::feature_end(s, a, feature.long)
+}
+
+// The length of two texts, one behind the other.
+fn both(a: Lined, b: Lined, room: usize) -> Lined
+    ensures { λ r. ⌜ Adds a b room r ⌝ }
+{
+    let Lined::Is(n) = a else {
+        return Lined::Short;
+    };
+    let Lined::Is(m) = b else {
+        return Lined::Short;
+    };
+    if room < n {
+        return Lined::Short;
+    }
+    if room - n < m {
+        return Lined::Short;
+    }
+    Lined::Is(n + m)
+}
+
+// The length of the lines of all features that stand from here on.
+fn lines_size(
+    s: &[u8],
+    first: usize,
+    known: Known,
+    room: usize,
+    sets: &[u8; 256],
+    turns: &[u8; 256],
+    table: &[u8; 4096],
+) -> Lined
+    requires { ⌜ SetTable (now sets) ⌝ }
+    requires { ⌜ TurnTable (now turns) ⌝ }
+    requires { ⌜ LetterTable (now table) ⌝ }
+    ensures { λ r. ⌜ MeasuresLines (now (s .entry)) first known room r ⌝ }
+{
+    let mut at = first;
+    let mut size = Lined::Is(0);
+    loop {
+        if walk_items::feature_here(s, at) {
+            let feature = walk_items::feature(s, at);
+            let next = past(s, feature);
+            if next <= at {
+                return Lined::Short;
+            }
+            let line = line_size(s, known, feature, room, sets, turns, table);
+            size = both(size, line, room);
+            at = next;
+        } else {
+            return size;
+        }
+    }
+}
+
+// The line `-` at the front of out: how many bytes.
+fn put_dash(out: &mut [u8]) -> usize
+    ensures { λ r. ⌜ PutsDash (now (out .entry)) r (now (out .exit)) ⌝ }
+{
+    if out.len() < 2 {
+        return 0;
+    }
+    out[0] = b'-';
+    out[1] = b'\n';
+    2
+}
+
+// A feature's line at the front of out, where it fits: how many bytes.
+fn put_line(
+    s: &[u8],
+    known: Known,
+    feature: FoundFeature,
+    sets: &[u8; 256],
+    turns: &[u8; 256],
+    table: &[u8; 4096],
+    out: &mut [u8],
+) -> usize
+    requires { ⌜ SetTable (now sets) ⌝ }
+    requires { ⌜ TurnTable (now turns) ⌝ }
+    requires { ⌜ LetterTable (now table) ⌝ }
+    ensures { λ r. ⌜ PutsLine (now (s .entry)) known feature (now (out .entry)) r (now (out .exit)) ⌝ }
+{
+    let text = translate(s, known, feature, sets, turns, table, out);
+    if text.number == 35 {
+        return 0;
+    }
+    if text.number != 0 {
+        return put_dash(out);
+    }
+    let end = text.size;
+    if out.len() <= end {
+        return 0;
+    }
+    out[end] = b'\n';
+    end + 1
+}
+
+// The lines of all features that stand from here on.
+fn put_lines(
+    s: &[u8],
+    first: usize,
+    known: Known,
+    sets: &[u8; 256],
+    turns: &[u8; 256],
+    table: &[u8; 4096],
+    out: &mut [u8],
+)
+    requires { ⌜ SetTable (now sets) ⌝ }
+    requires { ⌜ TurnTable (now turns) ⌝ }
+    requires { ⌜ LetterTable (now table) ⌝ }
+    ensures { λ _. ⌜ PutsLines (now (s .entry)) first known (now (out .entry)) (now (out .exit)) ⌝ }
+{
+    let mut at = first;
+    let mut end: usize = 0;
+    loop {
+        if walk_items::feature_here(s, at) {
+            let feature = walk_items::feature(s, at);
+            let next = past(s, feature);
+            if next <= at {
+                return;
+            }
+            let n = put_line(s, known, feature, sets, turns, table, &mut out[end..]);
+            end += n;
+            at = next;
+        } else {
+            return;
+        }
+    }
+}
+
+// All translations of a sequence at the front of out; or nothing is written.
+pub fn translate_all(
+    s: &[u8],
+    known: Known,
+    found: FoundTable,
+    sets: &[u8; 256],
+    turns: &[u8; 256],
+    table: &[u8; 4096],
+    out: &mut [u8],
+) -> Written
+    requires { ⌜ SetTable (now sets) ⌝ }
+    requires { ⌜ TurnTable (now turns) ⌝ }
+    requires { ⌜ LetterTable (now table) ⌝ }
+    ensures { λ r. ⌜ TranslatesAll (now (s .entry)) known found (now (out .entry)) r (now (out .exit)) ⌝ }
+{
+    if !found.present {
+        return Written { number: 0, size: 0 };
+    }
+    match lines_size(s, found.first, known, out.len(), sets, turns, table) {
+        Lined::Short => refused(34),
+        Lined::Is(size) => {
+            put_lines(s, found.first, known, sets, turns, table, &mut out[..size]);
+            Written { number: 0, size }
+        }
+    }
+}

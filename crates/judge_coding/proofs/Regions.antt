@@ -1,0 +1,168 @@
+-- The whole region and its first fault.
+use Prim.Native.Nat.{ℕ, suc}
+use native.Mathlib.Omega.{arith}
+use mathlib.Core.Path.{_≡_, refl, sym, ap, _∙_, subst, subst₂}
+use mathlib.Core.Bool.{Bool, true, false, true≢false}
+use mathlib.Core.Logic.{inr}
+use mathlib.Core.List.{List}
+use mathlib.Core.Option.{Option, some}
+use lib.ListN.{length}
+use Rattle.paper.specs.Bytes.{raw, all}
+use Rattle.paper.specs.Tree.{Feature, Sequence, qualifiersOf}
+use Rattle.paper.specs.Locations.{Location, Locates, breaks25}
+use Rattle.paper.specs.Translation.{dropStop, hasStopInside}
+use Rattle.paper.specs.Rules.{L, Kind, isSymbol, Before, CodonStart, Judged, InCoding, rule-27, rule-28}
+use Rattle.paper.specs.Answers.{Translates}
+use Rattle.paper.specs.declared.Fault.{Fault}
+use Rattle.paper.specs.declared.Fault.the-variants.{Clean, At}
+use Rattle.paper.proofs.Locate.{locates-once}
+use Rattle.paper.proofs.Once.{translates-once}
+use Rattle.read_steps.specs.Parts.{Shows}
+use Rattle.value_words.proofs.Read.{raw-symbols}
+use Rattle.value_words.proofs.Tests.{tells-true, tells-false}
+use Rattle.walk_steps.specs.declared.Part.{Part}
+use Rattle.location_judge.specs.Judging.{Judged as Placed}
+use Rattle.location_judge.specs.declared.judging.Facts.{Facts}
+use Rattle.location_judge.specs.declared.judging.Verdict.{Verdict}
+use Rattle.location_judge.specs.declared.judging.Verdict.the-variants.{Bad, Is}
+use Rattle.protein_codons.specs.Reading.{Codes}
+use Rattle.protein_codons.specs.Letters.{lettersOf}
+use Rattle.judge_faults.specs.Sets.{Firsts, Some}
+use Rattle.judge_faults.specs.Known.{Knows}
+use Rattle.judge_faults.specs.declared.Known.{Known}
+use Rattle.judge_faults.proofs.Bytes.{part-shows}
+use Rattle.judge_faults.proofs.Faults.{firsts-none, firsts-as}
+use Rattle.judge_frame.specs.Qualifiers.{FrameIs, Notes, LeavesOut}
+use Rattle.judge_coding.specs.Translations.{Breaks28, Rights}
+use Rattle.judge_coding.specs.Coding.{Asked, JudgesCoding, JudgesRegion}
+use Rattle.judge_frame.specs.declared.Frame.the-variants.{Wrong}
+use Rattle.judge_frame.specs.declared.Noted.{Noted}
+use Rattle.judge_frame.proofs.Frames.{start-wrong}
+
+-- ---- rule 28 of the region
+
+-- whichever letters are meant, a translation is right of the ones where it is right of the others
+agree : {q : Sequence ℕ} {f : Feature ℕ} {x y : List ℕ} {v : Option (List ℕ)} → Judged q f x → Judged q f y
+    → (v ≡ some (dropStop x)) × (hasStopInside x ≡ false) → (v ≡ some (dropStop y)) × (hasStopInside y ≡ false)
+agree {q} {f} {x} {y} {v} j k h = by (hasStopInside y) refl
+  where
+    by : (b : Bool) → hasStopInside y ≡ b → (v ≡ some (dropStop y)) × (hasStopInside y ≡ false)
+    by true e =
+        let o = translates-once (Translates.stop-inside k e) (Translates.translation j (h .1)) in
+        let z : _≡_ {A = ℕ} 0 1 = cc in
+        absurd (omega arith)
+    by false e =
+        let o = translates-once (Translates.translation k e) (Translates.translation j (h .1)) in
+        let d : dropStop y ≡ dropStop x = cc in
+        (h .0 ∙ ap some (sym d), e)
+
+module _ {q : Sequence ℕ} {f : Feature ℕ} {start : ℕ} (starts : CodonStart f start) where
+  -- nothing is broken where it isn't judged
+  none-judged : ((x : List ℕ) → ¬ Judged q f x) → Firsts (InCoding q f) Clean
+  none-judged h = firsts-none (InCoding q f) not-broken
+    where
+      not-broken : (n p : ℕ) → ¬ InCoding q f n p
+      not-broken n p (rule-27 c k) = k start starts
+      not-broken n p (rule-28 x j y m i k) = h x j
+
+  judged-as : {x : List ℕ} {r : Fault} → Judged q f x → Firsts (Some (Breaks28 x) (qualifiersOf f)) r → Firsts (InCoding q f) r
+  judged-as {x} j = firsts-as (Some (Breaks28 x) (qualifiersOf f)) (InCoding q f) to of
+    where
+      to : (n p : ℕ) → Some (Breaks28 x) (qualifiersOf f) n p → InCoding q f n p
+      to n p b =
+          let y = b .1 in
+          let u = b .3 in
+          subst₂ (InCoding q f) (sym (u .0)) (sym (u .1)) (rule-28 x j y (b .2 .0, b .2 .2) (u .2) (u .3))
+
+      of : (n p : ℕ) → InCoding q f n p → Some (Breaks28 x) (qualifiersOf f) n p
+      of n p (rule-27 c k) = absurd (k start starts)
+      of n p (rule-28 z i y m d k) = (suc (m .0), y, (m .0, refl, m .1), (refl, refl, d, λ h. k (agree j i h)))
+
+-- what was found of it: residues that are symbols, and the location, as they are written
+module _ {s r : List ℕ} {known : Known} {q : Sequence ℕ} (k : Knows s q known) where
+  pub residues-read : Shows s (known .residues .from) (known .residues .to) r → (c : Kind) → all (isSymbol c) (q .residues .read) → r ≡ q .residues .read
+  residues-read shown c sy = part-shows (k .residues) shown ∙ raw-symbols c (q .residues .read) sy
+
+  pub found-codes : {loc v : List ℕ} {t : Location} → loc ≡ raw v → r ≡ q .residues .read → Locates t v → breaks25 (L q) t ≡ false → Codes r loc (known .top) t
+  found-codes {v = v} {t = t} el er l b =
+      record { sized = ap length er ∙ sym (k .size); read = v; written = el; located = l; right = ap (λ (n : ℕ). breaks25 n t) (k .size) ∙ b }
+
+module _ {s : List ℕ} {location : Part} {first : ℕ} {known : Known} {verdict : Verdict} {start : ℕ} {u : Bool} where
+  pub region-unjudged : u ≡ true → JudgesRegion s location first known verdict start u Clean
+  region-unjudged e = record { says = λ key q f stop a c t. none-judged c (λ x j. j .judged (tells-true u e t)) }
+
+  pub region-unclean : known .clean ≡ false → JudgesRegion s location first known verdict start u Clean
+  region-unclean e =
+      record {
+        says =
+            λ key q f stop a c t. none-judged c (λ x j. tells-false (known .clean) e (a .knows .clean (j .coding .kind) (j .coding .is)) (j .symbols));
+      }
+
+  pub region-bad : verdict ≡ Bad → JudgesRegion s location first known verdict start u Clean
+  region-bad e =
+      record { says = λ key q f stop a c t. none-judged c (λ x j. subst (Placed (L q) (f .location .read)) e (a .judged) (j .codons .location) (j .codons .located)) }
+
+  module _ {x : Facts} (e : verdict ≡ Is x) where
+    pub region-outside : x .wrong ≡ true → JudgesRegion s location first known verdict start u Clean
+    region-outside w =
+        record {
+          says =
+              λ key q f stop a c t.
+              none-judged c
+              (λ z j.
+              let k = subst (Placed (L q) (f .location .read)) e (a .judged) in
+              let o = locates-once (k .0) (j .codons .location) (k .1) (j .codons .located) in
+              true≢false (sym w ∙ k .2 .wrong ∙ ap (breaks25 (L q)) o ∙ j .codons .inside));
+        }
+
+    pub region-judged : {r loc : List ℕ} {y : Fault} → u ≡ false → known .clean ≡ true → x .wrong ≡ false
+        → Shows s (known .residues .from) (known .residues .to) r → Shows s (location .from) (location .to) loc
+        → Rights s r loc (known .top) start first y → JudgesRegion s location first known verdict start u y
+    region-judged d g w shr shl rights =
+        record {
+          says =
+              λ key q f stop a c t.
+              let k = subst (Placed (L q) (f .location .read)) e (a .judged) in
+              let sy : all (isSymbol (a .coding .kind)) (q .residues .read) = tells-true (known .clean) g (a .knows .clean (a .coding .kind) (a .coding .is)) in
+              let er = residues-read (a .knows) shr (a .coding .kind) sy in
+              let b : breaks25 (L q) (k .0) ≡ false = sym (k .2 .wrong) ∙ w in
+              judged-as c
+              (record {
+                coding = a .coding;
+                symbols = sy;
+                judged = tells-false u d t;
+                codons =
+                    record { location = k .0; located = k .1; inside = b; start = start; starts = c; are = ap (λ (z : List ℕ). lettersOf z start (k .0)) er };
+              })
+              (rights .says (k .0) (found-codes (a .knows) (part-shows (a .located) shl) er (k .1) b) (qualifiersOf f) stop (a .quals) (a .closes));
+        }
+
+-- ---- the region
+
+module _ {s : List ℕ} {key : ℕ} {location : Part} {first : ℕ} {known : Known} {verdict : Verdict} {x : Noted} {u : Bool}
+    (notes : Notes s first x) (leaves : LeavesOut (x .excepted) verdict u) where
+  pub coding-framed : {start : ℕ} {y : Fault} → ((f : Feature ℕ) → FrameIs (qualifiersOf f) (x .frame) → CodonStart f start)
+      → JudgesRegion s location first known verdict start u y → JudgesCoding s key location first known verdict (record { fault = y; unjudged = u; next = x .next })
+  coding-framed g r =
+      record {
+        says =
+            λ q f stop a.
+            let n = notes .says (qualifiersOf f) stop (a .quals) (a .closes) in
+            let t = leaves .says (L q) f (n .0 .left) (a .judged) in
+            record { fault = r .says key q f stop a (g f (n .0 .framed)) t; unjudged = t; next = n .1 };
+      }
+
+  pub coding-wrong : x .frame ≡ Wrong → JudgesCoding s key location first known verdict (record { fault = At 27 key; unjudged = u; next = x .next })
+  coding-wrong e =
+      record {
+        says =
+            λ q f stop a.
+            let n = notes .says (qualifiersOf f) stop (a .quals) (a .closes) in
+            let z = start-wrong f (subst (FrameIs (qualifiersOf f)) e (n .0 .framed)) in
+            record { fault = record { is = record { broken = subst (InCoding q f 27) (sym (a .at)) (rule-27 (a .coding) z); least = least q f a z } }; unjudged = leaves .says (L q) f (n .0 .left) (a .judged); next = n .1 };
+      }
+    where
+      least : (q : Sequence ℕ) (f : Feature ℕ) {stop : ℕ} → Asked s key location first known verdict q f stop → ((n : ℕ) → ¬ CodonStart f n)
+          → (m p : ℕ) → InCoding q f m p → Before 27 key m p
+      least q f a z m p (rule-27 c k) = inr (a .at, omega arith)
+      least q f a z m p (rule-28 y j w i d k) = absurd (z (j .codons .start) (j .codons .starts))

@@ -1,0 +1,56 @@
+-- `judge_coding::translations` meets its contract. The loop's invariant: the first fault of the qualifiers passed. The measure is what is left of the text.
+use Prim.Native.Nat.{_-_}
+use native.Mathlib.Omega.{arith}
+use denote.Ref.{now}
+use lib.ListN.{length}
+use Rattle.paper.specs.Bytes.{bytes}
+use Rattle.walk_steps.proofs.Loops.{there-inside}
+use Rattle.judge_coding.proofs.Rights.{Checking, checking-none, checking-next, checking-stuck, checking-done}
+use borrow.Author.Needs.{needs}
+use Rattle.judge_coding.proofs.translations.Statement.{statement}
+use Rattle.judge_coding.proofs.translations.Tie as tie
+
+abbrev Inv-loop : tie.InvT-loop
+Inv-loop s r loc top start first sets turns table at₀ fault₀ right₀ at fault right = Checking s r loc top start first at fault right
+
+abbrev μ-loop : tie.MeasureT-loop
+μ-loop s r loc top start first sets turns table at₀ fault₀ right₀ at fault right = length s - at
+
+loop-holds : tie.Need-loop-holds Inv-loop μ-loop
+loop-holds c = checking-none
+
+qualifier-here-requires : tie.Need-qualifier-here-requires Inv-loop μ-loop
+qualifier-here-requires c κs = search needs
+
+qualifier-requires : tie.Need-qualifier-requires Inv-loop μ-loop
+qualifier-requires c κs = search needs
+
+returns : tie.Need-returns Inv-loop μ-loop
+returns c = checking-stuck (c .before .before .before .before .qualifier-here .ensures) (c .before .before .before .before .before .loop .inv) (c .before .before .before .if1 .taken) (c .before .before .qualifier .ensures) (c .if2 .taken)
+
+check-requires : tie.Need-check-requires Inv-loop μ-loop
+check-requires c κs = c .before .before .before .before .before .before .before .before .before .pre
+
+loop-less : tie.Need-loop-less Inv-loop μ-loop
+loop-less c = omega (arith, there-inside 60 (bytes "INSDQualifier") (now (c .before .before .before .before .before .before .before .before .before .before .args .s)) (c .before .before .before .before .before .before .loop .at) (c .before .before .before .before .if1 .taken) (c .before .before .before .before .before .qualifier-here .ensures))
+
+loop-again : tie.Need-loop-again Inv-loop μ-loop
+loop-again c = checking-next (c .before .before .before .before .before .qualifier-here .ensures) (c .before .before .before .before .before .before .loop .inv) (c .before .before .before .before .if1 .taken) (c .before .before .before .qualifier .ensures) (c .check .ensures)
+
+returns-2 : tie.Need-returns-2 Inv-loop μ-loop
+returns-2 c = checking-done (c .before .qualifier-here .ensures) (c .before .before .loop .inv) (c .if1 .left)
+
+pub translations-spec : {M : Type 1} → statement M
+translations-spec =
+    tie.close
+    (tie.spec
+    Inv-loop
+    μ-loop
+    loop-holds
+    qualifier-here-requires
+    qualifier-requires
+    returns
+    check-requires
+    loop-less
+    loop-again
+    returns-2)

@@ -1,0 +1,307 @@
+// One coding region of DNA or RNA: rules 27 and 28, and whether it is judged.
+// Relies on the walk along its qualifiers, the values, the judged location, the framing of its codon_start and the comparison with the translation.
+use judge_faults::Known;
+use judge_faults::earlier;
+use judge_frame::Frame;
+use judge_frame::Noted;
+use judge_frame::gather;
+use judge_frame::is_unjudged;
+use location_judge::judging::Verdict;
+use paper::Fault;
+use protein_compare::is_right;
+use read_steps::bytes_of;
+use value_words::same;
+use walk_items::FoundQualifier;
+use walk_steps::Maybe;
+use walk_steps::Part;
+ghost use Rattle.protein_code.specs.Tables.{SetTable, TurnTable, LetterTable};
+ghost use Rattle.value_words.specs.Reading.{Tells};
+ghost use Rattle.judge_coding.specs.Translations.{Settled, SaysRight, Checks, Rights};
+ghost use Rattle.judge_coding.specs.Coding.{JudgesCoding, JudgesRegion};
+
+// The first fault of the region, whether it is unjudged, and where its qualifiers end.
+pub struct Region {
+    pub fault: Fault,
+    pub unjudged: bool,
+    pub next: usize,
+}
+
+// ---- its translations: `r` are the residues, `loc` is the raw part of the location, `start` the codon_start
+
+// Whether the value is right. Where one that is right was seen, that is the same bytes, and no codon is read.
+fn value_right(
+    s: &[u8],
+    r: &[u8],
+    loc: &[u8],
+    top: u32,
+    start: usize,
+    value: Part,
+    right: Maybe,
+    sets: &[u8; 256],
+    turns: &[u8; 256],
+    table: &[u8; 4096],
+) -> bool
+    requires { ⌜ SetTable (now sets) ⌝ }
+    requires { ⌜ TurnTable (now turns) ⌝ }
+    requires { ⌜ LetterTable (now table) ⌝ }
+    ensures { λ y. ⌜ SaysRight (now (s .entry)) (now (r .entry)) (now (loc .entry)) top start value right y ⌝ }
+{
+    let v = bytes_of(s, value.from, value.to);
+    match right {
+        Maybe::Absent => {
+            return is_right(r, loc, top, start, v, sets, turns, table);
+        }
+        Maybe::Present(k) => {
+            let u = bytes_of(s, k.from, k.to);
+            return same(v, u);
+        }
+    }
+}
+
+// Whether the fault comes before this place, so that no fault there is the first.
+fn is_settled(fault: Fault, place: usize) -> bool
+    ensures { λ r. ⌜ Tells r (Settled fault place) ⌝ }
+{
+    match fault {
+        Fault::Clean => {
+            return false;
+        }
+        Fault::At {
+            rule: _,
+            place: first,
+        } => {
+            return first < place;
+        }
+    }
+}
+
+// The first fault so far, and a value that is known to be right.
+struct Checked {
+    fault: Fault,
+    right: Maybe,
+}
+
+// The same, after one qualifier more. Where a fault stands before its value no codon is read.
+fn check(
+    s: &[u8],
+    r: &[u8],
+    loc: &[u8],
+    top: u32,
+    start: usize,
+    name: Part,
+    value: Maybe,
+    fault: Fault,
+    right: Maybe,
+    sets: &[u8; 256],
+    turns: &[u8; 256],
+    table: &[u8; 4096],
+) -> Checked
+    requires { ⌜ SetTable (now sets) ⌝ }
+    requires { ⌜ TurnTable (now turns) ⌝ }
+    requires { ⌜ LetterTable (now table) ⌝ }
+    ensures { λ y. ⌜ Checks (now (s .entry)) (now (r .entry)) (now (loc .entry)) top start name value fault right y ⌝ }
+{
+    let w = bytes_of(s, name.from, name.to);
+    if !same(w, b"translation") {
+        return Checked { fault, right };
+    }
+    match value {
+        Maybe::Absent => {
+            let missing = Fault::At {
+                rule: 28,
+                place: name.from,
+            };
+            return Checked {
+                fault: earlier(fault, missing),
+                right,
+            };
+        }
+        Maybe::Present(p) => {
+            if is_settled(fault, p.from) {
+                return Checked { fault, right };
+            }
+            if value_right(s, r, loc, top, start, p, right, sets, turns, table) {
+                return Checked {
+                    fault,
+                    right: Maybe::Present(p),
+                };
+            }
+            let wrong = Fault::At {
+                rule: 28,
+                place: p.from,
+            };
+            return Checked {
+                fault: earlier(fault, wrong),
+                right,
+            };
+        }
+    }
+}
+
+// The first fault of all translations.
+fn translations(
+    s: &[u8],
+    r: &[u8],
+    loc: &[u8],
+    top: u32,
+    start: usize,
+    first: usize,
+    sets: &[u8; 256],
+    turns: &[u8; 256],
+    table: &[u8; 4096],
+) -> Fault
+    requires { ⌜ SetTable (now sets) ⌝ }
+    requires { ⌜ TurnTable (now turns) ⌝ }
+    requires { ⌜ LetterTable (now table) ⌝ }
+    ensures { λ y. ⌜ Rights (now (s .entry)) (now (r .entry)) (now (loc .entry)) top start first y ⌝ }
+{
+    let mut at = first;
+    let mut fault = Fault::Clean;
+    let mut right = Maybe::Absent;
+    loop {
+        if walk_items::qualifier_here(s, at) {
+            let FoundQualifier { name, value, next } = walk_items::qualifier(s, at);
+            if next <= at {
+                return fault;
+            }
+            let Checked {
+                fault: least,
+                right: known,
+            } = check(
+                s,
+                r,
+                loc,
+                top,
+                start,
+                name,
+                value,
+                fault,
+                right,
+                sets,
+                turns,
+                table,
+            );
+            fault = least;
+            right = known;
+            at = next;
+        } else {
+            return fault;
+        }
+    }
+}
+
+// ---- the region
+
+// The fault of a region that keeps rule 27.
+fn region_fault(
+    s: &[u8],
+    location: Part,
+    first: usize,
+    known: Known,
+    verdict: Verdict,
+    start: usize,
+    unjudged: bool,
+    sets: &[u8; 256],
+    turns: &[u8; 256],
+    table: &[u8; 4096],
+) -> Fault
+    requires { ⌜ SetTable (now sets) ⌝ }
+    requires { ⌜ TurnTable (now turns) ⌝ }
+    requires { ⌜ LetterTable (now table) ⌝ }
+    ensures { λ y. ⌜ JudgesRegion (now (s .entry)) location first known verdict start unjudged y ⌝ }
+{
+    if unjudged {
+        return Fault::Clean;
+    }
+    if !known.clean {
+        return Fault::Clean;
+    }
+    match verdict {
+        Verdict::Bad => {
+            return Fault::Clean;
+        }
+        Verdict::Is(f) => {
+            if f.wrong {
+                return Fault::Clean;
+            }
+            let r = bytes_of(s, known.residues.from, known.residues.to);
+            let loc = bytes_of(s, location.from, location.to);
+            return translations(s, r, loc, known.top, start, first, sets, turns, table);
+        }
+    }
+}
+
+// `key` is the place of the feature's key, `first` where its qualifiers stand, `verdict` what was judged of its location.
+pub fn judge_coding(
+    s: &[u8],
+    key: usize,
+    location: Part,
+    first: usize,
+    known: Known,
+    verdict: Verdict,
+    sets: &[u8; 256],
+    turns: &[u8; 256],
+    table: &[u8; 4096],
+) -> Region
+    requires { ⌜ SetTable (now sets) ⌝ }
+    requires { ⌜ TurnTable (now turns) ⌝ }
+    requires { ⌜ LetterTable (now table) ⌝ }
+    ensures { λ r. ⌜ JudgesCoding (now (s .entry)) key location first known verdict r ⌝ }
+{
+    let Noted {
+        frame,
+        excepted,
+        next,
+    } = gather(s, first);
+    let unjudged = is_unjudged(excepted, verdict);
+    match frame {
+        Frame::Unstated => {
+            let fault = region_fault(
+                s,
+                location,
+                first,
+                known,
+                verdict,
+                1,
+                unjudged,
+                sets,
+                turns,
+                table,
+            );
+            return Region {
+                fault,
+                unjudged,
+                next,
+            };
+        }
+        Frame::Stated(n) => {
+            let fault = region_fault(
+                s,
+                location,
+                first,
+                known,
+                verdict,
+                n,
+                unjudged,
+                sets,
+                turns,
+                table,
+            );
+            return Region {
+                fault,
+                unjudged,
+                next,
+            };
+        }
+        Frame::Wrong => {
+            return Region {
+                fault: Fault::At {
+                    rule: 27,
+                    place: key,
+                },
+                unjudged,
+                next,
+            };
+        }
+    }
+}

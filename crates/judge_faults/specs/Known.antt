@@ -1,0 +1,26 @@
+-- What is known of a sequence while its features are judged.
+use Prim.Native.Nat.{ℕ}
+use mathlib.Core.Path.{_≡_}
+use mathlib.Core.List.{List}
+use Rattle.paper.specs.Bytes.{all}
+use Rattle.paper.specs.Tree.{Sequence}
+use Rattle.paper.specs.Rules.{L, Kind, dna, rna, aa, IsKind, isSymbol}
+use Rattle.value_words.specs.Reading.{Tells, KindIs}
+use Rattle.value_words.specs.declared.Kind as code
+use Rattle.value_words.specs.declared.Kind.the-variants as kind
+use Rattle.walk_steps.specs.Stands.{IsPart}
+use Rattle.judge_faults.specs.declared.Known.{Known}
+
+-- the kind of the paper that a kind of the code stands for
+abbrev pub CodeOf : code.Kind → Kind → Type 0
+CodeOf kind.Dna k = k ≡ dna
+CodeOf kind.Rna k = k ≡ rna
+CodeOf kind.Aa k = k ≡ aa
+CodeOf kind.Other k = ⊥
+
+-- what is known of the sequence q
+pub record Knows (s : List ℕ) (q : Sequence ℕ) (x : Known) : Type 0 where
+  pub kind : KindIs (q .moltype .read) (x .kind)
+  pub size : x .top ≡ L q
+  pub clean : (k : Kind) → IsKind k q → Tells (x .clean) (all (isSymbol k) (q .residues .read))
+  pub residues : IsPart s (q .residues) (x .residues)

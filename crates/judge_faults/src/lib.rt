@@ -1,0 +1,49 @@
+// What the parts of the judge share: the earlier of two faults, the fault of a test, and what is known of a sequence while its features
+// are judged. Relies on the paper, the walk and the values. The sets of broken rules that each part answers for stand in specs/.
+use paper::Fault;
+use value_words::Kind;
+use walk_steps::Part;
+ghost use mathlib.Core.Path.{_≡_};
+ghost use Rattle.paper.specs.Rules.{Earlier};
+ghost use Rattle.judge_faults.specs.Sets.{unlessOf};
+
+// What is known of a sequence while its features are judged: the kind that its moltype names, L, whether every residue is a symbol of the
+// kind, and where its residues stand.
+pub struct Known {
+    pub kind: Kind,
+    pub top: u32,
+    pub clean: bool,
+    pub residues: Part,
+}
+
+// The earlier of two faults.
+pub fn earlier(a: Fault, b: Fault) -> Fault
+    ensures { λ r. ⌜ Earlier a b r ⌝ }
+{
+    let Fault::At { rule: n, place: p } = a else {
+        return b;
+    };
+    let Fault::At { rule: m, place: q } = b else {
+        return Fault::At { rule: n, place: p };
+    };
+    if p < q {
+        return Fault::At { rule: n, place: p };
+    }
+    if q < p {
+        return Fault::At { rule: m, place: q };
+    }
+    if n <= m {
+        return Fault::At { rule: n, place: p };
+    }
+    Fault::At { rule: m, place: q }
+}
+
+// The fault of a test that fails.
+pub fn unless(ok: bool, rule: usize, place: usize) -> Fault
+    ensures { λ r. ⌜ r ≡ unlessOf ok rule place ⌝ }
+{
+    if ok {
+        return Fault::Clean;
+    }
+    Fault::At { rule, place }
+}

@@ -1,0 +1,122 @@
+-- One feature judged, as a source, as a coding region, or as neither.
+use Prim.Native.Nat.{ℕ}
+use mathlib.Core.Path.{_≡_, refl, sym, ap, _∙_, subst}
+use mathlib.Core.Bool.{Bool, true, false}
+use mathlib.Core.Logic.{inl, inr}
+use mathlib.Core.List.{List}
+use Rattle.paper.specs.Bytes.{isBlank, raw}
+use Rattle.paper.specs.Form.{each}
+use Rattle.paper.specs.Layout.{child, qualifier, feature}
+use Rattle.paper.specs.Tree.{Sequence, Feature, qualifiersOf}
+use Rattle.paper.specs.Rules.{L, Kind, IsKind, Coding, Unjudged, Earlier, InLocation, InCoding, rule-27, rule-28, InFeature}
+use Rattle.paper.specs.declared.Fault.{Fault}
+use Rattle.paper.specs.declared.Fault.the-variants.{Clean}
+use Rattle.read_steps.specs.Follow.{Not, Starts, closing}
+use Rattle.read_steps.specs.Parts.{Shows}
+use Rattle.walk_steps.specs.Stands.{Ends, Over}
+use Rattle.walk_steps.proofs.Places.{from}
+use Rattle.walk_items.specs.Items.{FindsFeature, IsFeature, featureTail}
+use Rattle.walk_items.specs.declared.FoundFeature.{FoundFeature}
+use Rattle.value_words.specs.Reading.{Tells}
+use Rattle.value_words.proofs.Tests.{told}
+use Rattle.location_judge.specs.Judging.{Judged, JudgesPart}
+use Rattle.location_judge.specs.declared.judging.Verdict.{Verdict}
+use Rattle.location_judge.proofs.Verdicts.{judged-by}
+use Rattle.judge_faults.specs.Sets.{Firsts}
+use Rattle.judge_faults.specs.Known.{Knows}
+use Rattle.judge_faults.specs.declared.Known.{Known}
+use Rattle.judge_faults.proofs.Bytes.{part-shows, text-shown}
+use Rattle.judge_faults.proofs.Faults.{firsts-or, firsts-as}
+use Rattle.judge_source.specs.Sources.{JudgesSource, IsSource as IsSourced}
+use Rattle.judge_source.specs.declared.Sourced.{Sourced}
+use Rattle.judge_frame.specs.Starts.{NamesCoding}
+use Rattle.judge_coding.specs.Coding.{JudgesCoding}
+use Rattle.judge_coding.specs.declared.Region.{Region}
+use Rattle.judge_features.specs.Featured.{placeFault, IsSource, NamesSource, roleOf, RoleIs, JudgesFeature}
+use Rattle.judge_features.specs.declared.Role.{Role}
+use Rattle.judge_features.specs.declared.Role.the-variants as role
+use Rattle.judge_features.proofs.Keys.{placed, not-both}
+
+-- what is not a coding region breaks no rule of one
+no-coding : {q : Sequence ℕ} {f : Feature ℕ} → ¬ Coding q f → {place : Fault} → Firsts (InLocation q (f .location)) place → Firsts (InFeature q f) place
+no-coding {q} {f} n h = firsts-as (InLocation q (f .location)) (InFeature q f) (λ m p x. inl x) (λ m p x. only m p x) h
+  where
+    only : (m p : ℕ) → InFeature q f m p → InLocation q (f .location) m p
+    only m p (inl x) = x
+    only m p (inr (rule-27 c g)) = absurd (n c)
+    only m p (inr (rule-28 x j y i t g)) = absurd (n (j .coding))
+
+module _ (v : Verdict) {s : List ℕ} {known : Known} {x : FoundFeature} {q : Sequence ℕ} {f : Feature ℕ} {e : ℕ} (y : IsFeature s f e x) (k : Knows s q known)
+    (jl : JudgesPart s (x .location .from) (x .location .to) (known .top) v) where
+  judged : Judged (L q) (f .location .read) v
+  judged = subst (λ (n : ℕ). Judged n (f .location .read) v) (k .size) (judged-by (known .top) v (jl .is (raw (f .location .read)) (text-shown (y .location))) (f .location .read) refl)
+
+  place-is : {place : Fault} → place ≡ placeFault v (known .kind) (x .location .from) → Firsts (InLocation q (f .location)) place
+  place-is pl =
+      subst (Firsts (InLocation q (f .location))) (sym (pl ∙ ap (placeFault v (known .kind)) (y .location .first)))
+      (placed q (f .location) v (known .kind) judged (k .kind))
+
+module _ (v : Verdict) {s wk : List ℕ} {at n : ℕ} {known : Known} {x : FoundFeature} {place : Fault} {is-source : Bool} (finds : FindsFeature s at x)
+    (jl : JudgesPart s (x .location .from) (x .location .to) (known .top) v) (pl : place ≡ placeFault v (known .kind) (x .location .from))
+    (sk : Shows s (x .key .from) (x .key .to) wk) (ns : NamesSource wk (known .kind) is-source) where
+  pub as-source : {y : Sourced} → is-source ≡ true → JudgesSource s (x .key .from) (x .location) (x .quals) known y
+      → Ends (featureTail (x .long)) (Not isBlank) s (y .next) n
+      → JudgesFeature s at known (record { fault = place; source = y .fault; role = role.Source; next = n })
+  as-source {y} h js ends =
+      record {
+        says =
+            λ q f e k d fol.
+            let z = finds f e d fol in
+            let is = told (IsSource q f) h (ns .says q f (k .kind) (part-shows (z .key) sk)) in
+            let asked : (j : Kind) → IsKind j q → IsSourced j q f (z .stop) y =
+            λ j i. js .says j q f (z .stop) (record { knows = k; kind = i; at = z .key .first; located = z .location; quals = z .quals; closes = z .closes }) in
+            record {
+              fault = no-coding (not-both is) (place-is v z k jl pl);
+              role = (is, not-both is);
+              source = λ j i g. asked j i .fault;
+              next = ends .is e (from (asked (is .0) (is .1) .next) (z .ends)) fol;
+            };
+      }
+
+  module _ {is-coding : Bool} (h : is-source ≡ false) (nc : NamesCoding wk (known .kind) is-coding) where
+    pub as-coding : {y : Region} {r : Role} (both : Fault) → is-coding ≡ true → JudgesCoding s (x .key .from) (x .location) (x .quals) known v y → Earlier place (y .fault) both
+        → r ≡ roleOf (y .unjudged) → Ends (featureTail (x .long)) (Not isBlank) s (y .next) n
+        → JudgesFeature s at known (record { fault = both; source = Clean; role = r; next = n })
+    as-coding {y} {r} both g jc el er ends =
+        record {
+          says =
+              λ q f e k d fol.
+              let z = finds f e d fol in
+              let key = part-shows (z .key) sk in
+              let c = told (Coding q f) g (nc .says q f (k .kind) key) in
+              let ns' = told (IsSource q f) h (ns .says q f (k .kind) key) in
+              let w = jc .says q f (z .stop) (record { knows = k; coding = c; at = z .key .first; located = z .location; judged = judged v z k jl; quals = z .quals; closes = z .closes }) in
+              record {
+                fault = firsts-or (InLocation q (f .location)) (InCoding q f) (place-is v z k jl pl) (w .fault) el;
+                role = subst (RoleIs q f) (sym er) (by q f ns' c (y .unjudged) (w .unjudged));
+                source = λ j i t. absurd (ns' (j, i, t));
+                next = ends .is e (from (w .next) (z .ends)) fol;
+              };
+        }
+      where
+        by : (q : Sequence ℕ) (f : Feature ℕ) → ¬ IsSource q f → Coding q f → (u : Bool) → Tells u (Unjudged f) → RoleIs q f (roleOf u)
+        by q f i c true t = (i, c, t)
+        by q f i c false t = (i, c, t)
+
+    pub as-plain : {a : ℕ} → is-coding ≡ false → Over (each (child qualifier)) (Starts closing) s (x .quals) a → Ends (featureTail (x .long)) (Not isBlank) s a n
+        → JudgesFeature s at known (record { fault = place; source = Clean; role = role.Plain; next = n })
+    as-plain g over ends =
+        record {
+          says =
+              λ q f e k d fol.
+              let z = finds f e d fol in
+              let key = part-shows (z .key) sk in
+              let c = told (Coding q f) g (nc .says q f (k .kind) key) in
+              let ns' = told (IsSource q f) h (ns .says q f (k .kind) key) in
+              record {
+                fault = no-coding c (place-is v z k jl pl);
+                role = (ns', c);
+                source = λ j i t. absurd (ns' (j, i, t));
+                next = ends .is e (from (over .is (qualifiersOf f) (z .stop) (z .quals) (z .closes)) (z .ends)) fol;
+              };
+        }

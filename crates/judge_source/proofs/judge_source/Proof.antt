@@ -1,0 +1,51 @@
+-- `judge_source::judge_source` meets its contract: the earlier of rules 22 and 23.
+use Rattle.judge_source.proofs.Counts.{source-judged}
+use borrow.Author.Needs.{needs}
+use Rattle.judge_source.proofs.judge_source.Statement.{statement}
+use Rattle.judge_source.proofs.judge_source.Tie as tie
+
+is-aa-requires : tie.Need-is-aa-requires
+is-aa-requires c κs = search needs
+
+count-names-requires : tie.Need-count-names-requires
+count-names-requires c κs = search needs
+
+is-once-requires : tie.Need-is-once-requires
+is-once-requires c κs = search needs
+
+unless-requires : tie.Need-unless-requires
+unless-requires c κs = search needs
+
+bytes-of-requires : tie.Need-bytes-of-requires
+bytes-of-requires c κs = search needs
+
+cast-is-whole : tie.Need-cast-is-whole
+cast-is-whole c = search needs
+
+is-whole-requires : tie.Need-is-whole-requires
+is-whole-requires c κs = search needs
+
+unless-requires-2 : tie.Need-unless-requires-2
+unless-requires-2 c κs = search needs
+
+earlier-requires : tie.Need-earlier-requires
+earlier-requires c κs = search needs
+
+returns : tie.Need-returns
+returns c =
+    source-judged (c .before .before .before .before .before .unless .result) (c .before .unless2 .result) (c .before .before .before .before .before .before .before .before .is-aa .ensures) (c .before .before .before .before .before .before .before .count-names .ensures) (c .before .before .before .before .before .before .is-once .ensures) (c .before .before .before .before .before .unless .ensures) (c .before .before .before .before .bytes-of .ensures) (c .before .before .is-whole .ensures) (c .before .unless2 .ensures) (c .earlier .ensures)
+
+pub judge-source-spec : {M : Type 1} → statement M
+judge-source-spec =
+    tie.close
+    (tie.spec
+    is-aa-requires
+    count-names-requires
+    is-once-requires
+    unless-requires
+    bytes-of-requires
+    cast-is-whole
+    is-whole-requires
+    unless-requires-2
+    earlier-requires
+    returns)

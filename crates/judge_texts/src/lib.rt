@@ -1,0 +1,173 @@
+// The texts of a sequence: its number, length, kind, division and residues. Rules 15 to 20 and 29, and what is known of a sequence for the
+// judgement of its features. Relies on the walk, the values, the residues and what the judge's parts share.
+use judge_faults::Known;
+use paper::Fault;
+use value_words::Kind;
+use walk_steps::Part;
+ghost use mathlib.Core.Path.{_≡_};
+ghost use Rattle.value_residues.specs.Residues.{SymbolTable};
+ghost use Rattle.judge_texts.specs.Texts.{Sized, LengthOf, AllSymbols, Cleans, KnowsOf, JudgesNumber, TellsSkipped, TellsEmpty, TellsBlank, JudgesSymbols, JudgesResidues, JudgesTexts, namesOne};
+
+// A number of residues, as far as a listing can hold them.
+fn size_of(n: usize) -> u32
+    ensures { λ r. ⌜ Sized n r ⌝ }
+{
+    if n <= 16_777_216 {
+        return n as u32;
+    }
+    0
+}
+
+// Whether every residue is a symbol of the class.
+fn all_symbols(w: &[u8], class: u8, t: &[u8; 256]) -> bool
+    requires { ⌜ SymbolTable (now t) ⌝ }
+    ensures { λ r. ⌜ AllSymbols (now (w .entry)) class r ⌝ }
+{
+    if value_residues::symbols(w, class, t) < w.len() {
+        return false;
+    }
+    true
+}
+
+// Whether every residue is a symbol of the kind.
+fn is_clean(w: &[u8], kind: Kind, t: &[u8; 256]) -> bool
+    requires { ⌜ SymbolTable (now t) ⌝ }
+    ensures { λ r. ⌜ Cleans (now (w .entry)) kind r ⌝ }
+{
+    match kind {
+        Kind::Dna => all_symbols(w, 1, t),
+        Kind::Rna => all_symbols(w, 1, t),
+        Kind::Aa => all_symbols(w, 2, t),
+        Kind::Other => false,
+    }
+}
+
+// L. Symbols are written as themselves.
+fn length_of(w: &[u8], clean: bool) -> usize
+    ensures { λ r. ⌜ LengthOf (now (w .entry)) clean r ⌝ }
+{
+    if clean {
+        return w.len();
+    }
+    value_residues::characters(w)
+}
+
+// What is known of a sequence, from its moltype and its residues.
+pub fn known_of(s: &[u8], moltype: Part, residues: Part, t: &[u8; 256]) -> Known
+    requires { ⌜ SymbolTable (now t) ⌝ }
+    ensures { λ r. ⌜ KnowsOf (now (s .entry)) moltype residues r ⌝ }
+{
+    let kind = value_words::kind_of(read_steps::bytes_of(s, moltype.from, moltype.to));
+    let w = read_steps::bytes_of(s, residues.from, residues.to);
+    let clean = is_clean(w, kind, t);
+    let top = size_of(length_of(w, clean));
+    Known {
+        kind,
+        top,
+        clean,
+        residues,
+    }
+}
+
+// Rule 15, for the sequence number k.
+pub fn judge_number(s: &[u8], number: Part, k: usize) -> Fault
+    ensures { λ r. ⌜ JudgesNumber (now (s .entry)) number k r ⌝ }
+{
+    let ok = value_words::is_number(read_steps::bytes_of(s, number.from, number.to), k);
+    judge_faults::unless(ok, 15, number.from)
+}
+
+// Whether the sequence is skipped.
+pub fn is_skipped(s: &[u8], residues: Part) -> bool
+    ensures { λ r. ⌜ TellsSkipped (now (s .entry)) residues r ⌝ }
+{
+    value_words::same(read_steps::bytes_of(s, residues.from, residues.to), b"000")
+}
+
+fn is_blank(p: Part) -> bool
+    ensures { λ r. ⌜ TellsBlank p r ⌝ }
+{
+    if p.from == p.to {
+        return true;
+    }
+    false
+}
+
+// What rule 29 asks of a skipped sequence. `ids` and `table` say whether those are there.
+pub fn is_empty(declared: Part, moltype: Part, division: Part, ids: bool, table: bool) -> bool
+    ensures { λ r. ⌜ TellsEmpty declared moltype division ids table r ⌝ }
+{
+    if ids {
+        return false;
+    }
+    if table {
+        return false;
+    }
+    if is_blank(declared) {
+        if is_blank(moltype) {
+            return is_blank(division);
+        }
+    }
+    false
+}
+
+// Rules 18 and 19 for one kind. Where a residue is foreign rule 19 doesn't matter: it has the same place.
+fn judge_symbols(w: &[u8], clean: bool, undefined: u8, fewest: usize, place: usize) -> Fault
+    ensures { λ r. ⌜ JudgesSymbols (now (w .entry)) clean undefined fewest place r ⌝ }
+{
+    if clean {
+        if value_residues::has_defined(w, undefined, fewest) {
+            return Fault::Clean;
+        }
+        return Fault::At { rule: 19, place };
+    }
+    Fault::At { rule: 18, place }
+}
+
+// Rules 18 and 19.
+fn judge_residues(w: &[u8], kind: Kind, clean: bool, place: usize) -> Fault
+    ensures { λ r. ⌜ JudgesResidues (now (w .entry)) kind clean place r ⌝ }
+{
+    match kind {
+        Kind::Dna => judge_symbols(w, clean, b'n', 10, place),
+        Kind::Rna => judge_symbols(w, clean, b'n', 10, place),
+        Kind::Aa => judge_symbols(w, clean, b'X', 4, place),
+        Kind::Other => Fault::Clean,
+    }
+}
+
+fn is_known(kind: Kind) -> bool
+    ensures { λ r. ⌜ r ≡ namesOne kind ⌝ }
+{
+    match kind {
+        Kind::Dna => true,
+        Kind::Rna => true,
+        Kind::Aa => true,
+        Kind::Other => false,
+    }
+}
+
+// Rules 16 to 20.
+pub fn judge_texts(s: &[u8], declared: Part, moltype: Part, division: Part, known: Known) -> Fault
+    ensures { λ r. ⌜ JudgesTexts (now (s .entry)) declared moltype division known r ⌝ }
+{
+    let kind = known.kind;
+    let residues = known.residues;
+    let place = residues.from;
+    let pat = value_words::same(read_steps::bytes_of(s, division.from, division.to), b"PAT");
+    let right = value_words::is_number(
+        read_steps::bytes_of(s, declared.from, declared.to),
+        known.top as usize,
+    );
+    let named = is_known(kind);
+    let a = judge_faults::unless(named, 16, moltype.from);
+    let b = judge_faults::unless(pat, 17, division.from);
+    let c = judge_residues(
+        read_steps::bytes_of(s, place, residues.to),
+        kind,
+        known.clean,
+        place,
+    );
+    let d = judge_faults::unless(right, 20, declared.from);
+    judge_faults::earlier(judge_faults::earlier(a, b), judge_faults::earlier(c, d))
+}

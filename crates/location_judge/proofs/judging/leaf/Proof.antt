@@ -1,0 +1,40 @@
+-- A segment, or a site where one may stand.
+use mathlib.Core.Logic.{⊎-elim}
+use mathlib.Core.Bool.{or-true}
+use Rattle.location_judge.proofs.Levels.{pieces-are, leaf-bad, leaf-read, leaf-site}
+use borrow.Author.Needs.{needs}
+use Rattle.location_judge.proofs.judging.leaf.Statement.{statement}
+use Rattle.location_judge.proofs.judging.leaf.Tie as tie
+
+piece-requires : tie.Need-piece-requires
+piece-requires c κs = search needs
+
+enum-told : tie.Need-enum-told
+enum-told c = search needs
+
+returns : tie.Need-returns
+returns c = leaf-bad (c .before .before .before .before .args .far) (pieces-are (c .before .before .piece .ensures) (c .enum-told .given .1))
+
+enum-known-n : tie.Need-enum-known-n
+enum-known-n c = search needs
+
+is-wrong-requires : tie.Need-is-wrong-requires
+is-wrong-requires c κs = search needs
+
+returns-2 : tie.Need-returns-2
+returns-2 c =
+    leaf-read (c .before .before .before .before .before .before .before .args .far)
+    (pieces-are (c .before .before .before .before .before .piece .ensures) (c .before .before .before .n .given .1))
+    (c .before .before .before .before .before .before .before .fits .top .fits) (c .before .is-wrong .ensures)
+    (⊎-elim (λ w. rw (w .taken)) (λ w. rw (w .2 .taken, or-true)) (c .if1 .came))
+
+returns-3 : tie.Need-returns-3
+returns-3 c =
+    leaf-site (c .before .before .before .before .before .before .before .before .before .args .far)
+    (pieces-are (c .before .before .before .before .before .before .before .piece .ensures) (c .before .before .before .before .before .n .given .1))
+    (rw (c .before .before .if1 .left) (c .if2 .left))
+
+pub leaf-spec : {M : Type 1} → statement M
+leaf-spec =
+    tie.close
+    (tie.spec piece-requires enum-told returns enum-known-n is-wrong-requires returns-2 returns-3)

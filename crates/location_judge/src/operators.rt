@@ -1,0 +1,31 @@
+// The words of operators at a place of a part.
+use crate::places::begins;
+ghost use Rattle.paper.specs.Bytes.{bytes};
+ghost use Rattle.location_judge.specs.Places.{Has};
+ghost use Rattle.location_judge.specs.Readings.{Lists};
+
+// The operator that stands at a place, by its number, and the place of its first member.
+pub enum Listed {
+    No,
+    At(u32, usize),
+}
+
+// Whether a complement stands at a place.
+pub fn complement_at(s: &[u8], at: usize) -> bool
+    ensures { λ r. ⌜ Has (now (s .entry)) at (bytes "complement(") r ⌝ }
+{
+    begins(s, at, b"complement(")
+}
+
+// Whether a join or an order stands at a place.
+pub fn list_at(s: &[u8], at: usize) -> Listed
+    ensures { λ r. ⌜ Lists (now (s .entry)) at r ⌝ }
+{
+    if begins(s, at, b"join(") {
+        return Listed::At(1, at + 5);
+    }
+    if begins(s, at, b"order(") {
+        return Listed::At(2, at + 6);
+    }
+    Listed::No
+}

@@ -1,0 +1,186 @@
+-- Spans laid into lent room, one after another, and what is answered.
+use Prim.Native.Nat.{ℕ, suc, _+_, _*_, _/_, _≤_, _<_}
+use native.Mathlib.Omega.{arith}
+use mathlib.Core.Path.{_≡_, refl, sym, ap, _∙_}
+use mathlib.Core.Bool.{true, false, cond}
+use mathlib.Core.Option.{Option, none, some}
+use mathlib.Core.List.{List, [], _∷_, _++_, append-assoc, append-nil}
+use lib.ListN.{length, drop, set, length-append, length-drop, length-set}
+use lib.Seq.{drop-drop}
+use lib.Dec.{ltb}
+use borrow.Author.Tests.{lt-ltb, le-ltb}
+use Rattle.paper.specs.Locations.{Location, Span, spans, operatorNumber, breaks25}
+use Rattle.paper.specs.Answers.{triples, front}
+use Rattle.location_judge.specs.Judging.{Spells, Judges}
+use Rattle.location_spans.specs.Walking.{Left, Steps, Starts, spanIs}
+use Rattle.location_spans.specs.Room.{Puts, Asked, Answers}
+use Rattle.location_judge.specs.declared.judging.Facts.{Facts}
+use Rattle.location_judge.specs.declared.judging.Verdict.the-variants as verdict
+use Rattle.location_spans.specs.declared.walking.Span.{Span as Given}
+use Rattle.location_spans.specs.declared.walking.Walk.{Walk}
+use Rattle.location_spans.specs.declared.walking.Next.the-variants as next
+use Rattle.location_spans.specs.declared.room.Answer.{Answer}
+use Rattle.location_spans.specs.declared.room.Answer.the-variants as answer
+use Rattle.location_judge.proofs.Verdicts.{spells-once}
+
+triples-size : (l : List Span) → length (triples l) ≡ length l * 3
+triples-size [] = refl
+triples-size (x ∷ l) = let h = triples-size l in omega arith
+
+triples-snoc : (l : List Span) (x : Span) → triples (l ++ (x ∷ [])) ≡ triples l ++ (x .first ∷ x .last ∷ x .marks ∷ [])
+triples-snoc [] x = refl
+triples-snoc (y ∷ l) x = ap (λ (z : List ℕ). y .first ∷ y .last ∷ y .marks ∷ z) (triples-snoc l x)
+
+-- three numbers behind d
+set-three : (d r : List ℕ) (a b c : ℕ) → 3 ≤ length r
+    → set (set (set (d ++ r) (length d) a) (length d + 1) b) (length d + 2) c ≡ d ++ (a ∷ b ∷ c ∷ drop 3 r)
+set-three [] [] a b c h = absurd (omega arith)
+set-three [] (x ∷ []) a b c h = absurd (omega arith)
+set-three [] (x ∷ y ∷ []) a b c h = absurd (omega arith)
+set-three [] (x ∷ y ∷ z ∷ r) a b c h = refl
+set-three (x ∷ d) r a b c h =
+    let p : suc (length d) + 1 ≡ suc (length d + 1) = omega arith in
+    let q : suc (length d) + 2 ≡ suc (length d + 2) = omega arith in
+    rw (p, q) (ap (λ (l : List ℕ). x ∷ l) (set-three d r a b c h))
+
+-- the spans l at the front, and then one more
+front-more : (l : List Span) (x : Span) (out : List ℕ) → length l * 3 + 3 ≤ length out
+    → set (set (set (front (triples l) out) (length l * 3) (x .first)) (length l * 3 + 1) (x .last)) (length l * 3 + 2) (x .marks)
+    ≡ front (triples (l ++ (x ∷ []))) out
+front-more l x out h =
+    let d = triples l in
+    let n = triples-size l in
+    let three = x .first ∷ x .last ∷ x .marks ∷ [] in
+    let m : length (d ++ three) ≡ length d + 3 = length-append d three in
+    let tail : d ++ (three ++ drop 3 (drop (length d) out)) ≡ front (d ++ three) out
+    = ap (λ (r : List ℕ). d ++ (three ++ r)) (drop-drop 3 (length d) out ∙ ap (λ (k : ℕ). drop k out) (sym m))
+    ∙ sym (append-assoc d three (drop (length (d ++ three)) out)) in
+    rw (← n, triples-snoc l x) (set-three d (drop (length d) out) (x .first) (x .last) (x .marks) (omega (arith, length-drop (length d) out, n)) ∙ tail)
+
+-- of the spans l, those done are written and the others are left
+record Laid (s : List ℕ) (L : ℕ) (before after : List ℕ) (w : Walk) (k : ℕ) (l : List Span) : Type 0 where
+  done : List Span
+  others : List Span
+  all : l ≡ done ++ others
+  many : length done ≡ k
+  left : Left s L w others
+  holds : after ≡ front (triples done) before
+
+-- the loop's invariant, for whichever spans are left at the start
+pub record Laying (s : List ℕ) (L : ℕ) (from : Walk) (count : ℕ) (before after : List ℕ) (w : Walk) (k : ℕ) : Type 0 where
+  pub within : k ≤ count
+  pub room : count * 3 ≤ length before
+  pub size : length after ≡ length before
+  laid : (l : List Span) → Left s L from l → length l ≡ count → Laid s L before after w k l
+
+module _ {s : List ℕ} {L : ℕ} {from : Walk} {count : ℕ} {before : List ℕ} where
+  pub laying-start : count * 3 ≤ length before → Laying s L from count before before from 0
+  laying-start h =
+      record {
+        within = omega arith;
+        room = h;
+        size = refl;
+        laid = λ l x e. record { done = []; others = l; all = refl; many = refl; left = x; holds = refl };
+      }
+
+  module _ {after : List ℕ} {w : Walk} {k : ℕ} (y : Laying s L from count before after w k) where
+    pub laying-done : k < count → Steps s L w next.Done → Puts s L from count before after
+    laying-done h f l x e =
+        let z = y .laid l x e in
+        absurd (omega (arith, ap length (z .all), length-append (z .done) (z .others), ap length (f .yields (z .others) (z .left)), z .many))
+
+    pub laying-end : count ≤ k → Puts s L from count before after
+    laying-end h l x e = let z = y .laid l x e in go z (z .others) (z .all)
+      where
+        go : (z : Laid s L before after w k l) (r : List Span) → l ≡ z .done ++ r → after ≡ front (triples l) before
+        go z [] q = z .holds ∙ ap (λ (m : List Span). front (triples m) before) (sym (q ∙ append-nil (z .done)))
+        go z (a ∷ r) q = absurd (omega (arith, ap length q, length-append (z .done) (a ∷ r), z .many))
+
+    pub laying-next : (x : Given) (v : Walk) → k < count → Steps s L w (next.Is x v)
+        → Laying s L from count before (set (set (set after (k * 3) (x .first)) (k * 3 + 1) (x .last)) (k * 3 + 2) (x .marks)) v (k + 1)
+    laying-next x v h f =
+        record {
+          within = omega arith;
+          room = y .room;
+          size = simp length-set (y .size);
+          laid = λ l a e.
+              let z = y .laid l a e in
+              let m = z .many in
+              let u = f .yields (z .others) (z .left) in
+              record {
+                done = z .done ++ (spanIs x ∷ []);
+                others = u .0;
+                all = z .all ∙ ap (λ (r : List Span). z .done ++ r) (u .1) ∙ sym (append-assoc (z .done) (spanIs x ∷ []) (u .0));
+                many = omega (arith, length-append (z .done) (spanIs x ∷ []), m);
+                left = u .2;
+                holds = rw (z .holds, ← m) (front-more (z .done) (spanIs x) before (omega (arith, y .room)));
+              };
+        }
+
+-- ---- the answers
+
+module _ {s : List ℕ} {L : ℕ} {f : Facts} (h : Judges s L (verdict.Is f)) where
+  pub spans-wrong : (out : List ℕ) → f .wrong ≡ true → Answers s L out answer.Wrong out
+  spans-wrong out q = (refl, (h .0, h .1, sym (h .2 .wrong) ∙ q))
+
+  module _ (q : f .wrong ≡ false) where
+    asked : Asked s L (h .0)
+    asked = record { spelled = h .1; right = sym (h .2 .wrong) ∙ q }
+
+    pub spans-short : (out : List ℕ) → length out / 3 < f .count → Answers s L out answer.Short out
+    spans-short out l = (refl, (h .0, asked, omega (arith, h .2 .count, triples-size (spans (h .0)))))
+
+    pub spans-are : (out : List ℕ) (from : Walk) {after : List ℕ} → f .count ≤ length out / 3 → Starts s from → Puts s L from (f .count) out after
+        → Answers s L out (answer.Are (f .operator) (f .count)) after
+    spans-are out from l st p = (
+      h .0,
+      asked,
+      h .2 .operator,
+      h .2 .count,
+      omega (arith, h .2 .count, triples-size (spans (h .0))),
+      p (spans (h .0)) (st L (h .1 .text) (h .0) (h .1 .written) (h .1 .located) (asked .right)) (sym (h .2 .count)),
+    )
+
+-- ---- two answers that are allowed are equal
+
+-- the location that the bytes are, if they are one
+abbrev Spelled : List ℕ → Option Location → Type 0
+Spelled s none = (t : Location) → Spells s t → ⊥
+Spelled s (some t) = Spells s t
+
+spelled-once : (s : List ℕ) (o p : Option Location) → Spelled s o → Spelled s p → o ≡ p
+spelled-once s none none h k = refl
+spelled-once s none (some u) h k = absurd (h u k)
+spelled-once s (some t) none h k = absurd (k t h)
+spelled-once s (some t) (some u) h k = ap some (spells-once h k)
+
+abbrev answerOf : ℕ → List ℕ → Option Location → Answer × List ℕ
+answerOf L out none = (answer.Bad, out)
+answerOf L out (some t) =
+    cond (breaks25 L t) (answer.Wrong, out)
+    (cond (ltb (length out) (length (triples (spans t)))) (answer.Short, out)
+    (answer.Are (operatorNumber t) (length (spans t)), front (triples (spans t)) out))
+
+module _ (s : List ℕ) (L : ℕ) (out : List ℕ) where
+  -- an answer is the one of what the bytes are
+  is-answer : (r : Answer) (after : List ℕ) → Answers s L out r after
+      → (o : Option Location) × Spelled s o × (_≡_ {A = Answer × List ℕ} (r, after) (answerOf L out o))
+  is-answer answer.Bad after h = (none, h .1, λ i. (answer.Bad, h .0 i))
+  is-answer answer.Wrong after h = let j = h .1 in (some (j .0), j .1, (λ i. (answer.Wrong, h .0 i)) ∙ sym (rw (j .2)))
+  is-answer answer.Short after h =
+      let j = h .1 in (
+        some (j .0),
+        j .1 .spelled,
+        (λ i. (answer.Short, h .0 i)) ∙ sym (rw (j .1 .right, lt-ltb (length out) (length (triples (spans (j .0)))) (j .2))),
+      )
+  is-answer (answer.Are operator count) after h = (
+    some (h .0),
+    h .1 .spelled,
+    (λ i. (answer.Are (h .2 i) (h .3 i), h .5 i)) ∙ sym (rw (h .1 .right, le-ltb (length out) (length (triples (spans (h .0)))) (h .4))),
+  )
+
+  pub answers-once : (r q : Answer) (a b : List ℕ) → Answers s L out r a → Answers s L out q b → _≡_ {A = Answer × List ℕ} (r, a) (q, b)
+  answers-once r q a b h k =
+      let x = is-answer r a h in
+      let y = is-answer q b k in
+      x .2 ∙ ap (answerOf L out) (spelled-once s (x .0) (y .0) (x .1) (y .1)) ∙ sym (y .2)

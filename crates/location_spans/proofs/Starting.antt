@@ -1,0 +1,195 @@
+-- Where the walk over a location starts, by the words at its front, and what is left of it there.
+use Prim.Native.Nat.{ℕ, _+_, _-_, _≤_}
+use Prim.Native.Char.{code}
+use native.Mathlib.Omega.{arith}
+use native.Mathlib.Nat.{add-zero}
+use mathlib.Core.Path.{_≡_, refl, sym, ap, _∙_, subst}
+use mathlib.Core.Bool.{Bool, true, false, _||_, true≢false}
+use mathlib.Core.Logic.{inl, inr}
+use mathlib.Core.List.{List, [], _∷_, _++_, map, reverseAux}
+use lib.ListN.{length, getD, drop, length-drop}
+use lib.Seq.{getD-drop}
+use Rattle.paper.specs.Bytes.{bytes, raw}
+use Rattle.paper.specs.Locations.{Piece, isWrong, Member, Operator, join, order, operatorName, Location, one, many}
+use Rattle.paper.specs.Locations.{any, breaks25, Span, spanOf, memberSpan, spans}
+use Rattle.paper.proofs.Locate.Rest.{pieceRest, complementRest, memberRest, fittingRest, listRest, locationRest, locates-rest, same-piece, same-complement}
+use Rattle.paper.proofs.Locate.Pieces.{Follow, Low, piece-low}
+use Rattle.location_judge.specs.Places.{Stands, Has}
+use Rattle.location_judge.specs.Readings.{Lists}
+use Rattle.location_spans.specs.Walking.{Written, Ahead, Behind, Starts}
+use Rattle.location_spans.specs.Walking as walking
+use Rattle.location_judge.specs.declared.operators.Listed.the-variants as list-is
+use Rattle.location_spans.specs.declared.walking.Walk.the-variants as walk
+use Rattle.location_judge.proofs.Stand.{begun, not-begun, behind-text}
+use Rattle.location_judge.proofs.Verdicts.{whole}
+use Rattle.location_spans.proofs.Commas.{written-order}
+use Rattle.location_spans.proofs.Walks.{low-letter}
+
+both-false : (a b : Bool) → (a || b) ≡ false → (a ≡ false) × (b ≡ false)
+both-false true b e = absurd (true≢false e)
+both-false false b e = (refl, e)
+
+-- ---- the members that are left
+
+-- rule 25 is kept by each
+abbrev Right : ℕ → List Member → Type 0
+Right L ms = any (λ (m : Member). isWrong L (m .piece)) ms ≡ false
+
+-- a member of a complemented list is not complemented
+plain : (m : Member) (v z : List ℕ) → fittingRest true m v z → pieceRest (m .piece) v z
+plain m v z x = subst (λ (c : Bool). complementRest c (pieceRest (m .piece)) v z) (x .0 .1) (x .1)
+
+comma-there : {s : List ℕ} {j : ℕ} {z : List ℕ} → Stands s j (code "," ∷ z) → getD s j 0 ≡ code ","
+comma-there {s} {j} st =
+    ap (λ (n : ℕ). getD s n 0) (sym (add-zero j)) ∙ sym (getD-drop j s 0 0) ∙ ap (λ (l : List ℕ). getD l 0 0) (st .is)
+
+module _ {s : List ℕ} (L : ℕ) where
+  written : (c : Bool) (p : Piece) {i : ℕ} (v z : List ℕ) → Stands s i v → complementRest c (pieceRest p) v z → Follow z → isWrong L p ≡ false
+      → (j : ℕ) × Written s L c p i j z
+  written c p {i} v z st x f q =
+      let y = same-complement c (same-piece p) .before 0 x in
+      let from : Stands s i (y .0 ++ z) = subst (Stands s i) (y .1) st in
+      (_, record { text = y .0; is = y .2; from = from; to = behind-text (y .0) z from; follow = f; keeps = q })
+
+  list-ahead : (ms : List Member) {i : ℕ} (v z : List ℕ) → Stands s i v → listRest (fittingRest false) ms v (code ")" ∷ z) → Right L ms
+      → Ahead s L i (map memberSpan ms)
+  list-ahead [] v z st x q = absurd x
+  list-ahead (m ∷ []) v z st x q =
+      let w = written (m .complemented) (m .piece) v (code ")" ∷ z) st (x .1) (inr refl) (both-false (isWrong L (m .piece)) false q .0) in
+      walking.Ahead.last (w .1) refl
+  list-ahead (m ∷ n ∷ ms) v z st x q =
+      let r = both-false (isWrong L (m .piece)) (any (λ (m : Member). isWrong L (m .piece)) (n ∷ ms)) q in
+      let y = x .2 in
+      let t = subst (memberRest m v) (y .1) (x .1 .1) in
+      let w = written (m .complemented) (m .piece) v (code "," ∷ y .0) st t (inl refl) (r .0) in
+      walking.Ahead.more (w .1) (list-ahead (n ∷ ms) (y .0) z (behind-text (bytes ",") (y .0) (w .1 .to)) (y .2) (r .1))
+
+  -- the spans l stand before a `,` at i, and the members ms behind it
+  list-behind : {low : ℕ} (ms : List Member) (l : List Span) {i : ℕ} (v z : List ℕ) → Behind s L low i l → low ≤ i → getD s i 0 ≡ code ","
+      → Stands s (i + 1) v → listRest (fittingRest true) ms v (code ")" ∷ z) → Right L ms
+      → (j : ℕ) × Stands s j (code ")" ∷ z) × Behind s L low j (reverseAux (map (λ (m : Member). spanOf true (m .piece)) ms) l)
+  list-behind [] l v z b h e st x q = absurd x
+  list-behind (m ∷ []) l v z b h e st x q =
+      let w = written false (m .piece) v (code ")" ∷ z) st (plain m v (code ")" ∷ z) x) (inr refl) (both-false (isWrong L (m .piece)) false q .0) in
+      (w .0, w .1 .to, walking.Behind.more b h e (w .1))
+  list-behind (m ∷ n ∷ ms) l v z b h e st x q =
+      let r = both-false (isWrong L (m .piece)) (any (λ (m : Member). isWrong L (m .piece)) (n ∷ ms)) q in
+      let y = x .2 in
+      let t = subst (pieceRest (m .piece) v) (y .1) (plain m v (x .0) (x .1)) in
+      let w = written false (m .piece) v (code "," ∷ y .0) st t (inl refl) (r .0) in
+      let o = written-order (w .1) in
+      list-behind (n ∷ ms) (spanOf true (m .piece) ∷ l) (y .0) z (walking.Behind.more b h e (w .1)) (omega arith)
+      (comma-there (w .1 .to)) (behind-text (bytes ",") (y .0) (w .1 .to)) (y .2) (r .1)
+
+  list-back : (ms : List Member) {low : ℕ} (v z : List ℕ) → Stands s low v → listRest (fittingRest true) ms v (code ")" ∷ z) → Right L ms
+      → (j : ℕ) × Stands s j (code ")" ∷ z) × Behind s L low j (reverseAux (map (λ (m : Member). spanOf true (m .piece)) ms) [])
+  list-back [] v z st x q = absurd x
+  list-back (m ∷ []) v z st x q =
+      let w = written false (m .piece) v (code ")" ∷ z) st (plain m v (code ")" ∷ z) x) (inr refl) (both-false (isWrong L (m .piece)) false q .0) in
+      (w .0, w .1 .to, walking.Behind.first (w .1))
+  list-back (m ∷ n ∷ ms) v z st x q =
+      let r = both-false (isWrong L (m .piece)) (any (λ (m : Member). isWrong L (m .piece)) (n ∷ ms)) q in
+      let y = x .2 in
+      let t = subst (pieceRest (m .piece) v) (y .1) (plain m v (x .0) (x .1)) in
+      let w = written false (m .piece) v (code "," ∷ y .0) st t (inl refl) (r .0) in
+      list-behind (n ∷ ms) (spanOf true (m .piece) ∷ []) (y .0) z (walking.Behind.first (w .1)) (written-order (w .1) .0)
+      (comma-there (w .1 .to)) (behind-text (bytes ",") (y .0) (w .1 .to)) (y .2) (r .1)
+
+  one-ahead : (m : Member) {w : List ℕ} → Stands s 0 w → memberRest m w [] → Right L (m ∷ []) → Ahead s L 0 (memberSpan m ∷ [])
+  one-ahead m {w} st x q =
+      walking.Ahead.last (written (m .complemented) (m .piece) w [] st x tt (both-false (isWrong L (m .piece)) false q .0) .1) tt
+
+-- ---- words at the front
+
+heads : {a b : ℕ} {u v : List ℕ} → a ∷ u ≡ b ∷ v → a ≡ b
+heads e = ap (λ (l : List ℕ). getD l 0 0) e
+
+complement-list : (o : Operator) (y z : List ℕ) → bytes "complement(" ++ y ≡ bytes (operatorName o) ++ z → ⊥
+complement-list join y z e = let h : _≡_ {A = ℕ} 99 106 = heads e in omega arith
+complement-list order y z e = let h : _≡_ {A = ℕ} 99 111 = heads e in omega arith
+
+same-list : (o p : Operator) (y z : List ℕ) → bytes (operatorName o) ++ y ≡ bytes (operatorName p) ++ z → y ≡ z
+same-list join join y z e = ap (drop 5) e
+same-list order order y z e = ap (drop 6) e
+same-list join order y z e = absurd (let h : _≡_ {A = ℕ} 106 111 = heads e in omega arith)
+same-list order join y z e = absurd (let h : _≡_ {A = ℕ} 111 106 = heads e in omega arith)
+
+low-list : {w : List ℕ} → Low w → (o : Operator) (z : List ℕ) → w ≡ bytes (operatorName o) ++ z → ⊥
+low-list l join z e = low-letter l e (omega arith)
+low-list l order z e = low-letter l e (omega arith)
+
+-- ---- the starts
+
+module _ {s : List ℕ} {t : Bool} (word : Has s 0 (raw (bytes "complement(")) t) where
+  module _ (a : t ≡ true) where
+    -- what stands in the complement
+    within : {w z : List ℕ} → Stands s 0 w → w ≡ bytes "complement(" ++ z → Stands s 11 z
+    within {w} {z} st e = let b = begun (bytes "complement(") word st a in subst (Stands s 11) (ap (drop 11) (sym (b .1) ∙ e)) (b .2)
+
+    no-list : {w : List ℕ} (z : List ℕ) (o : Operator) → Stands s 0 w → w ≡ bytes (operatorName o) ++ z → ⊥
+    no-list z o st e = let b = begun (bytes "complement(") word st a in complement-list o (b .0) z (sym (b .1) ∙ e)
+
+    pub start-turned : Lists s 11 list-is.No → Starts s (walk.Ahead 0)
+    start-turned h L w t e x q = go t (locates-rest x) q
+      where
+        st : Stands s 0 w
+        st = whole e
+
+        go : (t : Location) → locationRest t w [] → breaks25 L t ≡ false → Ahead s L 0 (spans t)
+        go (one m) y q = one-ahead L m st y q
+        go (many true o ms) y q = let i = y .2 .1 in absurd (h .says (y .0) (within st (y .1)) o (i .0) (i .1))
+        go (many false o ms) y q = absurd (no-list (y .0) o st (y .1))
+
+    pub start-back : {op from : ℕ} → Lists s 11 (list-is.At op from) → Starts s (walk.Behind from (length s - 2))
+    start-back {op} {from} h L w t e x q = go t (locates-rest x) q
+      where
+        st : Stands s 0 w
+        st = whole e
+
+        single : (c : Bool) (p : Piece) → complementRest c (pieceRest p) w [] → ⊥
+        single true p y = let k = h .says (y .0) (within st (y .1)) in low-list (piece-low p (y .0) (y .2 .0) (y .2 .1)) (k .0) (k .2) (k .3)
+        single false p y = low-letter (piece-low p w [] y) (begun (bytes "complement(") word st a .1) (omega arith)
+
+        go : (t : Location) → locationRest t w [] → breaks25 L t ≡ false → Behind s L from (length s - 2) (spans t)
+        go (one m) y q = absurd (single (m .complemented) (m .piece) y)
+        go (many false o ms) y q = absurd (no-list (y .0) o st (y .1))
+        go (many true o ms) y q =
+            let i = y .2 .1 in
+            let k = h .says (y .0) (within st (y .1)) in
+            let v : k .2 ≡ i .0 = same-list (k .0) o (k .2) (i .0) (sym (k .3) ∙ i .1) in
+            let d = i .2 .2 ∙ ap (λ (z : List ℕ). code ")" ∷ z) (y .2 .2) in
+            let u = subst (listRest (fittingRest true) ms (i .0)) d (i .2 .1 .1) in
+            let b = list-back L ms (i .0) (bytes ")") (subst (Stands s from) v (k .4)) u q in
+            let n : b .0 ≡ length s - 2 = omega (arith, b .1 .inside, ap length (b .1 .is), length-drop (b .0) s) in
+            subst (λ (j : ℕ). Behind s L from j (spans (many true o ms))) n (b .2)
+
+  module _ (a : t ≡ false) where
+    pub start-plain : Lists s 0 list-is.No → Starts s (walk.Ahead 0)
+    start-plain h L w t e x q = go t (locates-rest x) q
+      where
+        st : Stands s 0 w
+        st = whole e
+
+        go : (t : Location) → locationRest t w [] → breaks25 L t ≡ false → Ahead s L 0 (spans t)
+        go (one m) y q = one-ahead L m st y q
+        go (many true o ms) y q = absurd (not-begun (bytes "complement(") word st a (y .0) (y .1))
+        go (many false o ms) y q = absurd (h .says w st o (y .0) (y .1))
+
+    pub start-list : {op from : ℕ} → Lists s 0 (list-is.At op from) → Starts s (walk.Ahead from)
+    start-list {op} {from} h L w t e x q = go t (locates-rest x) q
+      where
+        st : Stands s 0 w
+        st = whole e
+
+        single : (c : Bool) (p : Piece) → complementRest c (pieceRest p) w [] → ⊥
+        single true p y = not-begun (bytes "complement(") word st a (y .0) (y .1)
+        single false p y = let k = h .says w st in low-list (piece-low p w [] y) (k .0) (k .2) (k .3)
+
+        go : (t : Location) → locationRest t w [] → breaks25 L t ≡ false → Ahead s L from (spans t)
+        go (one m) y q = absurd (single (m .complemented) (m .piece) y)
+        go (many true o ms) y q = absurd (not-begun (bytes "complement(") word st a (y .0) (y .1))
+        go (many false o ms) y q =
+            let k = h .says w st in
+            let v : k .2 ≡ y .0 = same-list (k .0) o (k .2) (y .0) (sym (k .3) ∙ y .1) in
+            let u = subst (listRest (fittingRest false) ms (y .0)) (y .2 .2) (y .2 .1 .1) in
+            list-ahead L ms (y .0) [] (subst (Stands s from) v (k .4)) u q

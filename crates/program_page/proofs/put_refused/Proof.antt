@@ -1,0 +1,45 @@
+-- Three lines, one behind the other.
+use Rattle.program_page.proofs.Ends.{counted, behind-next}
+use native.Mathlib.Omega.{arith}
+use borrow.Author.Needs.{needs}
+use Rattle.program_page.proofs.put_refused.Statement.{statement}
+use Rattle.program_page.proofs.put_refused.Tie as tie
+
+slice-aggregate-put-text : tie.Need-slice-aggregate-put-text
+slice-aggregate-put-text c = search needs
+
+put-text-requires : tie.Need-put-text-requires
+put-text-requires c κs = search needs
+
+slice-aggregate-put-line : tie.Need-slice-aggregate-put-line
+slice-aggregate-put-line c = search needs
+
+put-line-requires : tie.Need-put-line-requires
+put-line-requires c κs = search needs
+
+slice-aggregate-put-line-2 : tie.Need-slice-aggregate-put-line-2
+slice-aggregate-put-line-2 c = search needs
+
+put-line-requires-2 : tie.Need-put-line-requires-2
+put-line-requires-2 c κs = search needs
+
+same-length : tie.Need-same-length
+same-length c = search needs
+
+returns : tie.Need-returns
+returns c =
+    let stands = behind-next (c .before .before .before .before .before .before .before .before .before .before .before .before .put-text .ensures) (behind-next (c .before .before .before .before .before .before .before .put-line .ensures .stands) (c .before .before .put-line2 .ensures .stands)) in
+    record { fits = omega arith; counts = counted _ _ (omega (arith, c .before .before .before .before .before .before .before .before .before .before .before .before .before .before .before .before .pre)); holds = stands .holds }
+
+pub put-refused-spec : {M : Type 1} → statement M
+put-refused-spec =
+    tie.close
+    (tie.spec
+    slice-aggregate-put-text
+    put-text-requires
+    slice-aggregate-put-line
+    put-line-requires
+    slice-aggregate-put-line-2
+    put-line-requires-2
+    same-length
+    returns)

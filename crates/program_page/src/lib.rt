@@ -1,0 +1,76 @@
+// The program's lines: a verdict as text in lent room. Relies on the paper and on the kit's decimal digits.
+use paper::Verdict;
+ghost use Prim.Native.Nat.{_+_, _≤_};
+ghost use lib.ListN.{length};
+ghost use Rattle.paper.specs.declared.Verdict.the-variants.{Accepted, Refused};
+ghost use Rattle.program_page.specs.Pages.{Behind, LineBehind, Shows};
+
+// A text behind the first `at` bytes: where it ends.
+fn put_text(text: &[u8], at: usize, out: &mut [u8]) -> usize
+    requires { ⌜ at + length (now text) ≤ length (now out) ⌝ }
+    ensures { λ r. ⌜ Behind at (now (out .entry)) (now (text .entry)) r (now (out .exit)) ⌝ }
+{
+    let mut i: usize = 0;
+    while i < text.len() {
+        out[at + i] = text[i];
+        i += 1;
+    }
+    at + i
+}
+
+// A line behind the first `at` bytes: a word, a space, a number of at most 20 digits and byte 10.
+fn put_line(word: &[u8], n: usize, at: usize, out: &mut [u8]) -> usize
+    requires { ⌜ at + length (now word) + 22 ≤ length (now out) ⌝ }
+    ensures { λ r. ⌜ LineBehind at (now (out .entry)) (now (word .entry)) n r (now (out .exit)) ⌝ }
+{
+    let mut digits = [0u8; 20];
+    let size = io::decimal(n as u64, &mut digits);
+    let a = put_text(word, at, out);
+    let b = put_text(b" ", a, out);
+    let c = put_text(&digits[..size], b, out);
+    put_text(b"\n", c, out)
+}
+
+fn put_accepted(
+    total: usize,
+    skipped: usize,
+    features: usize,
+    judged: usize,
+    unjudged: usize,
+    out: &mut [u8],
+) -> usize
+    requires { ⌜ 161 ≤ length (now out) ⌝ }
+    ensures { λ r. ⌜ Shows (Accepted total skipped features judged unjudged) r (now (out .exit)) ⌝ }
+{
+    let a = put_text(b"verdict accepted\n", 0, out);
+    let b = put_line(b"total", total, a, out);
+    let c = put_line(b"skipped", skipped, b, out);
+    let d = put_line(b"features", features, c, out);
+    let e = put_line(b"judged", judged, d, out);
+    put_line(b"unjudged", unjudged, e, out)
+}
+
+fn put_refused(rule: usize, place: usize, out: &mut [u8]) -> usize
+    requires { ⌜ 161 ≤ length (now out) ⌝ }
+    ensures { λ r. ⌜ Shows (Refused rule place) r (now (out .exit)) ⌝ }
+{
+    let a = put_text(b"verdict refused\n", 0, out);
+    let b = put_line(b"rule", rule, a, out);
+    put_line(b"place", place, b, out)
+}
+
+// The program's lines for a verdict, at the front of lent room: how many bytes.
+pub fn put_page(verdict: Verdict, out: &mut [u8; 256]) -> usize
+    ensures { λ r. ⌜ Shows verdict r (now (out .exit)) ⌝ }
+{
+    match verdict {
+        Verdict::Accepted {
+            total,
+            skipped,
+            features,
+            judged,
+            unjudged,
+        } => put_accepted(total, skipped, features, judged, unjudged, out),
+        Verdict::Refused { rule, place } => put_refused(rule, place, out),
+    }
+}

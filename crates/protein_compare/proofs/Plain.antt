@@ -1,0 +1,102 @@
+-- "A value is judged as read": letters are written as they are read, so that a translation may be compared with the raw part.
+use Prim.Native.Nat.{ℕ, zero, suc, _+_, _*_}
+use Prim.Native.Char.{code}
+use mathlib.Core.Path.{_≡_, refl, sym, ap, _∙_}
+use mathlib.Core.Bool.{Bool, true, false, cond}
+use mathlib.Core.List.{List, [], _∷_, _++_, map}
+use lib.ListN.{getD}
+use lib.Dec.{eqb}
+use Rattle.paper.specs.Bytes.{spell, raw}
+use Rattle.paper.specs.Lists.{gather}
+use Rattle.paper.specs.Translation.{basesOf, code1, baseIndex, plainLetter, plainLetters, allSame, shared, codonLetter, letters, dropStop}
+use Rattle.paper.proofs.Texts.{raw-once}
+use Rattle.protein_compare.specs.Comparing.{RightValue}
+
+-- it is written as it is read
+pub record Plain (b : ℕ) : Type 0 where
+  pub is : spell b ≡ b ∷ []
+
+abbrev Plains : List ℕ → Type 0
+Plains [] = Unit {0}
+Plains (b ∷ l) = Plain b × Plains l
+
+plains-raw : (l : List ℕ) → Plains l → raw l ≡ l
+plains-raw [] h = refl
+plains-raw (b ∷ l) h = ap (λ (x : List ℕ). x ++ raw l) (h .0 .is) ∙ ap (λ (x : List ℕ). b ∷ x) (plains-raw l (h .1))
+
+plains-append : (a b : List ℕ) → Plains a → Plains b → Plains (a ++ b)
+plains-append [] b h k = k
+plains-append (x ∷ a) b h k = (h .0, plains-append a b (h .1) k)
+
+plains-map : (f : ℕ → ℕ) → ((a : ℕ) → Plain (f a)) → (l : List ℕ) → Plains (map f l)
+plains-map f h [] = tt
+plains-map f h (a ∷ l) = (h a, plains-map f h l)
+
+plains-gather : (f : ℕ → List ℕ) → ((a : ℕ) → Plains (f a)) → (l : List ℕ) → Plains (gather f l)
+plains-gather f h [] = tt
+plains-gather f h (a ∷ l) = plains-append (f a) (gather f l) (h a) (plains-gather f h l)
+
+-- ---- the code's letters
+
+firstOf : List (List ℕ) → List ℕ
+firstOf [] = []
+firstOf (a ∷ l) = a
+
+othersOf : List (List ℕ) → List (List ℕ)
+othersOf [] = []
+othersOf (a ∷ l) = l
+
+plains-of : (l : List ℕ) → map spell l ≡ map (λ (b : ℕ). b ∷ []) l → Plains l
+unfolding firstOf othersOf
+plains-of [] e = tt
+plains-of (b ∷ l) e = (record { is = ap firstOf e }, plains-of l (ap othersOf e))
+
+plain-at : (l : List ℕ) → Plains l → (i : ℕ) → Plain (getD l i 0)
+plain-at [] h i = record { is = refl }
+plain-at (b ∷ l) h zero = h .0
+plain-at (b ∷ l) h (suc i) = plain-at l (h .1) i
+
+plain-letter : (a b c : ℕ) → Plain (plainLetter a b c)
+plain-letter a b c = plain-at code1 (plains-of code1 refl) (16 * baseIndex a + 4 * baseIndex b + baseIndex c)
+
+plain-shared : (l : List ℕ) → Plains l → Plain (shared l)
+plain-shared [] h = record { is = refl }
+plain-shared (x ∷ l) h = go (allSame x l)
+  where
+    go : (b : Bool) → Plain (cond b x (code "X"))
+    go true = h .0
+    go false = record { is = refl }
+
+plain-codon : (a b c : ℕ) → Plain (codonLetter a b c)
+plain-codon a b c =
+    plain-shared (plainLetters (basesOf a) (basesOf b) (basesOf c))
+    (plains-gather (λ (x : ℕ). gather (λ (y : ℕ). map (plainLetter x y) (basesOf c)) (basesOf b))
+    (λ x. plains-gather (λ (y : ℕ). map (plainLetter x y) (basesOf c)) (λ y. plains-map (plainLetter x y) (plain-letter x y) (basesOf c)) (basesOf b))
+    (basesOf a))
+
+-- ---- a translation
+
+plains-letters : (w : List ℕ) → Plains (letters w)
+plains-letters [] = tt
+plains-letters (a ∷ []) = tt
+plains-letters (a ∷ b ∷ []) = tt
+plains-letters (a ∷ b ∷ c ∷ w) = (plain-codon a b c, plains-letters w)
+
+plains-drop : (l : List ℕ) → Plains l → Plains (dropStop l)
+plains-drop [] h = tt
+plains-drop (x ∷ []) h = go (eqb x (code "*"))
+  where
+    go : (b : Bool) → Plains (cond b [] (x ∷ []))
+    go true = tt
+    go false = h
+plains-drop (x ∷ y ∷ l) h = (h .0, plains-drop (y ∷ l) (h .1))
+
+translation-raw : (w : List ℕ) → raw (dropStop (letters w)) ≡ dropStop (letters w)
+translation-raw w = plains-raw (dropStop (letters w)) (plains-drop (letters w) (plains-letters w))
+
+module _ (w value v : List ℕ) (e : value ≡ raw v) where
+  pub as-written : RightValue (letters w) v → RightValue (letters w) value
+  as-written h = record { clear = h .clear; same = e ∙ ap raw (h .same) ∙ translation-raw w }
+
+  pub as-read : RightValue (letters w) value → RightValue (letters w) v
+  as-read h = record { clear = h .clear; same = raw-once v (dropStop (letters w)) (sym e ∙ h .same ∙ sym (translation-raw w)) }

@@ -1,0 +1,33 @@
+-- Codons of one span, laid run after run.
+use Prim.Native.Nat.{ℕ, _+_, _*_, _≤_, _<_}
+use native.Mathlib.Numerals.{add-one}
+use native.Mathlib.Omega.{arith}
+use mathlib.Core.Path.{_≡_, refl, sym, subst, _∙_}
+use mathlib.Core.List.{List}
+use lib.ListN.{length, getD, set, length-set}
+use lib.Seq.{paste-zero, paste-suc}
+use Rattle.protein_write.specs.Writing.{LaysOn, Lays}
+
+module _ (l : List ℕ) (from k : ℕ) (out : List ℕ) where
+  pub lays-none : LaysOn l from k k out out
+  lays-none = record { size = refl; is = λ o e h. h }
+
+  pub lays-more : {n c : ℕ} {after : List ℕ} → LaysOn l from k n out after → from + n < length out → n < length l → c ≡ getD l n 0
+      → LaysOn l from k (n + 1) out (set after (from + n) c)
+  lays-more {n} {c} {after} f h i e =
+      record {
+        size = length-set after (from + n) c ∙ f .size;
+        is = λ o g w. rw (f .is o g w, e, add-one n) (paste-suc o from l n 0 (omega arith) i);
+      }
+
+-- that many
+pub lays-are : {l : List ℕ} {from k n m : ℕ} {out after : List ℕ} → LaysOn l from k n out after → n ≡ m → LaysOn l from k m out after
+lays-are {l} {from} {k} {n} {m} {out} {after} f e = subst (λ (n : ℕ). LaysOn l from k n out after) e f
+
+-- runs of codons, one behind another
+pub lays-join : {l : List ℕ} {from a b c : ℕ} {x y z : List ℕ} → LaysOn l from a b x y → LaysOn l from b c y z → LaysOn l from a c x z
+lays-join f g = record { size = g .size ∙ f .size; is = λ o e h. g .is o (e ∙ sym (f .size)) (f .is o e h) }
+
+pub lays-all : {low high from count n : ℕ} {l out after : List ℕ} → LaysOn l from 0 n out after → low + 3 * n ≤ high
+    → from + n ≤ count → Lays low high l from count n out after
+lays-all {from = from} {l = l} {out} f h i = record { within = h; inside = i; is = f .is out refl (paste-zero out from l) }

@@ -1,0 +1,54 @@
+-- `read_layout::document` meets its contract: its parts one after another, up to the end.
+use Prim.Native.Nat.{ℕ}
+use mathlib.Core.Path.{sym, ap}
+use Rattle.read_steps.specs.declared.Step.the-variants.{Ok}
+use Rattle.read_steps.proofs.Steps.{step-from}
+use Rattle.read_layout.proofs.Wholes.{document-reads}
+use borrow.Author.Needs.{needs}
+use Rattle.read_layout.proofs.document.Statement.{statement}
+use Rattle.read_layout.proofs.document.Tie as tie
+
+slice-aggregate-word : tie.Need-slice-aggregate-word
+slice-aggregate-word c = search needs
+
+word-requires : tie.Need-word-requires
+word-requires c κs = search needs
+
+blanks-requires : tie.Need-blanks-requires
+blanks-requires c κs = search needs
+
+doctype-requires : tie.Need-doctype-requires
+doctype-requires c κs = search needs
+
+blanks-requires-2 : tie.Need-blanks-requires-2
+blanks-requires-2 c κs = search needs
+
+root-requires : tie.Need-root-requires
+root-requires c κs = search needs
+
+blanks-requires-3 : tie.Need-blanks-requires-3
+blanks-requires-3 c κs = search needs
+
+end-requires : tie.Need-end-requires
+end-requires c κs = search needs
+
+returns : tie.Need-returns
+returns c = (
+  document-reads (step-from (ap (λ (n : ℕ). Ok n n) (sym (c .before .before .before .before .before .before .before .before .before .pre .1))) (c .before .before .before .before .before .before .word .ensures)) (c .before .before .before .before .before .blanks .ensures) (c .before .before .before .before .doctype .ensures) (c .before .before .before .blanks2 .ensures)
+      (c .before .before .root .ensures) (c .before .blanks3 .ensures) (c .end .ensures .0),
+  c .end .ensures .1,
+)
+
+pub document-spec : {M : Type 1} → statement M
+document-spec =
+    tie.close
+    (tie.spec
+    slice-aggregate-word
+    word-requires
+    blanks-requires
+    doctype-requires
+    blanks-requires-2
+    root-requires
+    blanks-requires-3
+    end-requires
+    returns)

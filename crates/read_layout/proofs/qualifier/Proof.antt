@@ -1,0 +1,72 @@
+-- `read_layout::qualifier` meets its contract: the element from its parts, or a tag that is not there.
+use mathlib.Core.Path.{refl}
+use Rattle.read_steps.proofs.Steps.{step-is, step-to, failed, tried-failed}
+use Rattle.read_layout.proofs.Runs.{enters-failed, leaves-failed}
+use Rattle.read_layout.proofs.Elements.{qualifier-reads}
+use borrow.Author.Needs.{needs}
+use Rattle.read_layout.proofs.qualifier.Statement.{statement}
+use Rattle.read_layout.proofs.qualifier.Tie as tie
+
+slice-aggregate-tag : tie.Need-slice-aggregate-tag
+slice-aggregate-tag c = search needs
+
+tag-requires : tie.Need-tag-requires
+tag-requires c κs = search needs
+
+enum-known-a : tie.Need-enum-known-a
+enum-known-a c = search needs
+
+enum-told : tie.Need-enum-told
+enum-told c = search needs
+
+again-requires : tie.Need-again-requires
+again-requires c κs = search needs
+
+returns : tie.Need-returns
+returns c =
+    let h = c .before .enum-told .given .1 in
+    step-to (c .again .ensures) (qualifier-reads (c .before .before .before .tag .ensures) (enters-failed _ h) (failed _ h) (tried-failed _ h refl) (leaves-failed _ h))
+
+enter-requires : tie.Need-enter-requires
+enter-requires c κs = search needs
+
+slice-aggregate-leaf-on : tie.Need-slice-aggregate-leaf-on
+slice-aggregate-leaf-on c = search needs
+
+leaf-on-requires : tie.Need-leaf-on-requires
+leaf-on-requires c κs = search needs
+
+slice-aggregate-leaf-maybe : tie.Need-slice-aggregate-leaf-maybe
+slice-aggregate-leaf-maybe c = search needs
+
+leaf-maybe-requires : tie.Need-leaf-maybe-requires
+leaf-maybe-requires c κs = search needs
+
+slice-aggregate-leave : tie.Need-slice-aggregate-leave
+slice-aggregate-leave c = search needs
+
+leave-requires : tie.Need-leave-requires
+leave-requires c κs = search needs
+
+returns-2 : tie.Need-returns-2
+returns-2 c =
+    qualifier-reads (step-is (c .before .before .before .before .before .before .before .before .before .before .tag .ensures) (c .before .before .before .before .before .before .before .before .a .given .1)) (c .before .before .before .before .before .before .enter .ensures) (c .before .before .before .before .leaf-on .ensures) (c .before .before .leaf-maybe .ensures) (c .leave .ensures)
+
+pub qualifier-spec : {M : Type 1} → statement M
+qualifier-spec =
+    tie.close
+    (tie.spec
+    slice-aggregate-tag
+    tag-requires
+    enum-known-a
+    enum-told
+    again-requires
+    returns
+    enter-requires
+    slice-aggregate-leaf-on
+    leaf-on-requires
+    slice-aggregate-leaf-maybe
+    leaf-maybe-requires
+    slice-aggregate-leave
+    leave-requires
+    returns-2)

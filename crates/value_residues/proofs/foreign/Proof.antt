@@ -1,0 +1,72 @@
+-- `value_residues::foreign` meets its contract. The loop's invariant: each byte passed is a symbol of the class. The measure is what is left.
+use Rattle.value_residues.proofs.Residues.{between-none, between-more, of-class, of-none}
+use Rattle.value_residues.specs.Residues.{Between}
+use native.Mathlib.Omega.{arith}
+use Prim.Native.Nat.{_-_, _≤_}
+use borrow.Author.Needs.{needs}
+use Rattle.value_residues.proofs.foreign.Statement.{statement}
+use Rattle.value_residues.proofs.foreign.Tie as tie
+
+abbrev Inv-loop : tie.InvT-loop
+Inv-loop w from end class t i₀ i = (from ≤ i) × (i ≤ end) × Between w class from i
+
+abbrev μ-loop : tie.MeasureT-loop
+μ-loop w from end class t i₀ i = end - i
+
+loop-holds : tie.Need-loop-holds Inv-loop μ-loop
+loop-holds c = (omega arith, omega arith, between-none (c .args .w .now) (c .args .class) (c .args .from))
+
+shared-slice-read-if1 : tie.Need-shared-slice-read-if1 Inv-loop μ-loop
+shared-slice-read-if1 c = search needs
+
+cast-if1 : tie.Need-cast-if1 Inv-loop μ-loop
+cast-if1 c = omega (arith, c .shared-slice-known .given (c .before .before .loop .i))
+
+element-copy-out-if1 : tie.Need-element-copy-out-if1 Inv-loop μ-loop
+element-copy-out-if1 c = omega (arith, c .shared-slice-known .given (c .before .before .loop .i))
+
+returns : tie.Need-returns Inv-loop μ-loop
+returns c =
+    let a = c .before .before .before .before .before .args in
+    let l = c .before .before .before .before .loop in
+    record {
+      onward = l .inv .0;
+      inside = omega arith;
+      each = l .inv .2;
+      there = λ h. of-none (a .w .now) (a .class) (l .i) (a .t .now) (c .before .before .before .before .before .pre .1 .1) (omega (arith, c .before .before .shared-slice-known .given (l .i))) (c .if1 .taken);
+    }
+
+add-i : tie.Need-add-i Inv-loop μ-loop
+add-i c = search needs
+
+loop-less : tie.Need-loop-less Inv-loop μ-loop
+loop-less c = omega arith
+
+loop-again : tie.Need-loop-again Inv-loop μ-loop
+loop-again c =
+    let a = c .before .before .before .before .before .args in
+    let l = c .before .before .before .before .loop in (
+      omega (arith, l .inv .0),
+      omega arith,
+      between-more (a .w .now) (a .class) (a .from) (l .i) (l .inv .2)
+          (of-class (a .w .now) (a .class) (l .i) (a .t .now) (c .before .before .before .before .before .pre .1 .1) (omega (arith, c .before .before .shared-slice-known .given (l .i))) (c .if1 .left)),
+    )
+
+returns-2 : tie.Need-returns-2 Inv-loop μ-loop
+returns-2 c = let l = c .before .loop in record { onward = l .inv .0; inside = l .inv .1; each = l .inv .2; there = λ h. absurd (omega arith) }
+
+pub foreign-spec : {M : Type 1} → statement M
+foreign-spec =
+    tie.close
+    (tie.spec
+    Inv-loop
+    μ-loop
+    loop-holds
+    shared-slice-read-if1
+    cast-if1
+    element-copy-out-if1
+    returns
+    add-i
+    loop-less
+    loop-again
+    returns-2)

@@ -1,0 +1,162 @@
+// The residues of a sequence: how many characters they are, the first that is no symbol of its kind, and whether enough of them are defined.
+// Relies on the paper, and on the laws of the crate value: what a test tells, and what is written as it reads. It calls none of value's functions.
+ghost use Prim.Native.Nat.{_+_, _≤_};
+ghost use lib.ListN.{length};
+ghost use Rattle.value_residues.specs.Residues.{Characters, SymbolTable, Symbols, Differs, Strange, Block, Foreign, HasDefined};
+
+// The class of each byte, sixteen to a line: 1 for the symbols of DNA and RNA, 2 for those of AA, 0 for neither.
+const SYMBOLS: [u8; 256] = *b"\
+    \0\0\0\0\0\0\0\0\0\0\0\0\0\0\0\0\
+    \0\0\0\0\0\0\0\0\0\0\0\0\0\0\0\0\
+    \0\0\0\0\0\0\0\0\0\0\0\0\0\0\0\0\
+    \0\0\0\0\0\0\0\0\0\0\0\0\0\0\0\0\
+    \0\x02\x02\x02\x02\x02\x02\x02\x02\x02\x02\x02\x02\x02\x02\x02\
+    \x02\x02\x02\x02\x02\x02\x02\x02\x02\x02\x02\0\0\0\0\0\
+    \0\x01\x01\x01\x01\0\0\x01\x01\0\0\x01\0\x01\x01\0\
+    \0\0\x01\x01\x01\0\x01\x01\0\x01\0\0\0\0\0\0\
+    \0\0\0\0\0\0\0\0\0\0\0\0\0\0\0\0\
+    \0\0\0\0\0\0\0\0\0\0\0\0\0\0\0\0\
+    \0\0\0\0\0\0\0\0\0\0\0\0\0\0\0\0\
+    \0\0\0\0\0\0\0\0\0\0\0\0\0\0\0\0\
+    \0\0\0\0\0\0\0\0\0\0\0\0\0\0\0\0\
+    \0\0\0\0\0\0\0\0\0\0\0\0\0\0\0\0\
+    \0\0\0\0\0\0\0\0\0\0\0\0\0\0\0\0\
+    \0\0\0\0\0\0\0\0\0\0\0\0\0\0\0\0";
+
+// The table, with its rule: a caller takes it once and lends it on.
+pub fn symbol_table() -> [u8; 256]
+    ensures { λ r. ⌜ SymbolTable r ⌝ }
+{
+    SYMBOLS
+}
+
+// How many characters it is written from: an entity is one.
+pub fn characters(w: &[u8]) -> usize
+    ensures { λ r. ⌜ Characters (now (w .entry)) r ⌝ }
+{
+    let mut n: usize = 0;
+    let mut inside = false;
+    let mut i: usize = 0;
+    while i < w.len() {
+        let b = w[i];
+        if inside {
+            if b == b';' {
+                inside = false;
+            }
+        } else {
+            n += 1;
+            if b == b'&' {
+                inside = true;
+            }
+        }
+        i += 1;
+    }
+    n
+}
+
+// 1 where two bytes differ. As a number, so that many tests are joined without a branch.
+fn differs(a: u8, b: u8) -> u8
+    ensures { λ r. ⌜ Differs a b r ⌝ }
+{
+    if a != b { 1 } else { 0 }
+}
+
+// 0 only for the bases and `n`, which most residues are.
+fn no_base(b: u8) -> u8
+    ensures { λ r. ⌜ Strange b 1 r ⌝ }
+{
+    differs(b, b'a') & differs(b, b'c') & differs(b, b'g') & differs(b, b't') & differs(b, b'n')
+}
+
+// 0 only for the symbols of AA.
+fn no_amino(b: u8) -> u8
+    ensures { λ r. ⌜ Strange b 2 r ⌝ }
+{
+    if b < b'A' {
+        return 1;
+    }
+    if b'Z' < b { 1 } else { 0 }
+}
+
+// 0 only for symbols of the class.
+fn strange(b: u8, class: u8) -> u8
+    ensures { λ r. ⌜ Strange b class r ⌝ }
+{
+    if class == 1 {
+        return no_base(b);
+    }
+    if class == 2 {
+        return no_amino(b);
+    }
+    1
+}
+
+// 0 only where 64 bytes are symbols of the class. Joined with no branch, and not summed: it is compiled to vector code.
+fn block(w: &[u8], at: usize, class: u8) -> u8
+    requires { ⌜ at + 64 ≤ length (now w) ⌝ }
+    ensures { λ r. ⌜ Block (now (w .entry)) class at r ⌝ }
+{
+    let mut bad: u8 = 0;
+    let mut j: usize = 0;
+    while j < 64 {
+        bad = bad | strange(w[at + j], class);
+        j += 1;
+    }
+    bad
+}
+
+// The first byte from `from` on, before `end`, that is no symbol of the class.
+fn foreign(w: &[u8], from: usize, end: usize, class: u8, t: &[u8; 256]) -> usize
+    requires { ⌜ end ≤ length (now w) ⌝ }
+    requires { ⌜ from ≤ end ⌝ }
+    requires { ⌜ SymbolTable (now t) ⌝ }
+    ensures { λ r. ⌜ Foreign (now (w .entry)) class from end r ⌝ }
+{
+    let mut i = from;
+    while i < end {
+        if t[w[i] as usize] != class {
+            return i;
+        }
+        i += 1;
+    }
+    i
+}
+
+// The first byte that is no symbol of the class: by blocks, and by the table where a block has a rarer symbol.
+pub fn symbols(w: &[u8], class: u8, t: &[u8; 256]) -> usize
+    requires { ⌜ SymbolTable (now t) ⌝ }
+    ensures { λ r. ⌜ Symbols (now (w .entry)) class r ⌝ }
+{
+    let mut i: usize = 0;
+    while 64 <= w.len() - i {
+        if block(w, i, class) != 0 {
+            let r = foreign(w, i, i + 64, class, t);
+            if r < i + 64 {
+                return r;
+            }
+        }
+        i += 64;
+    }
+    foreign(w, i, w.len(), class, t)
+}
+
+// Whether at least so many residues aren't the undefined one. No more are read than it takes.
+pub fn has_defined(w: &[u8], undefined: u8, enough: usize) -> bool
+    ensures { λ r. ⌜ HasDefined (now (w .entry)) undefined enough r ⌝ }
+{
+    let mut left = enough;
+    let mut i: usize = 0;
+    while i < w.len() {
+        if left == 0 {
+            return true;
+        }
+        if w[i] != undefined {
+            left -= 1;
+        }
+        i += 1;
+    }
+    if left == 0 {
+        return true;
+    }
+    false
+}

@@ -1,0 +1,50 @@
+-- `walk_items::feature` meets its contract: its parts, one after another.
+use Rattle.walk_items.proofs.Features.{feature-found}
+use borrow.Author.Needs.{needs}
+use Rattle.walk_items.proofs.feature.Statement.{statement}
+use Rattle.walk_items.proofs.feature.Tie as tie
+
+slice-aggregate-tag : tie.Need-slice-aggregate-tag
+slice-aggregate-tag c = search needs
+
+tag-requires : tie.Need-tag-requires
+tag-requires c κs = search needs
+
+enter-requires : tie.Need-enter-requires
+enter-requires c κs = search needs
+
+slice-aggregate-leaf : tie.Need-slice-aggregate-leaf
+slice-aggregate-leaf c = search needs
+
+leaf-requires : tie.Need-leaf-requires
+leaf-requires c κs = search needs
+
+slice-aggregate-leaf-2 : tie.Need-slice-aggregate-leaf-2
+slice-aggregate-leaf-2 c = search needs
+
+leaf-requires-2 : tie.Need-leaf-requires-2
+leaf-requires-2 c κs = search needs
+
+slice-aggregate-children : tie.Need-slice-aggregate-children
+slice-aggregate-children c = search needs
+
+children-requires : tie.Need-children-requires
+children-requires c κs = search needs
+
+returns : tie.Need-returns
+returns c = feature-found (c .before .before .before .before .before .before .before .before .before .tag .ensures) (c .before .before .before .before .before .before .before .before .enter .ensures) (c .before .before .before .before .before .before .leaf .ensures) (c .before .before .before .leaf2 .ensures) (c .children .ensures)
+
+pub feature-spec : {M : Type 1} → statement M
+feature-spec =
+    tie.close
+    (tie.spec
+    slice-aggregate-tag
+    tag-requires
+    enter-requires
+    slice-aggregate-leaf
+    leaf-requires
+    slice-aggregate-leaf-2
+    leaf-requires-2
+    slice-aggregate-children
+    children-requires
+    returns)

@@ -1,0 +1,50 @@
+-- `walk_items::qualifier` meets its contract: its parts, one after another.
+use Rattle.walk_items.proofs.Features.{qualifier-found}
+use borrow.Author.Needs.{needs}
+use Rattle.walk_items.proofs.qualifier.Statement.{statement}
+use Rattle.walk_items.proofs.qualifier.Tie as tie
+
+slice-aggregate-tag : tie.Need-slice-aggregate-tag
+slice-aggregate-tag c = search needs
+
+tag-requires : tie.Need-tag-requires
+tag-requires c κs = search needs
+
+enter-requires : tie.Need-enter-requires
+enter-requires c κs = search needs
+
+slice-aggregate-leaf : tie.Need-slice-aggregate-leaf
+slice-aggregate-leaf c = search needs
+
+leaf-requires : tie.Need-leaf-requires
+leaf-requires c κs = search needs
+
+slice-aggregate-leaf-maybe : tie.Need-slice-aggregate-leaf-maybe
+slice-aggregate-leaf-maybe c = search needs
+
+leaf-maybe-requires : tie.Need-leaf-maybe-requires
+leaf-maybe-requires c κs = search needs
+
+slice-aggregate-leave : tie.Need-slice-aggregate-leave
+slice-aggregate-leave c = search needs
+
+leave-requires : tie.Need-leave-requires
+leave-requires c κs = search needs
+
+returns : tie.Need-returns
+returns c = qualifier-found (c .before .before .before .before .before .before .before .before .tag .ensures) (c .before .before .before .before .before .before .before .enter .ensures) (c .before .before .before .before .before .leaf .ensures) (c .before .before .leaf-maybe .ensures) (c .leave .ensures)
+
+pub qualifier-spec : {M : Type 1} → statement M
+qualifier-spec =
+    tie.close
+    (tie.spec
+    slice-aggregate-tag
+    tag-requires
+    enter-requires
+    slice-aggregate-leaf
+    leaf-requires
+    slice-aggregate-leaf-maybe
+    leaf-maybe-requires
+    slice-aggregate-leave
+    leave-requires
+    returns)
