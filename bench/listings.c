@@ -1,7 +1,7 @@
 /* Measures the proved check and layout reader beside libxml2 and expat: listings ROUNDS DTD FOLDER TRAP..
    FOLDER has what bench/run puts there: the published listings, MIX-SIZE.xml for each mix and size, and TRAP.xml of 16 MiB
    for each trap. */
-#include "../include/dreichnook.h"
+#include "../hosts/include/dreichnook.h"
 #include "expat_peer.h"
 #include "libxml2.h"
 #include "table.h"
@@ -34,7 +34,7 @@ struct target {
     double layout;
 };
 
-/* Listings as people write them, with their line breaks: files of specimens/. The first is the one of 4 KiB. */
+/* Listings as people write them, with their line breaks: files of tests/specimens/. The first is the one of 4 KiB. */
 static const struct published {
     const char *name;
     const char *words;

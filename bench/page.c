@@ -1,6 +1,6 @@
 /* Measures what each call of the library costs, for a page of many figures: page ROUNDS FOLDER
    FOLDER has what bench/run makes: MIX-SIZE.xml. Asked of are the last sequence that isn't skipped and its first feature. */
-#include "../include/dreichnook.h"
+#include "../hosts/include/dreichnook.h"
 #include "table.h"
 #include "tools.h"
 

@@ -1,11 +1,13 @@
 -- The verdict, from the layout and the parts of the judge.
 use Prim.Native.Nat.{ℕ}
-use mathlib.Core.Path.{_≡_, _∙_, subst}
+use mathlib.Core.Path.{_≡_, refl, _∙_, subst}
 use mathlib.Core.Bool.{Bool}
-use mathlib.Core.Logic.{inr}
+use mathlib.Core.Logic.{inl, inr}
 use mathlib.Core.List.{List}
+use lib.ListN.{length}
+use Rattle.paper.specs.Tree.{Listing}
 use Rattle.paper.specs.Values.{Number}
-use Rattle.paper.specs.Rules.{Broken, Least, Earlier, InSequence, InHeader}
+use Rattle.paper.specs.Rules.{InHeader, InSequence, Broken, header, rule-14, sequence, Least, Earlier}
 use Rattle.paper.specs.Answers.{CheckSays}
 use Rattle.paper.specs.Answers as paper
 use Rattle.paper.specs.declared.Fault.{Fault}
@@ -16,15 +18,33 @@ use Rattle.paper.proofs.Firsts.{_or_}
 use Rattle.read_steps.specs.Parts.{Shows}
 use Rattle.value_words.specs.Reading.{OfRead}
 use Rattle.read_layout.specs.Says.{Lays, Refuses, too-long, strays}
-use Rattle.judge_faults.specs.Sets.{Firsts, Some, unlessOf}
+use Rattle.judge_faults.specs.Sets.{Faults, Firsts, Bad, Some, unlessOf}
 use Rattle.judge_faults.proofs.Faults.{firsts-or, firsts-as}
 use Rattle.judge_faults.proofs.Values.{text-fault}
-use Rattle.judge_faults.proofs.Whole.{InTotal, InListing, listing-to, listing-of}
 use Rattle.judge_header.specs.Headers.{JudgesHeader}
 use Rattle.judge_header.specs.declared.Headed.{Headed}
 use Rattle.judge_sequences.specs.Sequences.{JudgesSequences}
 use Rattle.judge_sequences.specs.declared.Total.{Total}
 use Rattle.ask_check.specs.Checks.{JudgesListing}
+
+-- ---- the broken rules of a listing are those of its header, its total and its sequences
+
+abbrev InTotal : Listing ℕ → Faults
+InTotal l = Bad 14 (l .total .place) (Number (length (l .sequences)) (l .total .read))
+
+abbrev InParts : Listing ℕ → Faults
+InParts l = _or_ (InHeader l) (_or_ (InTotal l) (Some InSequence (l .sequences)))
+
+module _ (l : Listing ℕ) where
+  to-broken : (n p : ℕ) → InParts l n p → Broken l n p
+  to-broken n p (inl h) = header h
+  to-broken n p (inr (inl h)) = rw (h .0, h .1) (rule-14 (h .2))
+  to-broken n p (inr (inr h)) = sequence (h .0) (h .1) (h .2) (h .3)
+
+  of-broken : (n p : ℕ) → Broken l n p → InParts l n p
+  of-broken n p (header h) = inl h
+  of-broken n p (rule-14 h) = inr (inl (refl, refl, h))
+  of-broken n p (sequence k q i h) = inr (inr (k, q, i, h))
 
 pub listing-judged : {w p : List ℕ} {h : Headed} {t : Total} {ok : Bool} {c : Fault} (d r : Fault) → JudgesHeader w h → JudgesSequences w (h .first) t
     → Shows w (h .total .from) (h .total .to) p → OfRead p (Number (t .total)) ok → c ≡ unlessOf ok 14 (h .total .from) → Earlier c (t .fault) d → Earlier (h .fault) d r
@@ -39,11 +59,11 @@ listing-judged {t = t} {ok} {c} d r jh js sh on ec e1 e2 =
           subst (λ (n : ℕ). Firsts (λ (m p : ℕ). (m ≡ 14) × (p ≡ l .total .place) × (¬ Number n (l .total .read))) c) (z .total) (text-fault 14 (Number (t .total)) ok (y .total) sh on ec) in
           record {
             fault =
-                firsts-as (InListing l) (Broken l) (listing-to l) (listing-of l)
+                firsts-as (InParts l) (Broken l) (to-broken l) (of-broken l)
                 (firsts-or (InHeader l) (_or_ (InTotal l) (Some InSequence (l .sequences))) (y .fault) (firsts-or (InTotal l) (Some InSequence (l .sequences)) fc (z .fault) e1) e2);
             counted =
                 λ clean.
-                let k = z .counted (λ n p x. clean n p (listing-to l n p (inr (inr x)))) in
+                let k = z .counted (λ n p x. clean n p (to-broken l n p (inr (inr x)))) in
                 record { totals = z .total; skips = z .skipped; featured = k .features-are; judges = k .judged-are; unjudges = k .unjudged-are };
           };
     }

@@ -1,5 +1,5 @@
 // Finds the sequence, the feature or the qualifier of a number in an accepted listing, with the refusals 30 to 33 in their order.
-// Relies on the check, the judged header for where the sequences stand, and the crate seeking for the item of a number.
+// Relies on the check, the judged header for where the sequences stand, and walk_seek for the item of a number.
 use judge_header::Headed;
 use paper::Verdict;
 use walk_items::FoundSequence;

@@ -1,7 +1,6 @@
 -- A sequence that is found is one of an accepted listing: no rule is broken on its texts or on its features.
 use Prim.Native.Nat.{ℕ, _≤_}
 use mathlib.Core.Path.{_≡_, refl}
-use mathlib.Core.Logic.{inr}
 use mathlib.Core.List.{List}
 use lib.ListN.{length}
 use Rattle.paper.specs.Lists.{_∈_}
@@ -13,7 +12,6 @@ use Rattle.paper.specs.Answers as paper
 use Rattle.value_words.specs.Reading.{KindIs}
 use Rattle.value_words.specs.declared.Kind.{Kind}
 use Rattle.value_words.specs.declared.Kind.the-variants.{Dna, Rna, Aa, Other}
-use Rattle.judge_faults.proofs.Whole.{listing-to}
 use Rattle.ask_translation.specs.Plans.{Keeps}
 use Rattle.ask_show.specs.Shown.{kindIs}
 
@@ -26,8 +24,8 @@ pub accepts : {w : List ℕ} {k : ℕ} {q : Sequence ℕ} → FindsSequence w k 
 accepts {k = k} {q} (paper.sequence {l} (paper.accepted short laid clean) i s) =
     record {
       short = short;
-      texts = λ n p h. clean n p (listing-to l n p (inr (inr (k, q, i, Rules.texts s h))));
-      features = λ f m n p h. clean n p (listing-to l n p (inr (inr (k, q, i, Rules.table s (Rules.feature f m h)))));
+      texts = λ n p h. clean n p (Rules.sequence k q i (Rules.texts s h));
+      features = λ f m n p h. clean n p (Rules.sequence k q i (Rules.table s (Rules.feature f m h)));
     }
 
 pub keeps-feature : {w : List ℕ} {q : Sequence ℕ} → Accepts w q → (f : Feature ℕ) → f ∈ featuresOf q → Keeps q f

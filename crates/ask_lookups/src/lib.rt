@@ -1,6 +1,6 @@
 // The calls of document 01 that show a piece of an accepted listing: each is the check, a walk to the item, and its answer.
 // Any bytes, any numbers and any room may be given; nobody need check anything first.
-// Relies on the crates answers, showing, finding, translating and lines, and on the parts of the judge for the kind and L.
+// Relies on the other crates of this floor, and on the parts of the judge for the kind and L.
 use ask_answers::FeatureAnswer;
 use ask_answers::QualifierAnswer;
 use ask_answers::SequenceAnswer;

@@ -22,9 +22,9 @@ use Rattle.protein_codons.specs.Letters.{lettersOf}
 use Rattle.judge_faults.specs.Known.{Knows}
 use Rattle.judge_faults.specs.declared.Known.{Known}
 use Rattle.judge_faults.proofs.Bytes.{part-shows, text-shown}
-use Rattle.judge_frame.specs.Starts.{NamesCoding, StartIs, StartsAt}
-use Rattle.judge_frame.specs.declared.Start.{Start}
-use Rattle.judge_frame.specs.declared.Start.the-variants as start
+use Rattle.judge_qualifiers.specs.Starts.{NamesCoding, StartIs, StartsAt}
+use Rattle.judge_qualifiers.specs.declared.Start.{Start}
+use Rattle.judge_qualifiers.specs.declared.Start.the-variants as start
 use Rattle.judge_coding.proofs.Regions.{residues-read, found-codes}
 use Rattle.ask_translation.specs.Plans.{Keeps, PlannedFrom, PlanIs, Plans}
 use Rattle.ask_translation.specs.declared.Plan.{Plan}

@@ -1,9 +1,9 @@
 // The translation of one feature of an accepted listing, into lent bytes.
 // Relies on what the qualifiers of a coding region say, the judged location and the writing of a translation.
 use judge_faults::Known;
-use judge_frame::Start;
-use judge_frame::is_coding;
-use judge_frame::start_of;
+use judge_qualifiers::Start;
+use judge_qualifiers::is_coding;
+use judge_qualifiers::start_of;
 use location_judge::judging::judge_location;
 use protein_measure::Size;
 use protein_write::write;

@@ -15,7 +15,7 @@ use Rattle.walk_items.specs.Items.{IsFeature, FindsFeature}
 use Rattle.walk_items.specs.declared.FoundFeature.{FoundFeature}
 use Rattle.judge_faults.specs.Known.{Knows}
 use Rattle.judge_faults.specs.declared.Known.{Known}
-use Rattle.judge_frame.proofs.Lists.{in-last}
+use Rattle.judge_qualifiers.proofs.Lists.{in-last}
 use Rattle.ask_translation.specs.Plans.{Keeps}
 use Rattle.ask_translation.specs.Ones.{TranslatesOne}
 use Rattle.ask_translations.specs.Lines.{Line, PassesFeature, KeepAll, PutsDash, PutsLine, PutsLines}

@@ -21,7 +21,7 @@ use Rattle.protein_measure.specs.declared.Size.the-variants as size
 use Rattle.protein_measure.proofs.Measuring.{measures-are}
 use Rattle.judge_faults.specs.Known.{Knows}
 use Rattle.judge_faults.specs.declared.Known.{Known}
-use Rattle.judge_frame.proofs.Lists.{in-last}
+use Rattle.judge_qualifiers.proofs.Lists.{in-last}
 use Rattle.ask_translation.specs.Plans.{PlanIs, Plans}
 use Rattle.ask_translations.specs.Lines.{Line, SizeIs, Within, Adds, Dashes, MeasuresLine, PassesFeature, KeepAll, LinesSized, MeasuresLines}
 use Rattle.ask_translation.specs.declared.Plan.{Plan}

@@ -15,7 +15,7 @@ use Rattle.walk_items.specs.Items.{FindsFeature, IsFeature, featureTail}
 use Rattle.walk_items.specs.declared.FoundFeature.{FoundFeature}
 use Rattle.walk_items.proofs.Sequences.{feature-leads}
 use Rattle.judge_faults.proofs.Seen.{Seen, seen-none, seen-next, seen-stuck, seen-all}
-use Rattle.judge_frame.proofs.Lists.{in-front}
+use Rattle.judge_qualifiers.proofs.Lists.{in-front}
 use Rattle.ask_translations.specs.Lines.{PassesFeature, KeepAll}
 
 pub passes : {s : List ℕ} {g : FoundFeature} {a n : ℕ} → Over (each (child qualifier)) (Starts closing) s (g .quals) a → Ends (featureTail (g .long)) (Not isBlank) s a n

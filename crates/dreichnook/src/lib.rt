@@ -1,5 +1,5 @@
-// The library for the box: document 01's calls as C functions. include/dreichnook.h describes each.
-// Relies on the check and the lookups, and on the crate answers, which hands their answers over as numbers: 0 or the number of the refusal is
+// The library for the box: document 01's calls as C functions. hosts/include/dreichnook.h describes each.
+// Relies on the check and the lookups, and on ask_answers, which hands their answers over as numbers: 0 or the number of the refusal is
 // returned, every number pointed to is set in every case, and a part is given as start and size within the lent listing.
 ghost use Rattle.paper.specs.Answers.{SequenceSays, FeatureSays, TranslationSays, TranslationsSays, SpansSays};
 ghost use Rattle.dreichnook.specs.Numbers.{part, CheckNumbers, QualifierNumbers};

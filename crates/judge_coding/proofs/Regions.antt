@@ -3,15 +3,16 @@ use Prim.Native.Nat.{ℕ, suc}
 use native.Mathlib.Omega.{arith}
 use mathlib.Core.Path.{_≡_, refl, sym, ap, _∙_, subst, subst₂}
 use mathlib.Core.Bool.{Bool, true, false, true≢false}
-use mathlib.Core.Logic.{inr}
+use mathlib.Core.Logic.{_⊎_, inl, inr}
 use mathlib.Core.List.{List}
 use mathlib.Core.Option.{Option, some}
 use lib.ListN.{length}
 use Rattle.paper.specs.Bytes.{raw, all}
-use Rattle.paper.specs.Tree.{Feature, Sequence, qualifiersOf}
+use Rattle.paper.specs.Lists.{_∈_}
+use Rattle.paper.specs.Tree.{Qualifier, Feature, Sequence, qualifiersOf}
 use Rattle.paper.specs.Locations.{Location, Locates, breaks25}
 use Rattle.paper.specs.Translation.{dropStop, hasStopInside}
-use Rattle.paper.specs.Rules.{L, Kind, isSymbol, Before, CodonStart, Judged, InCoding, rule-27, rule-28}
+use Rattle.paper.specs.Rules.{L, Kind, isSymbol, valuePlace, Before, CodonStart, Judged, InCoding, rule-27, rule-28}
 use Rattle.paper.specs.Answers.{Translates}
 use Rattle.paper.specs.declared.Fault.{Fault}
 use Rattle.paper.specs.declared.Fault.the-variants.{Clean, At}
@@ -32,12 +33,13 @@ use Rattle.judge_faults.specs.Known.{Knows}
 use Rattle.judge_faults.specs.declared.Known.{Known}
 use Rattle.judge_faults.proofs.Bytes.{part-shows}
 use Rattle.judge_faults.proofs.Faults.{firsts-none, firsts-as}
-use Rattle.judge_frame.specs.Qualifiers.{FrameIs, Notes, LeavesOut}
+use Rattle.judge_qualifiers.specs.Qualifiers.{FrameIs, RestIs, LeavesOut}
 use Rattle.judge_coding.specs.Translations.{Breaks28, Rights}
 use Rattle.judge_coding.specs.Coding.{Asked, JudgesCoding, JudgesRegion}
-use Rattle.judge_frame.specs.declared.Frame.the-variants.{Wrong}
-use Rattle.judge_frame.specs.declared.Noted.{Noted}
-use Rattle.judge_frame.proofs.Frames.{start-wrong}
+use Rattle.judge_qualifiers.specs.declared.Frame.the-variants.{Wrong}
+use Rattle.judge_qualifiers.specs.declared.Noted.{Noted}
+use Rattle.judge_qualifiers.proofs.Frames.{start-wrong}
+use Rattle.judge_qualifiers.proofs.Lists.{in-behind, in-either}
 
 -- ---- rule 28 of the region
 
@@ -65,18 +67,24 @@ module _ {q : Sequence ℕ} {f : Feature ℕ} {start : ℕ} (starts : CodonStart
       not-broken n p (rule-27 c k) = k start starts
       not-broken n p (rule-28 x j y m i k) = h x j
 
-  judged-as : {x : List ℕ} {r : Fault} → Judged q f x → Firsts (Some (Breaks28 x) (qualifiersOf f)) r → Firsts (InCoding q f) r
-  judged-as {x} j = firsts-as (Some (Breaks28 x) (qualifiersOf f)) (InCoding q f) to of
+  -- it is judged by the qualifiers from the first translation on
+  judged-as : {s x : List ℕ} {rest stop : ℕ} {r : Fault} → Judged q f x → (t : RestIs s rest (qualifiersOf f) stop) → Firsts (Some (Breaks28 x) (t .back)) r → Firsts (InCoding q f) r
+  judged-as {x = x} j t = firsts-as (Some (Breaks28 x) (t .back)) (InCoding q f) to of
     where
-      to : (n p : ℕ) → Some (Breaks28 x) (qualifiersOf f) n p → InCoding q f n p
+      to : (n p : ℕ) → Some (Breaks28 x) (t .back) n p → InCoding q f n p
       to n p b =
           let y = b .1 in
           let u = b .3 in
-          subst₂ (InCoding q f) (sym (u .0)) (sym (u .1)) (rule-28 x j y (b .2 .0, b .2 .2) (u .2) (u .3))
+          let m = subst (λ (l : List (Qualifier ℕ)). y ∈ l) (sym (t .is)) (in-behind (t .front) (t .back) y (b .2 .0, b .2 .2)) in
+          subst₂ (InCoding q f) (sym (u .0)) (sym (u .1)) (rule-28 x j y m (u .2) (u .3))
 
-      of : (n p : ℕ) → InCoding q f n p → Some (Breaks28 x) (qualifiersOf f) n p
+      of : (n p : ℕ) → InCoding q f n p → Some (Breaks28 x) (t .back) n p
       of n p (rule-27 c k) = absurd (k start starts)
-      of n p (rule-28 z i y m d k) = (suc (m .0), y, (m .0, refl, m .1), (refl, refl, d, λ h. k (agree j i h)))
+      of n p (rule-28 z i y m d k) = behind (in-either (t .front) (t .back) y (subst (λ (l : List (Qualifier ℕ)). y ∈ l) (t .is) m))
+        where
+          behind : (y ∈ t .front) ⊎ (y ∈ t .back) → Some (Breaks28 x) (t .back) 28 (valuePlace (y .value) (y .name))
+          behind (inl a) = absurd (t .none y a d)
+          behind (inr a) = (suc (a .0), y, (a .0, refl, a .1), (refl, refl, d, λ h. k (agree j i h)))
 
 -- what was found of it: residues that are symbols, and the location, as they are written
 module _ {s r : List ℕ} {known : Known} {q : Sequence ℕ} (k : Knows s q known) where
@@ -87,27 +95,27 @@ module _ {s r : List ℕ} {known : Known} {q : Sequence ℕ} (k : Knows s q know
   found-codes {v = v} {t = t} el er l b =
       record { sized = ap length er ∙ sym (k .size); read = v; written = el; located = l; right = ap (λ (n : ℕ). breaks25 n t) (k .size) ∙ b }
 
-module _ {s : List ℕ} {location : Part} {first : ℕ} {known : Known} {verdict : Verdict} {start : ℕ} {u : Bool} where
-  pub region-unjudged : u ≡ true → JudgesRegion s location first known verdict start u Clean
-  region-unjudged e = record { says = λ key q f stop a c t. none-judged c (λ x j. j .judged (tells-true u e t)) }
+module _ {s : List ℕ} {location : Part} {rest : ℕ} {known : Known} {verdict : Verdict} {start : ℕ} {u : Bool} where
+  pub region-unjudged : u ≡ true → JudgesRegion s location rest known verdict start u Clean
+  region-unjudged e = record { says = λ key q f stop a l c t. none-judged c (λ x j. j .judged (tells-true u e t)) }
 
-  pub region-unclean : known .clean ≡ false → JudgesRegion s location first known verdict start u Clean
+  pub region-unclean : known .clean ≡ false → JudgesRegion s location rest known verdict start u Clean
   region-unclean e =
       record {
         says =
-            λ key q f stop a c t. none-judged c (λ x j. tells-false (known .clean) e (a .knows .clean (j .coding .kind) (j .coding .is)) (j .symbols));
+            λ key q f stop a l c t. none-judged c (λ x j. tells-false (known .clean) e (a .knows .clean (j .coding .kind) (j .coding .is)) (j .symbols));
       }
 
-  pub region-bad : verdict ≡ Bad → JudgesRegion s location first known verdict start u Clean
+  pub region-bad : verdict ≡ Bad → JudgesRegion s location rest known verdict start u Clean
   region-bad e =
-      record { says = λ key q f stop a c t. none-judged c (λ x j. subst (Placed (L q) (f .location .read)) e (a .judged) (j .codons .location) (j .codons .located)) }
+      record { says = λ key q f stop a l c t. none-judged c (λ x j. subst (Placed (L q) (f .location .read)) e (a .judged) (j .codons .location) (j .codons .located)) }
 
   module _ {x : Facts} (e : verdict ≡ Is x) where
-    pub region-outside : x .wrong ≡ true → JudgesRegion s location first known verdict start u Clean
+    pub region-outside : x .wrong ≡ true → JudgesRegion s location rest known verdict start u Clean
     region-outside w =
         record {
           says =
-              λ key q f stop a c t.
+              λ key q f stop a l c t.
               none-judged c
               (λ z j.
               let k = subst (Placed (L q) (f .location .read)) e (a .judged) in
@@ -117,11 +125,11 @@ module _ {s : List ℕ} {location : Part} {first : ℕ} {known : Known} {verdict
 
     pub region-judged : {r loc : List ℕ} {y : Fault} → u ≡ false → known .clean ≡ true → x .wrong ≡ false
         → Shows s (known .residues .from) (known .residues .to) r → Shows s (location .from) (location .to) loc
-        → Rights s r loc (known .top) start first y → JudgesRegion s location first known verdict start u y
+        → Rights s r loc (known .top) start rest y → JudgesRegion s location rest known verdict start u y
     region-judged d g w shr shl rights =
         record {
           says =
-              λ key q f stop a c t.
+              λ key q f stop a l c t.
               let k = subst (Placed (L q) (f .location .read)) e (a .judged) in
               let sy : all (isSymbol (a .coding .kind)) (q .residues .read) = tells-true (known .clean) g (a .knows .clean (a .coding .kind) (a .coding .is)) in
               let er = residues-read (a .knows) shr (a .coding .kind) sy in
@@ -134,35 +142,35 @@ module _ {s : List ℕ} {location : Part} {first : ℕ} {known : Known} {verdict
                 codons =
                     record { location = k .0; located = k .1; inside = b; start = start; starts = c; are = ap (λ (z : List ℕ). lettersOf z start (k .0)) er };
               })
-              (rights .says (k .0) (found-codes (a .knows) (part-shows (a .located) shl) er (k .1) b) (qualifiersOf f) stop (a .quals) (a .closes));
+              l (rights .says (k .0) (found-codes (a .knows) (part-shows (a .located) shl) er (k .1) b) (l .back) stop (l .stands) (a .closes));
         }
 
 -- ---- the region
 
-module _ {s : List ℕ} {key : ℕ} {location : Part} {first : ℕ} {known : Known} {verdict : Verdict} {x : Noted} {u : Bool}
-    (notes : Notes s first x) (leaves : LeavesOut (x .excepted) verdict u) where
+module _ {s : List ℕ} {key : ℕ} {location : Part} {known : Known} {verdict : Verdict} {x : Noted} {u : Bool} (leaves : LeavesOut (x .excepted) verdict u) where
   pub coding-framed : {start : ℕ} {y : Fault} → ((f : Feature ℕ) → FrameIs (qualifiersOf f) (x .frame) → CodonStart f start)
-      → JudgesRegion s location first known verdict start u y → JudgesCoding s key location first known verdict (record { fault = y; unjudged = u; next = x .next })
+      → JudgesRegion s location (x .rest) known verdict start u y → JudgesCoding s key location x known verdict (record { fault = y; unjudged = u })
   coding-framed g r =
       record {
         says =
-            λ q f stop a.
-            let n = notes .says (qualifiersOf f) stop (a .quals) (a .closes) in
-            let t = leaves .says (L q) f (n .0 .left) (a .judged) in
-            record { fault = r .says key q f stop a (g f (n .0 .framed)) t; unjudged = t; next = n .1 };
+            λ upper q f stop a n.
+            let t = leaves .says (L q) f (n .says .left) (a .judged) in
+            record { fault = r .says key q f stop a (n .rest) (g f (n .says .framed)) t; unjudged = t };
       }
 
-  pub coding-wrong : x .frame ≡ Wrong → JudgesCoding s key location first known verdict (record { fault = At 27 key; unjudged = u; next = x .next })
+  pub coding-wrong : x .frame ≡ Wrong → JudgesCoding s key location x known verdict (record { fault = At 27 key; unjudged = u })
   coding-wrong e =
       record {
         says =
-            λ q f stop a.
-            let n = notes .says (qualifiersOf f) stop (a .quals) (a .closes) in
-            let z = start-wrong f (subst (FrameIs (qualifiersOf f)) e (n .0 .framed)) in
-            record { fault = record { is = record { broken = subst (InCoding q f 27) (sym (a .at)) (rule-27 (a .coding) z); least = least q f a z } }; unjudged = leaves .says (L q) f (n .0 .left) (a .judged); next = n .1 };
+            λ upper q f stop a n.
+            let z = start-wrong f (subst (FrameIs (qualifiersOf f)) e (n .says .framed)) in
+            record {
+              fault = record { is = record { broken = subst (InCoding q f 27) (sym (a .at)) (rule-27 (a .coding) z); least = least q f a z } };
+              unjudged = leaves .says (L q) f (n .says .left) (a .judged);
+            };
       }
     where
-      least : (q : Sequence ℕ) (f : Feature ℕ) {stop : ℕ} → Asked s key location first known verdict q f stop → ((n : ℕ) → ¬ CodonStart f n)
+      least : (q : Sequence ℕ) (f : Feature ℕ) {stop : ℕ} → Asked s key location known verdict q f stop → ((n : ℕ) → ¬ CodonStart f n)
           → (m p : ℕ) → InCoding q f m p → Before 27 key m p
       least q f a z m p (rule-27 c k) = inr (a .at, omega arith)
       least q f a z m p (rule-28 y j w i d k) = absurd (z (j .codons .start) (j .codons .starts))

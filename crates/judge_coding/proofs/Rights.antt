@@ -36,7 +36,7 @@ use Rattle.judge_faults.proofs.Faults.{firsts-none, some-none, some-more, some-
 use Rattle.judge_faults.proofs.Seen.{seen-none}
 use Rattle.judge_coding.specs.Translations.{Breaks28, RightAt, Settled, SaysRight, CheckedOf, Checks, Rights}
 use Rattle.judge_coding.specs.declared.Checked.{Checked}
-use Rattle.judge_frame.proofs.Loops.{SeenSo, one-more, stuck, all-seen}
+use Rattle.judge_qualifiers.proofs.Loops.{SeenSo, one-more, stuck, all-seen}
 
 -- ---- one value
 

@@ -1,11 +1,10 @@
 // One coding region of DNA or RNA: rules 27 and 28, and whether it is judged.
-// Relies on the walk along its qualifiers, the values, the judged location, the framing of its codon_start and the comparison with the translation.
+// Relies on what is noted of its qualifiers, the walk along its translations, the values, the judged location and the comparison with the translation.
 use judge_faults::Known;
 use judge_faults::earlier;
-use judge_frame::Frame;
-use judge_frame::Noted;
-use judge_frame::gather;
-use judge_frame::is_unjudged;
+use judge_qualifiers::Frame;
+use judge_qualifiers::Noted;
+use judge_qualifiers::is_unjudged;
 use location_judge::judging::Verdict;
 use paper::Fault;
 use protein_compare::is_right;
@@ -19,11 +18,10 @@ ghost use Rattle.value_words.specs.Reading.{Tells};
 ghost use Rattle.judge_coding.specs.Translations.{Settled, SaysRight, Checks, Rights};
 ghost use Rattle.judge_coding.specs.Coding.{JudgesCoding, JudgesRegion};
 
-// The first fault of the region, whether it is unjudged, and where its qualifiers end.
+// The first fault of the region, and whether it is unjudged.
 pub struct Region {
     pub fault: Fault,
     pub unjudged: bool,
-    pub next: usize,
 }
 
 // ---- its translations: `r` are the residues, `loc` is the raw part of the location, `start` the codon_start
@@ -192,11 +190,11 @@ fn translations(
 
 // ---- the region
 
-// The fault of a region that keeps rule 27.
+// The fault of a region that keeps rule 27: its translations stand from `rest` on.
 fn region_fault(
     s: &[u8],
     location: Part,
-    first: usize,
+    rest: usize,
     known: Known,
     verdict: Verdict,
     start: usize,
@@ -208,7 +206,7 @@ fn region_fault(
     requires { ⌜ SetTable (now sets) ⌝ }
     requires { ⌜ TurnTable (now turns) ⌝ }
     requires { ⌜ LetterTable (now table) ⌝ }
-    ensures { λ y. ⌜ JudgesRegion (now (s .entry)) location first known verdict start unjudged y ⌝ }
+    ensures { λ y. ⌜ JudgesRegion (now (s .entry)) location rest known verdict start unjudged y ⌝ }
 {
     if unjudged {
         return Fault::Clean;
@@ -226,17 +224,17 @@ fn region_fault(
             }
             let r = bytes_of(s, known.residues.from, known.residues.to);
             let loc = bytes_of(s, location.from, location.to);
-            return translations(s, r, loc, known.top, start, first, sets, turns, table);
+            return translations(s, r, loc, known.top, start, rest, sets, turns, table);
         }
     }
 }
 
-// `key` is the place of the feature's key, `first` where its qualifiers stand, `verdict` what was judged of its location.
+// `key` is the place of the feature's key, `noted` what its qualifiers say, `verdict` what was judged of its location.
 pub fn judge_coding(
     s: &[u8],
     key: usize,
     location: Part,
-    first: usize,
+    noted: Noted,
     known: Known,
     verdict: Verdict,
     sets: &[u8; 256],
@@ -246,20 +244,23 @@ pub fn judge_coding(
     requires { ⌜ SetTable (now sets) ⌝ }
     requires { ⌜ TurnTable (now turns) ⌝ }
     requires { ⌜ LetterTable (now table) ⌝ }
-    ensures { λ r. ⌜ JudgesCoding (now (s .entry)) key location first known verdict r ⌝ }
+    ensures { λ r. ⌜ JudgesCoding (now (s .entry)) key location noted known verdict r ⌝ }
 {
     let Noted {
         frame,
         excepted,
-        next,
-    } = gather(s, first);
+        organisms: _,
+        moltypes: _,
+        rest,
+        next: _,
+    } = noted;
     let unjudged = is_unjudged(excepted, verdict);
     match frame {
         Frame::Unstated => {
             let fault = region_fault(
                 s,
                 location,
-                first,
+                rest,
                 known,
                 verdict,
                 1,
@@ -268,17 +269,13 @@ pub fn judge_coding(
                 turns,
                 table,
             );
-            return Region {
-                fault,
-                unjudged,
-                next,
-            };
+            return Region { fault, unjudged };
         }
         Frame::Stated(n) => {
             let fault = region_fault(
                 s,
                 location,
-                first,
+                rest,
                 known,
                 verdict,
                 n,
@@ -287,11 +284,7 @@ pub fn judge_coding(
                 turns,
                 table,
             );
-            return Region {
-                fault,
-                unjudged,
-                next,
-            };
+            return Region { fault, unjudged };
         }
         Frame::Wrong => {
             return Region {
@@ -300,7 +293,6 @@ pub fn judge_coding(
                     place: key,
                 },
                 unjudged,
-                next,
             };
         }
     }

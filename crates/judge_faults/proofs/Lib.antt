@@ -3,4 +3,4 @@ pub mod Bytes
 pub mod Seen
 pub mod Moltypes
 pub mod Values
-pub mod Whole
+pub mod Counters

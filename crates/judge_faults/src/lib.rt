@@ -1,11 +1,12 @@
-// What the parts of the judge share: the earlier of two faults, the fault of a test, and what is known of a sequence while its features
-// are judged. Relies on the paper, the walk and the values. The sets of broken rules that each part answers for stand in specs/.
+// What the parts of the judge share: the earlier of two faults, the fault of a test, counters with a cap, and what is known of a sequence while
+// its features are judged. Relies on the paper, the walk and the values.
 use paper::Fault;
 use value_words::Kind;
 use walk_steps::Part;
 ghost use mathlib.Core.Path.{_≡_};
 ghost use Rattle.paper.specs.Rules.{Earlier};
 ghost use Rattle.judge_faults.specs.Sets.{unlessOf};
+ghost use Rattle.judge_faults.specs.Counters.{upTo, upToTwo};
 
 // What is known of a sequence while its features are judged: the kind that its moltype names, L, whether every residue is a symbol of the
 // kind, and where its residues stand.
@@ -46,4 +47,26 @@ pub fn unless(ok: bool, rule: usize, place: usize) -> Fault
         return Fault::Clean;
     }
     Fault::At { rule, place }
+}
+
+// ---- counters
+
+// One more, up to a limit.
+pub fn more(n: usize, limit: usize) -> usize
+    ensures { λ r. ⌜ r ≡ upTo limit n ⌝ }
+{
+    if n < limit {
+        return n + 1;
+    }
+    n
+}
+
+// One more if it is one, up to two: who asks for exactly one need not know how many more there are.
+pub fn more_of_two(n: usize, one: bool) -> usize
+    ensures { λ r. ⌜ r ≡ upToTwo one n ⌝ }
+{
+    if one {
+        return more(n, 2);
+    }
+    n
 }

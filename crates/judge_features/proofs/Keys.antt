@@ -9,7 +9,7 @@ use lib.ListN.{getD}
 use Rattle.paper.specs.Bytes.{bytes, raw}
 use Rattle.paper.specs.Tree.{Text, Sequence, Feature}
 use Rattle.paper.specs.Locations.{Location, Locates, breaks25, hasComplement}
-use Rattle.paper.specs.Rules.{L, Kind, dna, rna, aa, IsKind, Keyed, sourceName, Coding, InLocation, rule-24, rule-25, rule-26}
+use Rattle.paper.specs.Rules.{L, Kind, dna, rna, aa, IsKind, Keyed, upperIn, sourceName, Coding, InLocation, rule-24, rule-25, rule-26}
 use Rattle.paper.specs.declared.Fault.the-variants.{Clean, At}
 use Rattle.paper.proofs.Locate.{locates-once}
 use Rattle.value_words.specs.Reading.{Tells, KindIs, Names}
@@ -88,20 +88,20 @@ module _ (q : Sequence ℕ) (t : Text ℕ) where
 -- ---- keys
 
 -- the key of a kind's source, for the kinds that have this one
-pub source-named : (k : Kind) {c : code.Kind} {w : List ℕ} (r : Bool) → raw (bytes (sourceName k)) ≡ bytes (sourceName k) → ((v : List ℕ) → KindIs v c → Names v k)
-    → Tells r (w ≡ bytes (sourceName k)) → NamesSource w c r
+pub source-named : (k : Kind) {c : code.Kind} {w : List ℕ} (r : Bool) → raw (bytes (sourceName (upperIn k))) ≡ bytes (sourceName (upperIn k)) → ((v : List ℕ) → KindIs v c → Names v k)
+    → Tells r (w ≡ bytes (sourceName (upperIn k))) → NamesSource w c r
 source-named k r plain named t =
-    record { says = λ q f i e. by q f (named (q .moltype .read) i) r (tells-word (bytes (sourceName k)) plain r t .says (f .key .read) e) }
+    record { says = λ q f i e. by q f (named (q .moltype .read) i) r (tells-word (bytes (sourceName (upperIn k))) plain r t .says (f .key .read) e) }
   where
-    by : (q : Sequence ℕ) (f : Feature ℕ) → Names (q .moltype .read) k → (d : Bool) → Tells d (Keyed (sourceName k) f) → Tells d (IsSource q f)
+    by : (q : Sequence ℕ) (f : Feature ℕ) → Names (q .moltype .read) k → (d : Bool) → Tells d (Keyed (sourceName (upperIn k)) f) → Tells d (IsSource q f)
     by q f i true h = (k, i, h)
-    by q f i false h = λ x. h (subst (λ (j : Kind). Keyed (sourceName j) f) (kind-once (q .moltype .read) (x .0) k (x .1) i) (x .2))
+    by q f i false h = λ x. h (subst (λ (j : Kind). Keyed (sourceName (upperIn j)) f) (kind-once (q .moltype .read) (x .0) k (x .1) i) (x .2))
 
 pub source-other : {w : List ℕ} → NamesSource w kind.Other false
 source-other = record { says = λ q f i e x. i (x .0) (x .1) }
 
 -- no source is a coding region
-first-letter : (k : Kind) → getD (bytes (sourceName k)) 0 0 ≡ 67 → ⊥
+first-letter : (k : Kind) → getD (bytes (sourceName (upperIn k))) 0 0 ≡ 67 → ⊥
 first-letter dna e = omega (arith, e)
 first-letter rna e = omega (arith, e)
 first-letter aa e = omega (arith, e)

@@ -4,33 +4,36 @@ use mathlib.Core.Path.{_≡_, refl, sym, ap, _∙_, subst}
 use mathlib.Core.Bool.{Bool, true, false}
 use mathlib.Core.Logic.{inl, inr}
 use mathlib.Core.List.{List}
+use lib.ListN.{drop}
 use Rattle.paper.specs.Bytes.{isBlank, raw}
-use Rattle.paper.specs.Form.{each}
-use Rattle.paper.specs.Layout.{child, qualifier, feature}
 use Rattle.paper.specs.Tree.{Sequence, Feature, qualifiersOf}
-use Rattle.paper.specs.Rules.{L, Kind, IsKind, Coding, Unjudged, Earlier, InLocation, InCoding, rule-27, rule-28, InFeature}
+use Rattle.paper.specs.Rules.{L, Kind, upperIn, Coding, Unjudged, Earlier, InLocation, InCoding, rule-27, rule-28, InFeature}
 use Rattle.paper.specs.declared.Fault.{Fault}
 use Rattle.paper.specs.declared.Fault.the-variants.{Clean}
-use Rattle.read_steps.specs.Follow.{Not, Starts, closing}
+use Rattle.read_steps.specs.Follow.{Not}
 use Rattle.read_steps.specs.Parts.{Shows}
-use Rattle.walk_steps.specs.Stands.{Ends, Over}
+use Rattle.walk_steps.specs.Stands.{Ends}
 use Rattle.walk_steps.proofs.Places.{from}
 use Rattle.walk_items.specs.Items.{FindsFeature, IsFeature, featureTail}
 use Rattle.walk_items.specs.declared.FoundFeature.{FoundFeature}
 use Rattle.value_words.specs.Reading.{Tells}
+use Rattle.value_words.specs.declared.Kind as code
+use Rattle.value_words.specs.declared.Kind.the-variants as kind
 use Rattle.value_words.proofs.Tests.{told}
 use Rattle.location_judge.specs.Judging.{Judged, JudgesPart}
 use Rattle.location_judge.specs.declared.judging.Verdict.{Verdict}
 use Rattle.location_judge.proofs.Verdicts.{judged-by}
 use Rattle.judge_faults.specs.Sets.{Firsts}
-use Rattle.judge_faults.specs.Known.{Knows}
+use Rattle.judge_faults.specs.Known.{Knows, CodeOf}
 use Rattle.judge_faults.specs.declared.Known.{Known}
 use Rattle.judge_faults.proofs.Bytes.{part-shows, text-shown}
 use Rattle.judge_faults.proofs.Faults.{firsts-or, firsts-as}
-use Rattle.judge_source.specs.Sources.{JudgesSource, IsSource as IsSourced}
-use Rattle.judge_source.specs.declared.Sourced.{Sourced}
-use Rattle.judge_frame.specs.Starts.{NamesCoding}
-use Rattle.judge_coding.specs.Coding.{JudgesCoding}
+use Rattle.judge_faults.proofs.Moltypes.{code-is}
+use Rattle.judge_qualifiers.specs.Qualifiers.{inUpper, IsNoted, Notes}
+use Rattle.judge_qualifiers.specs.declared.Noted.{Noted}
+use Rattle.judge_source.specs.Sources.{JudgesSource}
+use Rattle.judge_qualifiers.specs.Starts.{NamesCoding}
+use Rattle.judge_coding.specs.Coding.{Asked, JudgesCoding}
 use Rattle.judge_coding.specs.declared.Region.{Region}
 use Rattle.judge_features.specs.Featured.{placeFault, IsSource, NamesSource, roleOf, RoleIs, JudgesFeature}
 use Rattle.judge_features.specs.declared.Role.{Role}
@@ -56,33 +59,49 @@ module _ (v : Verdict) {s : List ℕ} {known : Known} {x : FoundFeature} {q : Se
       subst (Firsts (InLocation q (f .location))) (sym (pl ∙ ap (placeFault v (known .kind)) (y .location .first)))
       (placed q (f .location) v (known .kind) judged (k .kind))
 
-module _ (v : Verdict) {s wk : List ℕ} {at n : ℕ} {known : Known} {x : FoundFeature} {place : Fault} {is-source : Bool} (finds : FindsFeature s at x)
+-- the names that were counted are those of the paper's kind
+upper-is : (c : code.Kind) (k : Kind) → CodeOf c k → inUpper c ≡ upperIn k
+upper-is kind.Dna k e = rw e refl
+upper-is kind.Rna k e = rw e refl
+upper-is kind.Aa k e = rw e refl
+upper-is kind.Other k e = absurd e
+
+-- what is noted of a feature's qualifiers, and where the feature ends
+module _ {s : List ℕ} {x : FoundFeature} {noted : Noted} {upper : Bool} (notes : Notes s (x .quals) upper noted) where
+  noted-of : (f : Feature ℕ) {e : ℕ} (z : IsFeature s f e x) → IsNoted s upper (qualifiersOf f) (z .stop) noted
+  noted-of f z = notes .is (qualifiersOf f) (z .stop) (z .quals) (z .closes)
+
+  next-is : {n : ℕ} → Ends (featureTail (x .long)) (Not isBlank) s (noted .next) n → (f : Feature ℕ) {e : ℕ} → IsFeature s f e x → Not isBlank (drop e s) → n ≡ e
+  next-is ends f {e} z fol = ends .is e (from (noted-of f z .next) (z .ends)) fol
+
+module _ (v : Verdict) {s wk : List ℕ} {at n : ℕ} {known : Known} {x : FoundFeature} {place : Fault} {noted : Noted} {upper is-source : Bool} (finds : FindsFeature s at x)
     (jl : JudgesPart s (x .location .from) (x .location .to) (known .top) v) (pl : place ≡ placeFault v (known .kind) (x .location .from))
-    (sk : Shows s (x .key .from) (x .key .to) wk) (ns : NamesSource wk (known .kind) is-source) where
-  pub as-source : {y : Sourced} → is-source ≡ true → JudgesSource s (x .key .from) (x .location) (x .quals) known y
-      → Ends (featureTail (x .long)) (Not isBlank) s (y .next) n
-      → JudgesFeature s at known (record { fault = place; source = y .fault; role = role.Source; next = n })
-  as-source {y} h js ends =
+    (sk : Shows s (x .key .from) (x .key .to) wk) (eu : upper ≡ inUpper (known .kind)) (notes : Notes s (x .quals) upper noted)
+    (ends : Ends (featureTail (x .long)) (Not isBlank) s (noted .next) n) (ns : NamesSource wk (known .kind) is-source) where
+  pub as-source : {y : Fault} → is-source ≡ true → JudgesSource s (x .key .from) (x .location) noted known y
+      → JudgesFeature s at known (record { fault = place; source = y; role = role.Source; next = n })
+  as-source h js =
       record {
         says =
             λ q f e k d fol.
             let z = finds f e d fol in
             let is = told (IsSource q f) h (ns .says q f (k .kind) (part-shows (z .key) sk)) in
-            let asked : (j : Kind) → IsKind j q → IsSourced j q f (z .stop) y =
-            λ j i. js .says j q f (z .stop) (record { knows = k; kind = i; at = z .key .first; located = z .location; quals = z .quals; closes = z .closes }) in
             record {
               fault = no-coding (not-both is) (place-is v z k jl pl);
               role = (is, not-both is);
-              source = λ j i g. asked j i .fault;
-              next = ends .is e (from (asked (is .0) (is .1) .next) (z .ends)) fol;
+              source =
+                  λ j i g.
+                  let u = eu ∙ upper-is (known .kind) j (code-is (q .moltype .read) (known .kind) (k .kind) j i) in
+                  js .says (upperIn j) q f (z .stop)
+                  (record { knows = k; at = z .key .first; located = z .location; quals = subst (λ (b : Bool). IsNoted s b (qualifiersOf f) (z .stop) noted) u (noted-of notes f z) });
+              next = next-is notes ends f z fol;
             };
       }
 
   module _ {is-coding : Bool} (h : is-source ≡ false) (nc : NamesCoding wk (known .kind) is-coding) where
-    pub as-coding : {y : Region} {r : Role} (both : Fault) → is-coding ≡ true → JudgesCoding s (x .key .from) (x .location) (x .quals) known v y → Earlier place (y .fault) both
-        → r ≡ roleOf (y .unjudged) → Ends (featureTail (x .long)) (Not isBlank) s (y .next) n
-        → JudgesFeature s at known (record { fault = both; source = Clean; role = r; next = n })
-    as-coding {y} {r} both g jc el er ends =
+    pub as-coding : {y : Region} {r : Role} (both : Fault) → is-coding ≡ true → JudgesCoding s (x .key .from) (x .location) noted known v y → Earlier place (y .fault) both
+        → r ≡ roleOf (y .unjudged) → JudgesFeature s at known (record { fault = both; source = Clean; role = r; next = n })
+    as-coding {y} {r} both g jc el er =
         record {
           says =
               λ q f e k d fol.
@@ -90,12 +109,14 @@ module _ (v : Verdict) {s wk : List ℕ} {at n : ℕ} {known : Known} {x : Found
               let key = part-shows (z .key) sk in
               let c = told (Coding q f) g (nc .says q f (k .kind) key) in
               let ns' = told (IsSource q f) h (ns .says q f (k .kind) key) in
-              let w = jc .says q f (z .stop) (record { knows = k; coding = c; at = z .key .first; located = z .location; judged = judged v z k jl; quals = z .quals; closes = z .closes }) in
+              let asked : Asked s (x .key .from) (x .location) known v q f (z .stop) =
+              record { knows = k; coding = c; at = z .key .first; located = z .location; judged = judged v z k jl; closes = z .closes } in
+              let w = jc .says upper q f (z .stop) asked (noted-of notes f z) in
               record {
                 fault = firsts-or (InLocation q (f .location)) (InCoding q f) (place-is v z k jl pl) (w .fault) el;
                 role = subst (RoleIs q f) (sym er) (by q f ns' c (y .unjudged) (w .unjudged));
                 source = λ j i t. absurd (ns' (j, i, t));
-                next = ends .is e (from (w .next) (z .ends)) fol;
+                next = next-is notes ends f z fol;
               };
         }
       where
@@ -103,9 +124,8 @@ module _ (v : Verdict) {s wk : List ℕ} {at n : ℕ} {known : Known} {x : Found
         by q f i c true t = (i, c, t)
         by q f i c false t = (i, c, t)
 
-    pub as-plain : {a : ℕ} → is-coding ≡ false → Over (each (child qualifier)) (Starts closing) s (x .quals) a → Ends (featureTail (x .long)) (Not isBlank) s a n
-        → JudgesFeature s at known (record { fault = place; source = Clean; role = role.Plain; next = n })
-    as-plain g over ends =
+    pub as-plain : is-coding ≡ false → JudgesFeature s at known (record { fault = place; source = Clean; role = role.Plain; next = n })
+    as-plain g =
         record {
           says =
               λ q f e k d fol.
@@ -117,6 +137,6 @@ module _ (v : Verdict) {s wk : List ℕ} {at n : ℕ} {known : Known} {x : Found
                 fault = no-coding c (place-is v z k jl pl);
                 role = (ns', c);
                 source = λ j i t. absurd (ns' (j, i, t));
-                next = ends .is e (from (over .is (qualifiersOf f) (z .stop) (z .quals) (z .closes)) (z .ends)) fol;
+                next = next-is notes ends f z fol;
               };
         }

@@ -19,14 +19,16 @@ use Rattle.walk_items.specs.declared.FoundTable.{FoundTable}
 use Rattle.walk_items.proofs.Sequences.{feature-leads}
 use Rattle.judge_faults.specs.Known.{Knows}
 use Rattle.judge_faults.specs.declared.Known.{Known}
+use Rattle.judge_faults.specs.Counters.{upTo}
+use Rattle.judge_faults.proofs.Counters.{up-more, up-full}
 use Rattle.judge_faults.proofs.Seen.{Seen, seen-none, seen-next, seen-stuck, seen-all}
-use Rattle.judge_features.specs.Featured.{JudgesFeature, nothingYet, upTo, ifJudged, ifUnjudged, Adds, Tallied, Below, JudgesFeatures, JudgedIn, UnjudgedIn, IsTabled, Tables, JudgesTable}
+use Rattle.judge_features.specs.Featured.{JudgesFeature, nothingYet, ifJudged, ifUnjudged, Adds, Tallied, Below, JudgesFeatures, JudgedIn, UnjudgedIn, IsTabled, Tables, JudgesTable}
 use Rattle.judge_features.specs.declared.Role.{Role}
 use Rattle.judge_features.specs.declared.Role.the-variants as role
 use Rattle.judge_features.specs.declared.Featured.{Featured}
 use Rattle.judge_features.specs.declared.Tally.{Tally}
 use Rattle.judge_features.specs.declared.Tabled.{Tabled}
-use Rattle.judge_features.proofs.Tallies.{up-more, up-full, tally-none, tally-more}
+use Rattle.judge_features.proofs.Tallies.{tally-none, tally-more}
 use Rattle.judge_features.proofs.Tables.{finished}
 
 -- ---- the loop

@@ -7,7 +7,7 @@ use mathlib.Core.Logic.{inl, inr}
 use mathlib.Core.List.{List, [], _∷_}
 use Rattle.paper.specs.Lists.{Nth, _∈_, Count, end, has, lacks}
 use Rattle.paper.specs.Tree.{Sequence, Feature, featuresOf}
-use Rattle.paper.specs.Rules.{Kind, dna, rna, aa, IsKind, Keyed, sourceName, OneSource, Source, tablePlace, InSource, InFeature, InTable}
+use Rattle.paper.specs.Rules.{Kind, dna, rna, aa, IsKind, Keyed, upperIn, sourceName, OneSource, Source, tablePlace, InSource, InFeature, InTable}
 use Rattle.paper.specs.declared.Fault.{Fault}
 use Rattle.paper.specs.declared.Fault.the-variants.{Clean, At}
 use Rattle.paper.proofs.Lists.{count-once}
@@ -17,6 +17,7 @@ use Rattle.value_words.specs.declared.Kind as code
 use Rattle.value_words.specs.declared.Kind.the-variants as kind
 use Rattle.judge_faults.specs.Sets.{Faults, Firsts, Bad, Some}
 use Rattle.paper.specs.Rules as part
+use Rattle.judge_faults.proofs.Counters.{capped-one, one-capped}
 use Rattle.judge_faults.proofs.Faults.{firsts-or, firsts-as, firsts-one}
 use Rattle.judge_faults.proofs.Moltypes.{kind-once}
 use Rattle.judge_features.specs.Featured.{IsSource, Tallied, WithSource, Finishes}
@@ -39,31 +40,21 @@ module _ (q : Sequence ℕ) (a : Tally) (t : Tallied q (featuresOf q) a) where
 
   -- where the moltype names a kind
   module _ (k : Kind) (i : IsKind k q) where
-    one-source : t .count ≡ 1 → OneSource k q
+    one-source : t .count ≡ 1 → OneSource (upperIn k) q
     one-source e =
-        subst (Count (Keyed (sourceName k)) (featuresOf q)) e
-        (count-as (IsSource q) (Keyed (sourceName k)) (λ f x. subst (λ (j : Kind). Keyed (sourceName j) f) (kind-once (q .moltype .read) (x .0) k (x .1) i) (x .2)) (λ f x. (k, i, x)) (t .sources))
+        subst (Count (Keyed (sourceName (upperIn k))) (featuresOf q)) e
+        (count-as (IsSource q) (Keyed (sourceName (upperIn k))) (λ f x. subst (λ (j : Kind). Keyed (sourceName (upperIn j)) f) (kind-once (q .moltype .read) (x .0) k (x .1) i) (x .2)) (λ f x. (k, i, x)) (t .sources))
 
-    source-one : OneSource k q → t .count ≡ 1
+    source-one : OneSource (upperIn k) q → t .count ≡ 1
     source-one o =
         count-once (t .sources)
-        (count-as (Keyed (sourceName k)) (IsSource q) (λ f x. (k, i, x)) (λ f x. subst (λ (j : Kind). Keyed (sourceName j) f) (kind-once (q .moltype .read) (x .0) k (x .1) i) (x .2)) o)
-
-    capped-one : a .sources ≡ 1 → t .count ≡ 1
-    capped-one e = by (decLe 2 (t .count))
-      where
-        by : Dec (2 ≤ t .count) → t .count ≡ 1
-        by (yes g) = absurd (omega (arith, e, t .capped .many g))
-        by (no g) = omega (arith, e, t .capped .few (omega arith))
-
-    one-capped : t .count ≡ 1 → a .sources ≡ 1
-    one-capped e = omega (arith, e, t .capped .few (omega (arith, e)))
+        (count-as (Keyed (sourceName (upperIn k))) (IsSource q) (λ f x. (k, i, x)) (λ f x. subst (λ (j : Kind). Keyed (sourceName (upperIn j)) f) (kind-once (q .moltype .read) (x .0) k (x .1) i) (x .2)) o)
 
     abbrev InOnly : Faults
-    InOnly n p = (f : Feature ℕ) × Source k q f × InSource k q f n p
+    InOnly n p = (f : Feature ℕ) × Source (upperIn k) q f × InSource (upperIn k) q f n p
 
     -- the faults of the only source
-    only-first : t .count ≡ 1 → (r : Fault) → ((f : Feature ℕ) → f ∈ featuresOf q → Keyed (sourceName k) f → Firsts (InSource k q f) r) → Firsts InOnly r
+    only-first : t .count ≡ 1 → (r : Fault) → ((f : Feature ℕ) → f ∈ featuresOf q → Keyed (sourceName (upperIn k)) f → Firsts (InSource (upperIn k) q f) r) → Firsts InOnly r
     only-first e Clean h = record { is = λ n p x. h (x .0) (x .1 .member) (x .1 .keyed) .is n p (x .2) }
     only-first e (At m s) h =
         let z = counted-there (featuresOf q) 1 (one-source e) (omega arith) in
@@ -84,32 +75,32 @@ module _ (q : Sequence ℕ) (a : Tally) (t : Tallied q (featuresOf q) a) where
         to-one n p (inr x) = part.source k i (x .0) (x .1) (x .2)
 
         of-one : t .count ≡ 1 → (n p : ℕ) → InTable q n p → _or_ (Some (λ (i : ℕ) (f : Feature ℕ). InFeature q f) (featuresOf q)) InOnly n p
-        of-one e n p (part.rule-21 j g h) = absurd (h (subst (λ (z : Kind). OneSource z q) (kind-once (q .moltype .read) k j i g) (one-source e)))
+        of-one e n p (part.rule-21 j g h) = absurd (h (subst (λ (z : Kind). OneSource (upperIn z) q) (kind-once (q .moltype .read) k j i g) (one-source e)))
         of-one e n p (part.source j g f x h) =
             let c = kind-once (q .moltype .read) j k g i in
-            inr (f, subst (λ (z : Kind). Source z q f) c x, subst (λ (z : Kind). InSource z q f n p) c h)
+            inr (f, subst (λ (z : Kind). Source (upperIn z) q f) c x, subst (λ (z : Kind). InSource (upperIn z) q f n p) c h)
         of-one e n p (part.feature f m h) = inl (suc (m .0), f, (m .0, refl, m .1), h)
 
-        to-21 : (n p : ℕ) → _or_ (Some (λ (i : ℕ) (f : Feature ℕ). InFeature q f) (featuresOf q)) (Bad 21 place (OneSource k q)) n p → InTable q n p
+        to-21 : (n p : ℕ) → _or_ (Some (λ (i : ℕ) (f : Feature ℕ). InFeature q f) (featuresOf q)) (Bad 21 place (OneSource (upperIn k) q)) n p → InTable q n p
         to-21 n p (inl x) = of-features n p x
         to-21 n p (inr x) = rw (x .0, x .1, pl) (part.rule-21 k i (x .2))
 
-        of-21 : (n p : ℕ) → ¬ OneSource k q → InTable q n p → _or_ (Some (λ (i : ℕ) (f : Feature ℕ). InFeature q f) (featuresOf q)) (Bad 21 place (OneSource k q)) n p
+        of-21 : (n p : ℕ) → ¬ OneSource (upperIn k) q → InTable q n p → _or_ (Some (λ (i : ℕ) (f : Feature ℕ). InFeature q f) (featuresOf q)) (Bad 21 place (OneSource (upperIn k) q)) n p
         of-21 n p no' (part.rule-21 j g h) = inr (refl, sym pl, no')
-        of-21 n p no' (part.source j g f x h) = absurd (no' (subst (λ (z : Kind). OneSource z q) (kind-once (q .moltype .read) j k g i) (x .only)))
+        of-21 n p no' (part.source j g f x h) = absurd (no' (subst (λ (z : Kind). OneSource (upperIn z) q) (kind-once (q .moltype .read) j k g i) (x .only)))
         of-21 n p no' (part.feature f m h) = inl (suc (m .0), f, (m .0, refl, m .1), h)
 
         one : a .sources ≡ 1 → Firsts (InTable q) r
         one e =
-            let c = capped-one e in
+            let c = capped-one (t .capped) e in
             firsts-as (_or_ (Some (λ (i : ℕ) (f : Feature ℕ). InFeature q f) (featuresOf q)) InOnly) (InTable q) to-one (of-one c)
             (firsts-or (Some (λ (i : ℕ) (f : Feature ℕ). InFeature q f) (featuresOf q)) InOnly (t .fault) (only-first c (a .source) (λ f m h. t .source c k i f m h)) (s .one e))
 
         other : ¬ (a .sources ≡ 1) → Firsts (InTable q) r
         other e =
-            let n' : ¬ OneSource k q = λ o. e (one-capped (source-one o)) in
-            firsts-as (_or_ (Some (λ (i : ℕ) (f : Feature ℕ). InFeature q f) (featuresOf q)) (Bad 21 place (OneSource k q))) (InTable q) to-21 (λ n p. of-21 n p n')
-            (firsts-or (Some (λ (i : ℕ) (f : Feature ℕ). InFeature q f) (featuresOf q)) (Bad 21 place (OneSource k q)) (t .fault) (firsts-one 21 place (OneSource k q) n') (s .other e))
+            let n' : ¬ OneSource (upperIn k) q = λ o. e (one-capped (t .capped) (source-one o)) in
+            firsts-as (_or_ (Some (λ (i : ℕ) (f : Feature ℕ). InFeature q f) (featuresOf q)) (Bad 21 place (OneSource (upperIn k) q))) (InTable q) to-21 (λ n p. of-21 n p n')
+            (firsts-or (Some (λ (i : ℕ) (f : Feature ℕ). InFeature q f) (featuresOf q)) (Bad 21 place (OneSource (upperIn k) q)) (t .fault) (firsts-one 21 place (OneSource (upperIn k) q) n') (s .other e))
 
         by : Dec (a .sources ≤ 1) → Dec (1 ≤ a .sources) → Firsts (InTable q) r
         by (yes g) (yes h) = one (omega arith)

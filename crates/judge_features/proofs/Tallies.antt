@@ -1,22 +1,21 @@
 -- Features added up, one by one, and the table's faults from the sum.
 use Prim.Native.Nat.{ℕ, zero, suc, _+_, _≤_, _<_}
-use native.Mathlib.Decide.{decLe}
 use native.Mathlib.Omega.{arith}
 use mathlib.Core.Path.{_≡_, refl, sym, ap, _∙_, subst}
 use mathlib.Core.Logic.{_⊎_, inl, inr}
 use mathlib.Core.List.{List, [], _∷_, _++_}
 use lib.ListN.{length, length-append}
-use borrow.Author.Tests.{lt-ltb, le-ltb}
 use Rattle.paper.specs.Lists.{Nth, _∈_, Count, end, has, lacks}
 use Rattle.paper.specs.Tree.{Sequence, Feature}
-use Rattle.paper.specs.Rules.{Kind, IsKind, Keyed, sourceName, Unjudged, Source, InSource, InFeature}
+use Rattle.paper.specs.Rules.{Kind, IsKind, Keyed, upperIn, sourceName, Unjudged, Source, InSource, InFeature}
 use Rattle.paper.specs.declared.Fault.{Fault}
 use Rattle.paper.proofs.Firsts.{_or_}
 use Rattle.judge_faults.specs.Sets.{Firsts, Some}
 use Rattle.judge_faults.proofs.Faults.{some-none, some-more, nth-split}
 use Rattle.judge_faults.proofs.Seen.{count-has, count-lacks}
-use Rattle.judge_source.specs.Sources.{Capped}
-use Rattle.judge_features.specs.Featured.{IsSource, RoleIs, IsFeatured, nothingYet, upTo, ifSource, ifJudged, ifUnjudged, Adds, JudgedIn, UnjudgedIn, Tallied}
+use Rattle.judge_faults.specs.Counters.{upTo, Capped}
+use Rattle.judge_faults.proofs.Counters.{up-more, capped-none, capped-more}
+use Rattle.judge_features.specs.Featured.{IsSource, RoleIs, IsFeatured, nothingYet, ifSource, ifJudged, ifUnjudged, Adds, JudgedIn, UnjudgedIn, Tallied}
 use Rattle.judge_features.specs.declared.Role.{Role}
 use Rattle.judge_features.specs.declared.Role.the-variants as role
 use Rattle.judge_features.specs.declared.Featured.{Featured}
@@ -24,27 +23,8 @@ use Rattle.judge_features.specs.declared.Tally.{Tally}
 
 -- ---- counts
 
-pub up-more : (limit n : ℕ) → n < limit → upTo limit n ≡ n + 1
-up-more limit n h = rw (lt-ltb n limit h) refl
-
 up-suc : (limit n : ℕ) → n < limit → upTo limit n ≡ suc n
 up-suc limit n h = let e = up-more limit n h in omega (arith, e)
-
-pub up-full : (limit n : ℕ) → limit ≤ n → upTo limit n ≡ n
-up-full limit n h = rw (le-ltb n limit h) refl
-
-pub capped-none : Capped 0 0
-capped-none = record { few = λ h. refl; many = λ h. absurd (omega arith) }
-
-capped-more : (m n : ℕ) → Capped m n → Capped (suc m) (upTo 2 n)
-capped-more m n c = cases (decLe 2 m)
-  where
-    cases : Dec (2 ≤ m) → Capped (suc m) (upTo 2 n)
-    cases (yes g) = let e = c .many g in record { few = λ h. absurd (omega (arith, g, h)); many = λ h. up-full 2 n (omega (arith, e)) ∙ e }
-    cases (no g) =
-        let e = c .few (omega arith) in
-        let u = up-more 2 n (omega (arith, e)) in
-        record { few = λ h. omega (arith, u, e); many = λ h. omega (arith, h, u, e) }
 
 -- ---- one feature more
 
@@ -111,30 +91,30 @@ module _ (q : Sequence ℕ) (limit : ℕ) where
             count = suc (t .count);
             sources = count-has (IsSource q) l f (t .sources) (s .1);
             capped = subst (Capped (suc (t .count))) (sym (ad .sources ∙ ap (λ (o : Role). ifSource o (upTo 2 (a .sources)) (a .sources)) (s .0))) (capped-more (t .count) (a .sources) (t .capped));
-            source = λ e k i g m h. subst (Firsts (InSource k q g)) (sym (ad .source ∙ ap (λ (o : Role). ifSource o (x .source) (a .source)) (s .0))) (last e k i g h (last-in l f g m));
+            source = λ e k i g m h. subst (Firsts (InSource (upperIn k) q g)) (sym (ad .source ∙ ap (λ (o : Role). ifSource o (x .source) (a .source)) (s .0))) (last e k i g h (last-in l f g m));
             features = features-more;
             judged = judged-are;
             unjudged = unjudged-are;
           }
         where
-          last : suc (t .count) ≡ 1 → (k : Kind) → IsKind k q → (g : Feature ℕ) → Keyed (sourceName k) g → (g ∈ l) ⊎ (g ≡ f) → Firsts (InSource k q g) (x .source)
+          last : suc (t .count) ≡ 1 → (k : Kind) → IsKind k q → (g : Feature ℕ) → Keyed (sourceName (upperIn k)) g → (g ∈ l) ⊎ (g ≡ f) → Firsts (InSource (upperIn k) q g) (x .source)
           last e k i g h (inl m) = absurd (count-zero l (t .count) (t .sources) (omega (arith, e)) (m .0) g (m .1) (k, i, h))
-          last e k i g h (inr m) = subst (λ (z : Feature ℕ). Firsts (InSource k q z) (x .source)) (sym m) (y .source k i (subst (Keyed (sourceName k)) m h))
+          last e k i g h (inr m) = subst (λ (z : Feature ℕ). Firsts (InSource (upperIn k) q z) (x .source)) (sym m) (y .source k i (subst (Keyed (sourceName (upperIn k))) m h))
       by (inr s) =
           record {
             fault = fault-is;
             count = t .count;
             sources = count-lacks (IsSource q) l f (t .sources) (s .2);
             capped = subst (Capped (t .count)) (sym (ad .sources ∙ s .0 (upTo 2 (a .sources)) (a .sources))) (t .capped);
-            source = λ e k i g m h. subst (Firsts (InSource k q g)) (sym (ad .source ∙ s .1 (x .source) (a .source))) (old e k i g h (last-in l f g m));
+            source = λ e k i g m h. subst (Firsts (InSource (upperIn k) q g)) (sym (ad .source ∙ s .1 (x .source) (a .source))) (old e k i g h (last-in l f g m));
             features = features-more;
             judged = judged-are;
             unjudged = unjudged-are;
           }
         where
-          old : t .count ≡ 1 → (k : Kind) → IsKind k q → (g : Feature ℕ) → Keyed (sourceName k) g → (g ∈ l) ⊎ (g ≡ f) → Firsts (InSource k q g) (a .source)
+          old : t .count ≡ 1 → (k : Kind) → IsKind k q → (g : Feature ℕ) → Keyed (sourceName (upperIn k)) g → (g ∈ l) ⊎ (g ≡ f) → Firsts (InSource (upperIn k) q g) (a .source)
           old e k i g h (inl m) = t .source e k i g m h
-          old e k i g h (inr m) = absurd (s .2 (k, i, subst (Keyed (sourceName k)) m h))
+          old e k i g h (inr m) = absurd (s .2 (k, i, subst (Keyed (sourceName (upperIn k))) m h))
 
   pub tally-none : Tallied q [] nothingYet
   tally-none =

@@ -4,13 +4,12 @@ use mathlib.Core.Path.{_≡_}
 use mathlib.Core.Bool.{Bool, true, false, cond}
 use mathlib.Core.List.{List}
 use lib.ListN.{length, drop}
-use lib.Dec.{ltb}
 use Rattle.paper.specs.Bytes.{raw, isBlank}
 use Rattle.paper.specs.Lists.{_∈_, Count}
 use Rattle.paper.specs.Form.{each}
 use Rattle.paper.specs.Layout.{child, feature}
 use Rattle.paper.specs.Tree.{Sequence, Feature, featuresOf}
-use Rattle.paper.specs.Rules.{Kind, IsKind, Keyed, sourceName, Coding, Unjudged, Earlier, InSource, InFeature, InTable}
+use Rattle.paper.specs.Rules.{Kind, IsKind, Keyed, upperIn, sourceName, Coding, Unjudged, Earlier, InSource, InFeature, InTable}
 use Rattle.paper.specs.declared.Fault.{Fault}
 use Rattle.paper.specs.declared.Fault.the-variants.{Clean, At}
 use Rattle.read_steps.specs.Follow.{Not, Starts, closing}
@@ -25,7 +24,7 @@ use Rattle.location_judge.specs.declared.judging.Verdict.the-variants.{Bad, Is}
 use Rattle.judge_faults.specs.Sets.{Firsts, Some}
 use Rattle.judge_faults.specs.Known.{Knows}
 use Rattle.judge_faults.specs.declared.Known.{Known}
-use Rattle.judge_source.specs.Sources.{Capped}
+use Rattle.judge_faults.specs.Counters.{upTo, Capped}
 use Rattle.judge_features.specs.declared.Role.{Role}
 use Rattle.judge_features.specs.declared.Role.the-variants as role
 use Rattle.judge_features.specs.declared.Featured.{Featured}
@@ -47,7 +46,7 @@ placeFault (Is f) c place = cond (f .wrong) (At 25 place) (cond (f .complemented
 
 -- f is a source of the sequence q, if it is the only one
 abbrev pub IsSource : Sequence ℕ → Feature ℕ → Type 0
-IsSource q f = (k : Kind) × IsKind k q × Keyed (sourceName k) f
+IsSource q f = (k : Kind) × IsKind k q × Keyed (sourceName (upperIn k)) f
 
 -- of whichever sequence of that kind, and feature whose key is written so
 pub record NamesSource (key : List ℕ) (kind : code.Kind) (r : Bool) : Type 0 where
@@ -66,7 +65,7 @@ roleOf false = role.Judged
 pub record IsFeatured (q : Sequence ℕ) (f : Feature ℕ) (e : ℕ) (r : Featured) : Type 0 where
   pub fault : Firsts (InFeature q f) (r .fault)
   pub role : RoleIs q f (r .role)
-  pub source : (k : Kind) → IsKind k q → Keyed (sourceName k) f → Firsts (InSource k q f) (r .source)
+  pub source : (k : Kind) → IsKind k q → Keyed (sourceName (upperIn k)) f → Firsts (InSource (upperIn k) q f) (r .source)
   pub next : r .next ≡ e
 
 pub record JudgesFeature (s : List ℕ) (at : ℕ) (known : Known) (r : Featured) : Type 0 where
@@ -76,10 +75,6 @@ pub record JudgesFeature (s : List ℕ) (at : ℕ) (known : Known) (r : Featured
 
 abbrev pub nothingYet : Tally
 nothingYet = record { fault = Clean; source = Clean; sources = 0; features = 0; judged = 0; unjudged = 0 }
-
--- one more, up to a limit
-abbrev pub upTo : ℕ → ℕ → ℕ
-upTo limit n = cond (ltb n limit) (n + 1) n
 
 -- by what a feature is
 abbrev pub ifSource : {A : Type 0} → Role → A → A → A
@@ -120,7 +115,7 @@ pub record Tallied (q : Sequence ℕ) (l : List (Feature ℕ)) (r : Tally) : Typ
   pub count : ℕ
   pub sources : Count (IsSource q) l count
   pub capped : Capped count (r .sources)
-  pub source : count ≡ 1 → (k : Kind) → IsKind k q → (f : Feature ℕ) → f ∈ l → Keyed (sourceName k) f → Firsts (InSource k q f) (r .source)
+  pub source : count ≡ 1 → (k : Kind) → IsKind k q → (f : Feature ℕ) → f ∈ l → Keyed (sourceName (upperIn k)) f → Firsts (InSource (upperIn k) q f) (r .source)
   pub features : r .features ≡ length l
   pub judged : Count (JudgedIn q) l (r .judged)
   pub unjudged : Count (UnjudgedIn q) l (r .unjudged)

@@ -1,8 +1,8 @@
 // The features of a sequence: rules 21 to 28, and the counts of features and coding regions.
-// Relies on the walk along the table, the judged location, and the crates for a source and a coding region.
+// Relies on the walk along the table, the judged location, one pass over the qualifiers, and the crates for a source and a coding region.
 use judge_coding::Region;
 use judge_faults::Known;
-use judge_source::Sourced;
+use judge_faults::more;
 use location_judge::judging::Verdict;
 use paper::Fault;
 use value_words::Kind;
@@ -10,7 +10,7 @@ use walk_items::FoundFeature;
 use walk_items::FoundTable;
 ghost use mathlib.Core.Path.{_≡_};
 ghost use Rattle.protein_code.specs.Tables.{SetTable, TurnTable, LetterTable};
-ghost use Rattle.judge_features.specs.Featured.{placeFault, NamesSource, roleOf, nothingYet, upTo, Adds, Finishes, WithSource, Tables, JudgesFeature, JudgesFeatures, JudgesTable};
+ghost use Rattle.judge_features.specs.Featured.{placeFault, NamesSource, roleOf, nothingYet, Adds, Finishes, WithSource, Tables, JudgesFeature, JudgesFeatures, JudgesTable};
 
 // What a feature is, for a count.
 pub enum Role {
@@ -101,16 +101,6 @@ fn no_features() -> Tally
         judged: 0,
         unjudged: 0,
     }
-}
-
-// One more, up to a limit.
-fn more(n: usize, limit: usize) -> usize
-    ensures { λ r. ⌜ r ≡ upTo limit n ⌝ }
-{
-    if n < limit {
-        return n + 1;
-    }
-    n
 }
 
 // One feature more. No count goes above the limit.
@@ -236,31 +226,22 @@ fn judge_feature(
     let verdict = location_judge::judging::judge_location(s, location.from, location.to, known.top);
     let place = judge_place(verdict, kind, location.from);
     let name = read_steps::bytes_of(s, key.from, key.to);
+    let noted = judge_qualifiers::note(s, quals, judge_qualifiers::in_upper(kind));
+    let next = walk_items::feature_end(s, noted.next, long);
     if is_source(name, kind) {
-        let Sourced { fault, next } = judge_source::judge_source(
-            s,
-            key.from,
-            location,
-            quals,
-            known,
-        );
         return Featured {
             fault: place,
-            source: fault,
+            source: judge_source::judge_source(s, key.from, location, noted, known),
             role: Role::Source,
-            next: walk_items::feature_end(s, next, long),
+            next,
         };
     }
-    if judge_frame::is_coding(name, kind) {
-        let Region {
-            fault,
-            unjudged,
-            next,
-        } = judge_coding::judge_coding(
+    if judge_qualifiers::is_coding(name, kind) {
+        let Region { fault, unjudged } = judge_coding::judge_coding(
             s,
             key.from,
             location,
-            quals,
+            noted,
             known,
             verdict,
             sets,
@@ -271,15 +252,14 @@ fn judge_feature(
             fault: judge_faults::earlier(place, fault),
             source: Fault::Clean,
             role: role_of(unjudged),
-            next: walk_items::feature_end(s, next, long),
+            next,
         };
     }
-    let a = walk_items::qualifiers_over(s, quals);
     Featured {
         fault: place,
         source: Fault::Clean,
         role: Role::Plain,
-        next: walk_items::feature_end(s, a, long),
+        next,
     }
 }
 

@@ -1,4 +1,4 @@
-// The sequences of a listing: rules 15 to 29, and the counts. Relies on the walk along them, and on the crates texts and features.
+// The sequences of a listing: rules 15 to 29, and the counts. Relies on the walk along them, and on the judges of their texts and features.
 use judge_features::Tabled;
 use paper::Fault;
 use walk_items::FoundSequence;

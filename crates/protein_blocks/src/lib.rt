@@ -1,5 +1,5 @@
 // Blocks: 64 codons at a time, in the 192 residues from a place on. A test of each residue or codon is a number, and all are joined with no branch,
-// so that each loop is compiled to vector code. It relies on the paper and on the tests of codon.
+// so that each loop is compiled to vector code. It relies on the paper and on the tests of protein_code.
 use protein_code::may_stop;
 use protein_code::no_plain;
 ghost use mathlib.Core.Path.{_≡_};

@@ -1,5 +1,5 @@
 // Translations measured: a translation's length, with no room and nothing written; and whether a stop stands inside. It relies on the paper, on
-// the reading of the coding text and on the tests of blocks; parameters and lent tables are as in reading.
+// the reading of the coding text and on the tests of blocks; parameters and lent tables are as in protein_codons.
 use protein_blocks::mark_table;
 use protein_blocks::stops;
 use protein_codons::Letter;

@@ -1,5 +1,5 @@
 // Translations written: the translation in lent room. It relies on the paper, on the reading of the coding text and on its measuring; parameters and
-// lent tables are as in reading.
+// lent tables are as in protein_codons.
 use protein_code::plain_table;
 use protein_codons::Letter;
 use protein_codons::Reading;

@@ -1,5 +1,5 @@
 // The layout of a listing: rules 1 and 2. One function for each element that holds elements, in the order of document 01.
-// Relies on the definitions of the crate paper and on the steps of the crates scan and tags. Judges no value.
+// Relies on the definitions of the crate paper and on the steps of the crates read_steps and read_tags. Judges no value.
 use read_steps::Step;
 ghost use mathlib.Core.Path.{_≡_};
 ghost use Rattle.paper.specs.Bytes.{bytes, isBlank};

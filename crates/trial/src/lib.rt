@@ -1,4 +1,4 @@
-// Calls of the inner crates as C functions, so that they can be compared and measured outside the prover (compare/, bench/).
+// Calls of the inner crates as C functions, so that they can be compared and measured outside the prover (tests/compare, bench).
 // Relies on those crates; nothing of the product relies on it.
 use location_judge::judging::Verdict;
 use location_spans::room::Answer;

@@ -1,6 +1,6 @@
 // The items of a listing that is known to be laid out: where the texts of a qualifier, a feature and a sequence stand, and what comes next.
 // A promise speaks of whatever item of the tree stands at the place; of other bytes it says nothing.
-// Relies on the paper and the steps of the walk, and in its proofs on the scan's laws of what may follow what.
+// Relies on the paper and the steps of the walk, and in its proofs on the laws of read_steps of what may follow what.
 use walk_steps::Found;
 use walk_steps::FoundMaybe;
 use walk_steps::Maybe;

@@ -16,18 +16,25 @@ judge-place-requires c κs = search needs
 bytes-of-requires : tie.Need-bytes-of-requires
 bytes-of-requires c κs = search needs
 
+in-upper-requires : tie.Need-in-upper-requires
+in-upper-requires c κs = search needs
+
+note-requires : tie.Need-note-requires
+note-requires c κs = search needs
+
+feature-end-requires : tie.Need-feature-end-requires
+feature-end-requires c κs = search needs
+
 is-source-requires : tie.Need-is-source-requires
 is-source-requires c κs = search needs
 
 judge-source-requires : tie.Need-judge-source-requires
 judge-source-requires c κs = search needs
 
-feature-end-requires : tie.Need-feature-end-requires
-feature-end-requires c κs = search needs
-
 returns : tie.Need-returns
 returns c =
-    as-source (c .before .before .before .before .before .before .judge-location .result) (c .before .before .before .before .before .before .before .before .before .feature .ensures) (c .before .before .before .before .before .before .judge-location .ensures) (c .before .before .before .before .before .judge-place .ensures) (c .before .before .before .before .bytes-of .ensures) (c .before .before .before .is-source .ensures) (c .before .before .if1 .taken) (c .before .judge-source .ensures) (c .feature-end .ensures)
+    as-source (c .before .before .before .before .before .before .before .before .judge-location .result) (c .before .before .before .before .before .before .before .before .before .before .before .feature .ensures) (c .before .before .before .before .before .before .before .before .judge-location .ensures) (c .before .before .before .before .before .before .before .judge-place .ensures) (c .before .before .before .before .before .before .bytes-of .ensures) (c .before .before .before .before .before .in-upper .ensures)
+    (c .before .before .before .before .note .ensures) (c .before .before .before .feature-end .ensures) (c .before .before .is-source .ensures) (c .before .if1 .taken) (c .judge-source .ensures)
 
 is-coding-requires : tie.Need-is-coding-requires
 is-coding-requires c κs = search needs
@@ -41,22 +48,16 @@ earlier-requires c κs = search needs
 role-of-requires : tie.Need-role-of-requires
 role-of-requires c κs = search needs
 
-feature-end-requires-2 : tie.Need-feature-end-requires-2
-feature-end-requires-2 c κs = search needs
-
 returns-2 : tie.Need-returns-2
 returns-2 c =
-    as-coding (c .before .before .before .before .before .before .before .before .before .before .judge-location .result) (c .before .before .before .before .before .before .before .before .before .before .before .before .before .feature .ensures) (c .before .before .before .before .before .before .before .before .before .before .judge-location .ensures) (c .before .before .before .before .before .before .before .before .before .judge-place .ensures) (c .before .before .before .before .before .before .before .before .bytes-of .ensures) (c .before .before .before .before .before .before .before .is-source .ensures) (c .before .before .before .before .before .before .if1 .left) (c .before .before .before .before .before .is-coding .ensures) (c .before .before .earlier .result) (c .before .before .before .before .if2 .taken) (c .before .before .before .judge-coding .ensures) (c .before .before .earlier .ensures) (c .before .role-of .ensures) (c .feature-end2 .ensures)
-
-qualifiers-over-requires : tie.Need-qualifiers-over-requires
-qualifiers-over-requires c κs = search needs
-
-feature-end-requires-3 : tie.Need-feature-end-requires-3
-feature-end-requires-3 c κs = search needs
+    as-coding (c .before .before .before .before .before .before .before .before .before .before .before .before .judge-location .result) (c .before .before .before .before .before .before .before .before .before .before .before .before .before .before .before .feature .ensures) (c .before .before .before .before .before .before .before .before .before .before .before .before .judge-location .ensures) (c .before .before .before .before .before .before .before .before .before .before .before .judge-place .ensures) (c .before .before .before .before .before .before .before .before .before .before .bytes-of .ensures) (c .before .before .before .before .before .before .before .before .before .in-upper .ensures)
+    (c .before .before .before .before .before .before .before .before .note .ensures) (c .before .before .before .before .before .before .before .feature-end .ensures) (c .before .before .before .before .before .before .is-source .ensures) (c .before .before .before .before .before .if1 .left) (c .before .before .before .before .is-coding .ensures)
+    (c .before .earlier .result) (c .before .before .before .if2 .taken) (c .before .before .judge-coding .ensures) (c .before .earlier .ensures) (c .role-of .ensures)
 
 returns-3 : tie.Need-returns-3
 returns-3 c =
-    as-plain (c .before .before .before .before .before .before .before .before .judge-location .result) (c .before .before .before .before .before .before .before .before .before .before .before .feature .ensures) (c .before .before .before .before .before .before .before .before .judge-location .ensures) (c .before .before .before .before .before .before .before .judge-place .ensures) (c .before .before .before .before .before .before .bytes-of .ensures) (c .before .before .before .before .before .is-source .ensures) (c .before .before .before .before .if1 .left) (c .before .before .before .is-coding .ensures) (c .before .before .if2 .left) (c .before .qualifiers-over .ensures) (c .feature-end3 .ensures)
+    as-plain (c .before .before .before .before .before .before .before .before .before .judge-location .result) (c .before .before .before .before .before .before .before .before .before .before .before .before .feature .ensures) (c .before .before .before .before .before .before .before .before .before .judge-location .ensures) (c .before .before .before .before .before .before .before .before .judge-place .ensures) (c .before .before .before .before .before .before .before .bytes-of .ensures) (c .before .before .before .before .before .before .in-upper .ensures)
+    (c .before .before .before .before .before .note .ensures) (c .before .before .before .before .feature-end .ensures) (c .before .before .before .is-source .ensures) (c .before .before .if1 .left) (c .before .is-coding .ensures) (c .if2 .left)
 
 pub judge-feature-spec : {M : Type 1} → statement M
 judge-feature-spec =
@@ -66,16 +67,15 @@ judge-feature-spec =
     judge-location-requires
     judge-place-requires
     bytes-of-requires
+    in-upper-requires
+    note-requires
+    feature-end-requires
     is-source-requires
     judge-source-requires
-    feature-end-requires
     returns
     is-coding-requires
     judge-coding-requires
     earlier-requires
     role-of-requires
-    feature-end-requires-2
     returns-2
-    qualifiers-over-requires
-    feature-end-requires-3
     returns-3)

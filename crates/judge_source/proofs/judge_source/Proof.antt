@@ -4,12 +4,6 @@ use borrow.Author.Needs.{needs}
 use Rattle.judge_source.proofs.judge_source.Statement.{statement}
 use Rattle.judge_source.proofs.judge_source.Tie as tie
 
-is-aa-requires : tie.Need-is-aa-requires
-is-aa-requires c κs = search needs
-
-count-names-requires : tie.Need-count-names-requires
-count-names-requires c κs = search needs
-
 is-once-requires : tie.Need-is-once-requires
 is-once-requires c κs = search needs
 
@@ -33,14 +27,13 @@ earlier-requires c κs = search needs
 
 returns : tie.Need-returns
 returns c =
-    source-judged (c .before .before .before .before .before .unless .result) (c .before .unless2 .result) (c .before .before .before .before .before .before .before .before .is-aa .ensures) (c .before .before .before .before .before .before .before .count-names .ensures) (c .before .before .before .before .before .before .is-once .ensures) (c .before .before .before .before .before .unless .ensures) (c .before .before .before .before .bytes-of .ensures) (c .before .before .is-whole .ensures) (c .before .unless2 .ensures) (c .earlier .ensures)
+    source-judged (c .before .before .before .before .before .unless .result) (c .before .unless2 .result) (c .before .before .before .before .before .before .is-once .ensures) (c .before .before .before .before .before .unless .ensures) (c .before .before .before .before .bytes-of .ensures) (c .before .before .is-whole .ensures)
+    (c .before .unless2 .ensures) (c .earlier .ensures)
 
 pub judge-source-spec : {M : Type 1} → statement M
 judge-source-spec =
     tie.close
     (tie.spec
-    is-aa-requires
-    count-names-requires
     is-once-requires
     unless-requires
     bytes-of-requires

@@ -1,0 +1,99 @@
+-- Whether a region is unjudged, after one qualifier more, and by its location.
+use Prim.Native.Nat.{ℕ}
+use Prim.Native.String.{String}
+use mathlib.Core.Path.{_≡_, refl, sym, ap, _∙_, subst}
+use mathlib.Core.Bool.{Bool, true, false, true≢false, not}
+use mathlib.Core.Logic.{_⊎_, inl, inr}
+use mathlib.Core.List.{List}
+use Rattle.paper.specs.Bytes.{bytes, raw}
+use Rattle.paper.specs.Lists.{_∈_}
+use Rattle.paper.specs.Tree.{Qualifier, Feature, qualifiersOf}
+use Rattle.paper.specs.Locations.{Location, Locates, leavesUnjudged}
+use Rattle.paper.specs.Rules.{Unjudged, excepted, other-code, located}
+use Rattle.paper.proofs.Locate.{locates-once}
+use Rattle.value_words.specs.Reading.{Tells, OfRead}
+use Rattle.value_words.proofs.Tests.{tells-true, tells-false}
+use Rattle.value_words.proofs.Read.{tells-word, tells-read}
+use Rattle.walk_steps.specs.declared.Maybe.{Maybe}
+use Rattle.location_judge.specs.Judging.{Judged}
+use Rattle.location_judge.specs.declared.judging.Facts.{Facts}
+use Rattle.location_judge.specs.declared.judging.Verdict.{Verdict}
+use Rattle.location_judge.specs.declared.judging.Verdict.the-variants.{Bad, Is}
+use Rattle.judge_qualifiers.specs.Qualifiers.{ValueIs, Shown, exceptions, Excepted, OtherCode, HasExcepted, Excepts, LeavesOut}
+use Rattle.judge_qualifiers.proofs.Lists.{in-last, in-front, in-split, every}
+
+-- ---- the names
+
+-- the test of a name on its bytes
+pub excepted-read : {w : List ℕ} (r : Bool) → Tells r (Excepted w) → OfRead w Excepted r
+excepted-read r t =
+    tells-read Excepted (λ v x. subst (λ (u : List ℕ). raw u ≡ u) (sym (x .2)) (every (λ (name : String). raw (bytes name) ≡ bytes name) exceptions (refl, (refl, (refl, (refl, tt)))) (x .0) (x .1))) r t
+
+-- none of the first three
+pub excepted-last : {w : List ℕ} (r : Bool) → ¬ (w ≡ bytes "transl_except") → ¬ (w ≡ bytes "exception") → ¬ (w ≡ bytes "pseudo") → Tells r (w ≡ bytes "pseudogene")
+    → Tells r (Excepted w)
+excepted-last true a b c d = ("pseudogene", (3, refl), d)
+excepted-last {w} false a b c d = λ x. every (λ (name : String). ¬ (w ≡ bytes name)) exceptions (a, (b, (c, (d, tt)))) (x .0) (x .1) (x .2)
+
+-- ---- one qualifier more
+
+module _ {s w : List ℕ} {value : Maybe} {e : Bool} where
+  pub excepts-before : e ≡ true → Excepts s e w value true
+  excepts-before h = record { says = λ q z l t. let x = tells-true e h t in (x .0, in-front l q (x .0) (x .1), x .2) }
+
+  -- this one
+  excepts-this : ((q : Qualifier ℕ) → Shown s w value q → Excepted (q .name .read) ⊎ OtherCode q) → Excepts s e w value true
+  excepts-this h = record { says = λ q z l t. (q, in-last l q, h q z) }
+
+  pub excepts-name : {r : Bool} → r ≡ true → OfRead w Excepted r → Excepts s e w value true
+  excepts-name {r} h o = excepts-this (λ q z. inl (tells-true r h (o .says (q .name .read) (z .name))))
+
+  -- nor this one
+  module _ {r : Bool} (h : e ≡ false) (k : r ≡ false) (o : OfRead w Excepted r) where
+    excepts-not : ((q : Qualifier ℕ) → Shown s w value q → ¬ OtherCode q) → Excepts s e w value false
+    excepts-not g = record { says = λ q z l t x. cases q z l (tells-false e h t) (x .0) (in-split l q (x .1)) (x .2) }
+      where
+        cases : (q : Qualifier ℕ) → Shown s w value q → (l : List (Qualifier ℕ)) → ¬ HasExcepted l → (y : Qualifier ℕ) → (y ∈ l) ⊎ (y ≡ q) → Excepted (y .name .read) ⊎ OtherCode y → ⊥
+        cases q z l n y (inl m) x = n (y, m, x)
+        cases q z l n y (inr m) (inl x) = tells-false r k (o .says (q .name .read) (z .name)) (subst (λ (u : Qualifier ℕ). Excepted (u .name .read)) m x)
+        cases q z l n y (inr m) (inr x) = g q z (subst OtherCode m x)
+
+    pub excepts-other : {t : Bool} → t ≡ false → Tells t (w ≡ bytes "transl_table") → Excepts s e w value false
+    excepts-other {t} j x = excepts-not (λ q z y. tells-word (bytes "transl_table") refl false (tells-false t j x) .says (q .name .read) (z .name) (y .0))
+
+    -- by its value
+    pub excepts-code : {t : Bool} (v : Bool) → t ≡ true → Tells t (w ≡ bytes "transl_table") → ValueIs s value (bytes "1") v → Excepts s e w value (not v)
+    excepts-code true j x y = excepts-not (λ q z d. d .1 (y .says refl (q .value) (z .valued)))
+    excepts-code {t} false j x y =
+        excepts-this (λ q z. inr (tells-word (bytes "transl_table") refl true (tells-true t j x) .says (q .name .read) (z .name), y .says refl (q .value) (z .valued)))
+
+-- ---- the region
+
+leaves : {f : Feature ℕ} (q : Qualifier ℕ) → q ∈ qualifiersOf f → Excepted (q .name .read) ⊎ OtherCode q → Unjudged f
+leaves q m (inl x) = excepted q m (x .0) (x .1) (x .2)
+leaves q m (inr x) = other-code q m (x .0) (x .1)
+
+-- it is left by its location alone
+by-location : {f : Feature ℕ} → ¬ HasExcepted (qualifiersOf f) → Unjudged f → (t : Location) × Locates t (f .location .read) × (leavesUnjudged t ≡ true)
+by-location n (excepted q m name k e) = absurd (n (q, m, inl (name, k, e)))
+by-location n (other-code q m k v) = absurd (n (q, m, inr (k, v)))
+by-location n (located t h e) = (t, h, e)
+
+module _ {e : Bool} {verdict : Verdict} where
+  pub leaves-excepted : e ≡ true → LeavesOut e verdict true
+  leaves-excepted h = record { says = λ n f t j. let x = tells-true e h t in leaves (x .0) (x .1) (x .2) }
+
+  pub leaves-bad : e ≡ false → verdict ≡ Bad → LeavesOut e verdict false
+  leaves-bad h v =
+      record { says = λ n f t j u. let x = by-location (tells-false e h t) u in subst (Judged n (f .location .read)) v j (x .0) (x .1) }
+
+  pub leaves-located : (x : Facts) → e ≡ false → verdict ≡ Is x → LeavesOut e verdict (x .unjudged)
+  leaves-located x h v =
+      record { says = λ n f t j. let y = subst (Judged n (f .location .read)) v j in facts f (x .unjudged) (tells-false e h t) (y .0) (y .1) (y .2 .unjudged) }
+    where
+      facts : (f : Feature ℕ) (u : Bool) → ¬ HasExcepted (qualifiersOf f) → (t : Location) → Locates t (f .location .read) → u ≡ leavesUnjudged t → Tells u (Unjudged f)
+      facts f true n t d k = located t d (sym k)
+      facts f false n t d k =
+          λ z.
+          let y = by-location n z in
+          true≢false (sym (y .2) ∙ ap leavesUnjudged (locates-once (y .0) t (y .1) d) ∙ sym k)

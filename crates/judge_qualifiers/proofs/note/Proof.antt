@@ -1,0 +1,93 @@
+-- `judge_qualifiers::note` meets its contract. The loop's invariant: what the qualifiers passed say. The measure is what is left of the text.
+use Prim.Native.Nat.{_-_}
+use native.Mathlib.Omega.{arith}
+use denote.Ref.{now}
+use lib.ListN.{length}
+use Rattle.paper.specs.Bytes.{bytes}
+use Rattle.walk_steps.proofs.Loops.{there-inside}
+use Rattle.judge_qualifiers.proofs.Noting.{Noting, noting-none, noting-next, noting-stuck, noting-done}
+use borrow.Author.Needs.{needs}
+use Rattle.judge_qualifiers.proofs.note.Statement.{statement}
+use Rattle.judge_qualifiers.proofs.note.Tie as tie
+
+abbrev Inv-loop : tie.InvT-loop
+Inv-loop s first upper at₀ frame₀ excepted₀ organisms₀ moltypes₀ met₀ rest₀ at frame excepted organisms moltypes met rest =
+    Noting s first upper at frame excepted organisms moltypes met rest
+
+abbrev μ-loop : tie.MeasureT-loop
+μ-loop s first upper at₀ frame₀ excepted₀ organisms₀ moltypes₀ met₀ rest₀ at frame excepted organisms moltypes met rest = length s - at
+
+loop-holds : tie.Need-loop-holds Inv-loop μ-loop
+loop-holds c = noting-none (c .before .args .first) (c .before .args .upper)
+
+qualifier-here-requires : tie.Need-qualifier-here-requires Inv-loop μ-loop
+qualifier-here-requires c κs = search needs
+
+qualifier-requires : tie.Need-qualifier-requires Inv-loop μ-loop
+qualifier-requires c κs = search needs
+
+returns : tie.Need-returns Inv-loop μ-loop
+returns c = noting-stuck (c .before .before .before .before .qualifier-here .ensures) (c .before .before .before .before .before .loop .inv) _ (c .before .before .before .if1 .taken) (c .before .before .qualifier .ensures) (c .if2 .taken)
+
+bytes-of-requires : tie.Need-bytes-of-requires Inv-loop μ-loop
+bytes-of-requires c κs = search needs
+
+is-organism-requires : tie.Need-is-organism-requires Inv-loop μ-loop
+is-organism-requires c κs = search needs
+
+more-of-two-requires : tie.Need-more-of-two-requires Inv-loop μ-loop
+more-of-two-requires c κs = search needs
+
+is-moltype-requires : tie.Need-is-moltype-requires Inv-loop μ-loop
+is-moltype-requires c κs = search needs
+
+more-of-two-requires-2 : tie.Need-more-of-two-requires-2 Inv-loop μ-loop
+more-of-two-requires-2 c κs = search needs
+
+frame-with-requires : tie.Need-frame-with-requires Inv-loop μ-loop
+frame-with-requires c κs = search needs
+
+excepted-with-requires : tie.Need-excepted-with-requires Inv-loop μ-loop
+excepted-with-requires c κs = search needs
+
+met-with-requires : tie.Need-met-with-requires Inv-loop μ-loop
+met-with-requires c κs = search needs
+
+kept-requires : tie.Need-kept-requires Inv-loop μ-loop
+kept-requires c κs = search needs
+
+loop-less : tie.Need-loop-less Inv-loop μ-loop
+loop-less c =
+    omega (arith, there-inside 60 (bytes "INSDQualifier") (now (c .before .before .before .before .before .before .before .before .before .before .before .before .before .before .before .before .args .s)) (c .before .before .before .before .before .before .before .before .before .before .before .before .before .before .loop .at) (c .before .before .before .before .before .before .before .before .before .before .before .before .if1 .taken) (c .before .before .before .before .before .before .before .before .before .before .before .before .before .qualifier-here .ensures))
+
+loop-again : tie.Need-loop-again Inv-loop μ-loop
+loop-again c =
+    noting-next (c .before .before .before .before .before .before .before .before .before .before .before .before .before .qualifier-here .ensures) (c .before .before .before .before .before .before .before .before .before .before .before .before .before .before .loop .inv) (c .before .before .before .before .before .before .before .before .before .before .before .before .if1 .taken) (c .before .before .before .before .before .before .before .before .before .before .before .qualifier .ensures) (c .before .before .before .before .before .before .before .before .bytes-of .ensures) (c .before .before .before .before .before .before .before .is-organism .result)
+    (c .before .before .before .before .before .is-moltype .result) (c .before .before .before .frame-with .ensures) (c .before .before .excepted-with .ensures) (c .before .before .before .before .before .before .before .is-organism .ensures) (c .before .before .before .before .before .before .more-of-two .ensures) (c .before .before .before .before .before .is-moltype .ensures)
+    (c .before .before .before .before .more-of-two2 .ensures) (c .before .met-with .ensures) (c .kept .ensures)
+
+returns-2 : tie.Need-returns-2 Inv-loop μ-loop
+returns-2 c = noting-done (c .before .qualifier-here .ensures) (c .before .before .loop .inv) (c .if1 .left)
+
+pub note-spec : {M : Type 1} → statement M
+note-spec =
+    tie.close
+    (tie.spec
+    Inv-loop
+    μ-loop
+    loop-holds
+    qualifier-here-requires
+    qualifier-requires
+    returns
+    bytes-of-requires
+    is-organism-requires
+    more-of-two-requires
+    is-moltype-requires
+    more-of-two-requires-2
+    frame-with-requires
+    excepted-with-requires
+    met-with-requires
+    kept-requires
+    loop-less
+    loop-again
+    returns-2)

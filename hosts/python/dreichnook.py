@@ -1,0 +1,204 @@
+"""Dreichnook from Python: a proved reader of WIPO ST.26 sequence listings, edition 1.2.
+
+A Listing is some bytes, of any content; each question about it checks it whole and then answers from those same bytes.
+Sequences, features and qualifiers count from 1. What the calls promise stands in hosts/include/dreichnook.h.
+
+    >>> Listing(b"<?xml?>").check()
+    Traceback (most recent call last):
+    dreichnook.Refusal: refused by rule 2 at byte 5: not of the layout
+
+The shared library is target/native/libdreichnook.so, which scripts/shared makes, or the one in the folder that the
+environment variable DREICHNOOK_NATIVE names.
+"""
+
+import ctypes
+import functools
+import operator
+import os
+import pathlib
+from ctypes import POINTER, byref, c_char_p, c_size_t, c_uint8, c_uint32, c_uint64, c_void_p
+from typing import List, NamedTuple, Optional, Tuple
+
+LIMIT = 16_777_216
+"""The longest listing, in bytes."""
+
+KINDS = ("none", "DNA", "RNA", "AA")
+OPERATORS = ("none", "join", "order")
+COMPLEMENT, BEFORE, AFTER, SITE = 1, 2, 4, 8
+"""The marks of a span: complemented; `<` is written; `>` is written; a site."""
+
+NO_SEQUENCE, SKIPPED, NO_FEATURE, NO_QUALIFIER, NO_ROOM, NOT_A_CDS, UNJUDGED, STOP_INSIDE = range(30, 38)
+
+WORDS = {
+    1: "more than 16,777,216 bytes",
+    2: "not of the layout",
+    10: "dtdVersion isn't `1_2`",
+    11: "a FilingDate or productionDate isn't a real Gregorian CCYY-MM-DD, years 0001 to 9999",
+    12: "an IPOfficeCode isn't two letters A to Z",
+    13: "a languageCode isn't two letters a to z",
+    14: "SequenceTotalQuantity isn't a number equal to the count of SequenceData",
+    15: "sequenceIDNumber of the k-th SequenceData isn't the number k",
+    16: "moltype isn't DNA, RNA or AA",
+    17: "division isn't PAT",
+    18: "a residue is outside the kind's symbols",
+    19: "DNA or RNA: fewer than 10 residues other than `n`; AA: fewer than 4 other than `X`",
+    20: "INSDSeq_length isn't the number L, the count of residues",
+    21: "no feature table; or not exactly one source key in it",
+    22: "source has not exactly one organism and exactly one mol_type",
+    23: "source's location isn't `1..` and L, the count of residues",
+    24: "location not of the grammar",
+    25: "position above L, the count of residues, x above y in a range, or a false site",
+    26: "complement in AA",
+    27: "CDS has two or more codon_start, or one whose value is absent or isn't `1`, `2`, `3`",
+    28: "a translation qualifier of a judged CDS has its value absent or different from the translation, or a stop stands inside",
+    29: "skipped, but length, moltype or division isn't empty, or other-seqids or a table is present",
+    NO_SEQUENCE: "no such sequence",
+    SKIPPED: "the sequence is skipped",
+    NO_FEATURE: "no such feature",
+    NO_QUALIFIER: "no such qualifier",
+    NO_ROOM: "the lent output is shorter than the answer",
+    NOT_A_CDS: "not a CDS of DNA or RNA",
+    UNJUDGED: "the CDS is unjudged",
+    STOP_INSIDE: "a stop stands inside the CDS",
+}
+
+
+class Refusal(Exception):
+    """Why a question wasn't answered: 1 to 29, the broken rule with its place; 30 to 37, the listing has no such answer."""
+
+    def __init__(self, number: int, place: int):
+        where = f"by rule {number} at byte {place}" if number < NO_SEQUENCE else f"with {number}"
+        self.number, self.place = number, place
+        self.words = WORDS.get(number, "a rule that this version doesn't know")
+        super().__init__(f"refused {where}: {self.words}")
+
+
+class Counts(NamedTuple):
+    total: int
+    skipped: int
+    features: int
+    judged: int
+    unjudged: int
+
+
+class Part(NamedTuple):
+    """A text of the listing, raw, and the place of its first byte, from 0."""
+
+    start: int
+    text: bytes
+
+
+class Sequence(NamedTuple):
+    kind: str
+    residues: Part
+
+
+class Feature(NamedTuple):
+    key: Part
+    location: Part
+
+
+class Qualifier(NamedTuple):
+    name: Part
+    value: Optional[Part]
+
+
+class Span(NamedTuple):
+    first: int
+    last: int
+    marks: int
+
+
+class _Triple(ctypes.Structure):
+    _fields_ = [("first", c_uint32), ("last", c_uint32), ("marks", c_uint32)]
+
+
+class Listing:
+    """Some bytes to ask about. Every question raises Refusal where it has no answer."""
+
+    def __init__(self, listing):
+        # bytes don't change while they are lent.
+        self._bytes = listing if isinstance(listing, bytes) else bytes(memoryview(listing))
+
+    def check(self) -> Counts:
+        return Counts(*self._ask("check", (), [c_uint64] * 5))
+
+    def sequence(self, sequence: int) -> Sequence:
+        kind, start, size = self._ask("sequence", (sequence,), [c_uint8, c_uint64, c_uint64])
+        return Sequence(KINDS[kind], self._part(start, size))
+
+    def feature(self, sequence: int, feature: int) -> Feature:
+        said = self._ask("feature", (sequence, feature), [c_uint64] * 4)
+        return Feature(self._part(*said[:2]), self._part(*said[2:]))
+
+    def qualifier(self, sequence: int, feature: int, qualifier: int) -> Qualifier:
+        cells = [c_uint64, c_uint64, c_uint8, c_uint64, c_uint64]
+        said = self._ask("qualifier", (sequence, feature, qualifier), cells)
+        return Qualifier(self._part(*said[:2]), self._part(*said[3:]) if said[2] else None)
+
+    def spans(self, sequence: int, feature: int) -> Tuple[str, List[Span]]:
+        """The operator and the spans, in reading order from the feature's 5' end."""
+        out, (said, count) = self._lend("spans", (sequence, feature), _Triple, 3, [c_uint8, c_uint64])
+        return OPERATORS[said], [Span(span.first, span.last, span.marks) for span in out[:count]]
+
+    def translation(self, sequence: int, feature: int) -> bytes:
+        """The translation of a judged CDS; one of more than LIMIT letters is refused with 34."""
+        out, (size,) = self._lend("translation", (sequence, feature), c_uint8, 1, [c_uint64])
+        return bytes(memoryview(out)[:size])
+
+    def translations(self, sequence: int) -> List[Optional[bytes]]:
+        """The translations of all CDS features; None for one that is unjudged or has a stop inside."""
+        out, (size,) = self._lend("translations", (sequence,), c_uint8, 1, [c_uint64])
+        lines = bytes(memoryview(out)[:size]).split(b"\n")[:-1]
+        return [None if line == b"-" else line for line in lines]
+
+    def _ask(self, name, numbers, cells, lent=()):
+        numbers = [operator.index(number) for number in numbers]
+        # A number of another size would be cut to 64 bits on its way.
+        if not all(0 <= number < 1 << 64 for number in numbers):
+            raise ValueError(f"a number isn't of 64 bits: {numbers}")
+        place, cells = c_uint64(), [cell() for cell in cells]
+        function = getattr(_library(), "dreichnook_" + name)
+        number = function(self._bytes, len(self._bytes), *numbers, *lent, byref(place), *map(byref, cells))
+        if number:
+            raise Refusal(number, place.value)
+        return [cell.value for cell in cells]
+
+    def _lend(self, name, numbers, element, width, cells):
+        # Each question costs a whole check, so the room grows in few steps.
+        room = 4096
+        while True:
+            out = (element * room)()
+            try:
+                return out, self._ask(name, numbers, cells, (out, room * width))
+            except Refusal as refusal:
+                if refusal.number != NO_ROOM or room >= LIMIT:
+                    raise
+            room *= 16
+
+    def _part(self, start, size):
+        return Part(start, self._bytes[start : start + size])
+
+
+@functools.lru_cache(maxsize=None)
+def _library():
+    here = pathlib.Path(__file__).resolve().parent
+    folder = here / os.environ.get("DREICHNOOK_NATIVE", "../../target/native")
+    file = folder / "libdreichnook.so"
+    if not file.is_file():
+        raise OSError(f"there is no {file}; scripts/shared makes it")
+    library = ctypes.CDLL(str(file))
+    listing, lent, numbers = [c_char_p, c_size_t], [c_void_p, c_size_t], [c_uint64]
+    byte, number = [POINTER(c_uint8)], [POINTER(c_uint64)]
+    for name, types in {
+        "check": number * 6,
+        "sequence": numbers + number + byte + number * 2,
+        "feature": numbers * 2 + number * 5,
+        "qualifier": numbers * 3 + number * 3 + byte + number * 2,
+        "spans": numbers * 2 + lent + number + byte + number,
+        "translation": numbers * 2 + lent + number * 2,
+        "translations": numbers + lent + number * 2,
+    }.items():
+        function = getattr(library, "dreichnook_" + name)
+        function.argtypes, function.restype = listing + types, c_uint32
+    return library

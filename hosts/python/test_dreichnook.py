@@ -1,0 +1,129 @@
+"""python3 test_dreichnook.py: the answers on the published specimens, and on some edits of them."""
+
+import pathlib
+import subprocess
+import sys
+import unittest
+
+import dreichnook
+from dreichnook import AFTER, BEFORE, COMPLEMENT, LIMIT, SITE, Listing, Part, Refusal, Span
+
+HERE = pathlib.Path(__file__).resolve().parent
+SPECIMENS = HERE.parent.parent / "tests" / "specimens"
+LETTERS = b"MLAPDCPFDPTRIYSSSLC"
+
+
+def specimen(name):
+    return (SPECIMENS / name).read_bytes()
+
+
+def with_cds(location):
+    """Annex III with sequence 3's CDS changed: another location, and no translation qualifier."""
+    before, after = specimen("annex-iii.xml").split(b"<INSDQualifier_value>" + LETTERS, 1)
+    before, after = before.rpartition(b"<INSDQualifier>")[0], after.partition(b"</INSDQualifier>")[2]
+    return (before + after).replace(b"3..62", location)
+
+
+class Answers(unittest.TestCase):
+    def refused(self, number, place, ask, *arguments):
+        with self.assertRaises(Refusal) as caught:
+            ask(*arguments)
+        self.assertEqual((caught.exception.number, caught.exception.place), (number, place))
+
+    def test_every_specimen(self):
+        rows = [row.split() for row in specimen("expected.txt").decode().splitlines() if not row.startswith("#")]
+        self.assertEqual(len(rows), 44)
+        for file, verdict, *figures in rows:
+            with self.subTest(file):
+                figures = tuple(map(int, figures))
+                if verdict == "accepted":
+                    self.assertEqual(Listing(specimen(file)).check(), figures)
+                else:
+                    self.refused(*figures, Listing(specimen(file)).check)
+
+    def test_parts(self):
+        listing = Listing(specimen("annex-iii.xml"))
+        self.assertEqual(listing.sequence(4), ("AA", Part(6028, LETTERS)))
+        self.assertEqual(listing.feature(3, 2), (Part(4442, b"CDS"), Part(4496, b"3..62")))
+        self.assertEqual(listing.qualifier(3, 2, 1), (Part(4617, b"translation"), Part(4685, LETTERS)))
+
+    def test_a_value_may_be_absent_or_empty(self):
+        listing = specimen("003-annex-i-cds-qualifiers.xml")
+        self.assertEqual(Listing(listing).qualifier(1, 5, 1), (Part(3699, b"pseudo"), None))
+        name = b"pseudo</INSDQualifier_name>"
+        listing = listing.replace(name, name + b"<INSDQualifier_value></INSDQualifier_value>", 1)
+        self.assertEqual(Listing(listing).qualifier(1, 5, 1).value.text, b"")
+
+    def test_spans(self):
+        listing = Listing(specimen("002-p66-location-syntax.xml"))
+        spans = [Span(134, 202, COMPLEMENT + AFTER), Span(12, 78, COMPLEMENT + BEFORE)]
+        self.assertEqual(listing.spans(1, 21), ("order", spans))
+        self.assertEqual(listing.spans(1, 11), ("none", [Span(1000, 1, SITE)]))
+
+    def test_translations(self):
+        listing = Listing(specimen("annex-iii.xml"))
+        self.assertEqual(listing.translation(3, 2), LETTERS)
+        self.assertEqual(listing.translations(3), [LETTERS])
+        self.assertEqual(listing.translations(10), [None])
+        self.assertEqual(listing.translations(4), [])
+
+    def test_more_room_than_the_first(self):
+        listing = Listing(with_cds(b"join(" + b",".join([b"3..59"] * 5_000) + b")"))
+        self.assertEqual(listing.translation(3, 2), LETTERS * 5_000)
+        self.assertEqual(len(listing.spans(3, 2)[1]), 5_000)
+
+    def test_refusals_of_a_question(self):
+        listing = Listing(specimen("annex-iii.xml"))
+        for none in (0, 12, (1 << 64) - 1):
+            self.refused(30, 0, listing.sequence, none)
+            self.refused(32, 0, listing.feature, 3, none)
+            self.refused(33, 0, listing.qualifier, 3, 2, none)
+        self.refused(31, 0, listing.translations, 7)
+        self.refused(35, 0, listing.translation, 3, 1)
+        self.refused(36, 0, listing.translation, 10, 2)
+        self.refused(37, 0, Listing(with_cds(b"1..62")).translation, 3, 2)
+
+    def test_numbers_that_do_not_fit(self):
+        listing = Listing(specimen("annex-iii.xml"))
+        for number in (-1, 1 << 64, (1 << 64) + 1):
+            self.assertRaises(ValueError, listing.sequence, number)
+        self.assertRaises(TypeError, listing.sequence, "1")
+
+    def test_any_bytes(self):
+        for some in (b"", bytearray(b"<?xml"), memoryview(b"\0" * 9)):
+            place = 5 if bytes(some) == b"<?xml" else 0
+            self.refused(2, place, Listing(some).check)
+            self.refused(2, place, Listing(some).spans, 1, 1)
+            self.refused(2, place, Listing(some).translations, 1)
+        self.refused(2, 0, Listing(bytes(LIMIT)).check)
+        self.refused(1, 0, Listing(bytes(LIMIT + 1)).check)
+
+    def test_only_bytes(self):
+        for other in ("<?xml", 5, None, [60, 63]):
+            self.assertRaises(TypeError, Listing, other)
+
+    def test_words(self):
+        self.assertEqual(str(Refusal(17, 603)), "refused by rule 17 at byte 603: division isn't PAT")
+        self.assertEqual(str(Refusal(32, 0)), "refused with 32: no such feature")
+        self.assertEqual(sorted(dreichnook.WORDS), [1, 2, *range(10, 38)])
+
+
+class Example(unittest.TestCase):
+    def run_on(self, name):
+        words = [sys.executable, HERE / "example.py", SPECIMENS / name]
+        return subprocess.run(words, capture_output=True, text=True)
+
+    def test_accepted(self):
+        ran = self.run_on("annex-iii.xml")
+        self.assertEqual((ran.returncode, ran.stderr), (0, ""))
+        self.assertIn("sequence 3: DNA, 62 residues\nMLAPDCPFDPTRIYSSSLC\nsequence 4", ran.stdout)
+        self.assertIn("sequence 7: skipped\n", ran.stdout)
+
+    def test_refused(self):
+        ran = self.run_on("002-p52-division-empty.xml")
+        self.assertEqual((ran.returncode, ran.stdout), (1, ""))
+        self.assertIn("refused by rule 17 at byte 603", ran.stderr)
+
+
+if __name__ == "__main__":
+    unittest.main()

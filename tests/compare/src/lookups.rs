@@ -1,0 +1,558 @@
+//! `compare lookups`: every public call through libdreichnook.a, with any numbers and any room, beside the referee.
+
+use crate::report::{keep, Count, Input};
+use crate::{boundary, check, large, layout, mutants};
+use referee::{Listing, Part, Refusal};
+use std::collections::BTreeMap;
+use std::path::{Path, PathBuf};
+
+/// A call with its numbers: the sequence, the feature in it, the qualifier of that.
+#[derive(Clone, Copy, Debug, PartialEq, Eq)]
+pub enum Question {
+    Check,
+    Sequence(u64),
+    Feature(u64, u64),
+    Qualifier(u64, u64, u64),
+    Spans(u64, u64),
+    Translation(u64, u64),
+    Translations(u64),
+}
+
+/// What a call returns, and the numbers it sets: the place, then the others in the order of the C interface.
+/// Those that a call doesn't have are 0.
+#[derive(Clone, Copy, Debug, PartialEq, Eq)]
+pub struct Answer {
+    pub number: u32,
+    pub place: u64,
+    pub shown: [u64; 5],
+}
+
+/// Lent output of one size, for spans and for letters. It lies inside more memory, which nobody may touch.
+#[derive(Clone, Debug, PartialEq, Eq)]
+pub struct Room {
+    numbers: Vec<u32>,
+    bytes: Vec<u8>,
+}
+
+/// So much memory stands on either side of what is lent.
+const MARGIN: usize = 8;
+
+impl Room {
+    /// Filled so that no item is one of an answer, nor the same as its neighbours.
+    fn new(size: usize) -> Room {
+        let items = 0..size + 2 * MARGIN;
+        Room {
+            numbers: items.clone().map(|i| 0xdead_0000 + i as u32).collect(),
+            bytes: items.map(|i| 128 + (i % 127) as u8).collect(),
+        }
+    }
+
+    pub fn numbers(&mut self) -> &mut [u32] {
+        let end = self.numbers.len() - MARGIN;
+        &mut self.numbers[MARGIN..end]
+    }
+
+    pub fn bytes(&mut self) -> &mut [u8] {
+        let end = self.bytes.len() - MARGIN;
+        &mut self.bytes[MARGIN..end]
+    }
+}
+
+impl Question {
+    fn call(self) -> &'static str {
+        match self {
+            Question::Check => "check",
+            Question::Sequence(..) => "sequence",
+            Question::Feature(..) => "feature",
+            Question::Qualifier(..) => "qualifier",
+            Question::Spans(..) => "spans",
+            Question::Translation(..) => "translation",
+            Question::Translations(..) => "translations",
+        }
+    }
+
+    /// How many items of lent output this answer has, if the call writes any.
+    fn written(self, answer: &Answer) -> Option<usize> {
+        match self {
+            Question::Spans(..) => Some(3 * answer.shown[1] as usize),
+            Question::Translation(..) | Question::Translations(..) => {
+                Some(answer.shown[0] as usize)
+            }
+            _ => None,
+        }
+    }
+}
+
+/// Asks the referee.
+fn judged(listing: &Listing, question: Question, room: &mut Room) -> Answer {
+    let shown = match question {
+        Question::Check => listing.check().map(|counts| {
+            [
+                counts.total,
+                counts.skipped,
+                counts.features,
+                counts.judged,
+                counts.unjudged,
+            ]
+        }),
+        Question::Sequence(k) => listing.sequence(k).map(|answer| {
+            let [start, size] = numbers(answer.residues);
+            [answer.kind as u64, start, size, 0, 0]
+        }),
+        Question::Feature(k, f) => listing.feature(k, f).map(|answer| {
+            let [key_start, key_size] = numbers(answer.key);
+            let [location_start, location_size] = numbers(answer.location);
+            [key_start, key_size, location_start, location_size, 0]
+        }),
+        Question::Qualifier(k, f, q) => listing.qualifier(k, f, q).map(|answer| {
+            let [name_start, name_size] = numbers(answer.name);
+            let [value_start, value_size] = numbers(answer.value);
+            let present = u64::from(answer.has_value);
+            [name_start, name_size, present, value_start, value_size]
+        }),
+        Question::Spans(k, f) => listing
+            .spans(k, f, room.numbers())
+            .map(|answer| [answer.operator as u64, answer.count, 0, 0, 0]),
+        Question::Translation(k, f) => {
+            let size = listing.translation(k, f, room.bytes());
+            size.map(|size| [size, 0, 0, 0, 0])
+        }
+        Question::Translations(k) => {
+            let size = listing.translations(k, room.bytes());
+            size.map(|size| [size, 0, 0, 0, 0])
+        }
+    };
+    match shown {
+        Ok(shown) => Answer {
+            number: 0,
+            place: 0,
+            shown,
+        },
+        Err(Refusal { rule, place }) => Answer {
+            number: rule,
+            place: place as u64,
+            shown: [0; 5],
+        },
+    }
+}
+
+fn numbers(part: Part) -> [u64; 2] {
+    [part.start as u64, part.size as u64]
+}
+
+/// A longer listing is asked for its last items only: each question reads all of it.
+const SMALL: usize = 100_000;
+
+/// Numbers that are none of any listing: a reader that takes the lower half of the first for the number finds item 1.
+const HUGE: [u64; 2] = [(1 << 32) + 1, u64::MAX];
+
+/// The numbers to ask for among so many items; without a count the question is refused whatever the number.
+fn asked_numbers(count: Option<u64>, all: bool) -> Vec<u64> {
+    match count {
+        None => vec![0, 1, u64::MAX],
+        Some(count) if all => (0..=count + 1).chain(HUGE).collect(),
+        Some(count) => vec![count.max(1), count + 1],
+    }
+}
+
+/// How many items there are from number 1 on, if what they are part of is there.
+fn count_of<T, U>(
+    whole: Result<T, Refusal>,
+    item: impl Fn(u64) -> Result<U, Refusal>,
+) -> Option<u64> {
+    whole.ok()?;
+    Some((1..).take_while(|&number| item(number).is_ok()).count() as u64)
+}
+
+/// Every question about a listing: for each item of its tree, for number 0, one too many and huge. Of a long one, the last items.
+fn questions(listing: &Listing, all: bool) -> Vec<Question> {
+    let mut questions = vec![Question::Check];
+    let total = listing.check().ok().map(|counts| counts.total);
+    for k in asked_numbers(total, all) {
+        questions.extend([Question::Sequence(k), Question::Translations(k)]);
+        let features = count_of(listing.sequence(k), |f| listing.feature(k, f));
+        for f in asked_numbers(features, all) {
+            questions.extend([
+                Question::Feature(k, f),
+                Question::Spans(k, f),
+                Question::Translation(k, f),
+            ]);
+            let qualifiers = count_of(listing.feature(k, f), |q| listing.qualifier(k, f, q));
+            let numbers = asked_numbers(qualifiers, all).into_iter();
+            questions.extend(numbers.map(|q| Question::Qualifier(k, f, q)));
+        }
+    }
+    questions
+}
+
+/// The sizes of room to ask with: none, one short, exact and larger.
+fn rooms(listing: &Listing, question: Question) -> Vec<usize> {
+    const NO_ROOM: u32 = 34;
+    let mut size = 1 << 10;
+    let answer = loop {
+        let answer = judged(listing, question, &mut Room::new(size));
+        if answer.number != NO_ROOM {
+            break answer;
+        }
+        size *= 4;
+    };
+    match question.written(&answer) {
+        None => vec![0],
+        Some(0) => vec![0, 5],
+        Some(1) => vec![0, 1, 4],
+        Some(length) => vec![0, length - 1, length, length + 7],
+    }
+}
+
+/// The first item of the archive's room that isn't as in the referee's, in words. Items before the room have numbers below 0.
+fn first_difference(room: &Room, judge_room: &Room) -> Option<String> {
+    let mut numbers = room.numbers.iter().zip(&judge_room.numbers);
+    let mut bytes = room.bytes.iter().zip(&judge_room.bytes);
+    let number = numbers.position(|(item, referee)| item != referee);
+    let byte = bytes.position(|(item, referee)| item != referee);
+    let margin = MARGIN as isize;
+    match (number, byte) {
+        (Some(at), _) => {
+            let (item, referee) = (room.numbers[at], judge_room.numbers[at]);
+            let at = at as isize - margin;
+            Some(format!("number {at} is {item}, by the referee {referee}"))
+        }
+        (_, Some(at)) => {
+            let (item, referee) = (room.bytes[at], judge_room.bytes[at]);
+            let at = at as isize - margin;
+            Some(format!("byte {at} is {item}, by the referee {referee}"))
+        }
+        _ => None,
+    }
+}
+
+/// The number of an answer, with 1 for all of the check's own.
+fn by_the_check(number: u32) -> u32 {
+    match number {
+        1..=29 => 1,
+        _ => number,
+    }
+}
+
+/// The numbers that each call may answer, as `by_the_check` has them.
+const ANSWERS: [(&str, &[u32]); 7] = [
+    ("check", &[0, 1]),
+    ("sequence", &[0, 1, 30, 31]),
+    ("feature", &[0, 1, 30, 31, 32]),
+    ("qualifier", &[0, 1, 30, 31, 32, 33]),
+    ("spans", &[0, 1, 30, 31, 32, 34]),
+    ("translation", &[0, 1, 30, 31, 32, 34, 35, 36, 37]),
+    ("translations", &[0, 1, 30, 31, 34]),
+];
+
+/// Compares on so many generated listings, and all that doesn't depend on the count.
+pub fn run(count: u64, seed: u64, root: &Path) -> Result<bool, String> {
+    let specimens = layout::specimens(&root.join("tests/specimens"))?;
+    let mut lookups = Lookups::new(boundary::ask, Some(root.join("target/compare")));
+    lookups.kind("specimens", layout::specimen_inputs(specimens));
+    lookups.kind("hand-made", layout::hand_made());
+    lookups.kind("generated", layout::generated(count, seed));
+    lookups.kind("one damage", check::damages(count / 5, seed));
+    let numbers = 0..count / 5;
+    let values = numbers.map(|number| mutants::value_mutant(seed, number));
+    lookups.kind("mutants of values", values);
+    let sizes = [large::LONGEST, large::LONGEST + 1];
+    let sized = sizes.map(|size| large::inputs(&large::MIXES, size));
+    let sized = sized.into_iter().flatten();
+    lookups.kind("of the greatest size, and one byte more", sized);
+    Ok(lookups.close())
+}
+
+/// The comparison with the referee, and how often each call was answered by which number.
+struct Lookups<A> {
+    ask: A,
+    count: Count,
+    answers: BTreeMap<(&'static str, u32), usize>,
+    /// Where listings with a difference are kept.
+    folder: Option<PathBuf>,
+}
+
+impl<A: Fn(&[u8], Question, &mut Room) -> Answer> Lookups<A> {
+    fn new(ask: A, folder: Option<PathBuf>) -> Self {
+        Lookups {
+            ask,
+            count: Count::default(),
+            answers: BTreeMap::new(),
+            folder,
+        }
+    }
+
+    /// Asks all questions about all inputs of one kind, and prints how many there were.
+    fn kind(&mut self, kind: &str, inputs: impl Iterator<Item = Input>) {
+        let before = self.count.cases;
+        let (mut accepted, mut refused) = (0, 0);
+        for input in inputs {
+            if self.listing(&input) {
+                accepted += 1;
+            } else {
+                refused += 1;
+            }
+        }
+        let asked = self.count.cases - before;
+        println!("{kind}: {accepted} accepted listings, {refused} refused, {asked} questions");
+    }
+
+    /// Asks all questions about one listing; whether it is accepted.
+    fn listing(&mut self, input: &Input) -> bool {
+        let listing = Listing::new(&input.bytes);
+        for question in questions(&listing, input.bytes.len() < SMALL) {
+            for size in rooms(&listing, question) {
+                self.question(input, &listing, question, size);
+            }
+        }
+        listing.check().is_ok()
+    }
+
+    /// Compares the number, everything that is set, and every item of the room and about it.
+    fn question(&mut self, input: &Input, listing: &Listing, question: Question, size: usize) {
+        let (mut room, mut judge_room) = (Room::new(size), Room::new(size));
+        let answer = (self.ask)(&input.bytes, question, &mut room);
+        let referee = judged(listing, question, &mut judge_room);
+        let met = (question.call(), by_the_check(referee.number));
+        *self.answers.entry(met).or_default() += 1;
+        let folder = self.folder.as_deref();
+        self.count
+            .case((answer, &room) == (referee, &judge_room), |number| {
+                println!("DIFFERS: {} ({} bytes)", input.name, input.bytes.len());
+                println!("  asked: {question:?}, room for {size}");
+                println!("  archive: {answer:?}");
+                println!("  referee:   {referee:?}");
+                if let Some(item) = first_difference(&room, &judge_room) {
+                    println!("  lent output: {item}");
+                }
+                if let Some(folder) = folder {
+                    keep(folder, number, &input.bytes);
+                }
+            });
+    }
+
+    /// The calls with a number that was never the answer.
+    fn unmet(&self) -> Vec<(&'static str, u32)> {
+        let all = ANSWERS
+            .into_iter()
+            .flat_map(|(call, numbers)| numbers.iter().map(move |&number| (call, number)));
+        all.filter(|met| !self.answers.contains_key(met)).collect()
+    }
+
+    /// Prints the last lines; true if nothing differs and every number was met.
+    fn close(&self) -> bool {
+        for (call, numbers) in ANSWERS {
+            let met: Vec<String> = numbers
+                .iter()
+                .map(|&number| {
+                    let count = self.answers.get(&(call, number)).unwrap_or(&0);
+                    match number {
+                        0 => format!("answered {count}"),
+                        1 => format!("refused by the check {count}"),
+                        _ => format!("{number}: {count}"),
+                    }
+                })
+                .collect();
+            println!("{call}: {}", met.join(", "));
+        }
+        let unmet = self.unmet();
+        if !unmet.is_empty() {
+            println!("NEVER THE ANSWER (0: answered, 1: refused by the check): {unmet:?}");
+        }
+        self.count.close("lookups") && unmet.is_empty()
+    }
+}
+
+#[cfg(test)]
+mod tests {
+    use super::*;
+
+    /// A reader that errs: the referee's answer, changed by the questioned reader's error.
+    type Error = fn(&Listing, Question, &mut Room) -> Answer;
+
+    /// How many answers of an erring reader differ, on some valid listings and some others.
+    fn differ(error: Error) -> usize {
+        let ask = |input: &[u8], question: Question, room: &mut Room| {
+            error(&Listing::new(input), question, room)
+        };
+        let mut lookups = Lookups::new(ask, None);
+        // The erring reader checks them anew for each question, so they are short.
+        let short = layout::generated(400, 1).filter(|input| {
+            input.bytes.len() < 5_000 && input.bytes.windows(5).any(|bytes| bytes == b">CDS<")
+        });
+        lookups.kind("test", short.take(20));
+        lookups.count.differ
+    }
+
+    #[test]
+    fn an_item_that_is_not_the_one_asked_for_is_found() {
+        assert_eq!(differ(judged), 0);
+        let wrong: [Error; 7] = [
+            |listing, question, room| match question {
+                Question::Sequence(k) if k > 1 => judged(listing, Question::Sequence(1), room),
+                _ => judged(listing, question, room),
+            },
+            |listing, question, room| match question {
+                Question::Feature(k, f) if f > 1 => judged(listing, Question::Feature(k, 1), room),
+                _ => judged(listing, question, room),
+            },
+            |listing, question, room| match question {
+                Question::Qualifier(k, f, q) if q > 1 => {
+                    judged(listing, Question::Qualifier(k, f, 1), room)
+                }
+                _ => judged(listing, question, room),
+            },
+            |listing, question, room| match question {
+                Question::Spans(k, f) if f > 1 => judged(listing, Question::Spans(k, f - 1), room),
+                _ => judged(listing, question, room),
+            },
+            |listing, question, room| match question {
+                Question::Translation(k, 0) => judged(listing, Question::Translation(k, 1), room),
+                _ => judged(listing, question, room),
+            },
+            |listing, question, room| match question {
+                Question::Translations(k) => {
+                    // The lower half of the number.
+                    let k = u64::from(k as u32);
+                    judged(listing, Question::Translations(k), room)
+                }
+                _ => judged(listing, question, room),
+            },
+            // The key for the location.
+            |listing, question, room| {
+                let mut answer = judged(listing, question, room);
+                if let Question::Feature(..) = question {
+                    answer.shown.swap(0, 2);
+                    answer.shown.swap(1, 3);
+                }
+                answer
+            },
+        ];
+        for (number, error) in wrong.into_iter().enumerate() {
+            assert!(differ(error) > 0, "error {number}");
+        }
+    }
+
+    #[test]
+    fn a_number_that_is_not_set_is_found() {
+        let refused_place: Error = |listing, question, room| {
+            let mut answer = judged(listing, question, room);
+            if answer.number >= 30 {
+                answer.place = 7;
+            }
+            answer
+        };
+        assert!(differ(refused_place) > 0);
+        let kind_of_refused: Error = |listing, question, room| {
+            let mut answer = judged(listing, question, room);
+            if (question, answer.number) == (Question::Sequence(0), 30) {
+                answer.shown[0] = 1;
+            }
+            answer
+        };
+        assert!(differ(kind_of_refused) > 0);
+    }
+
+    #[test]
+    fn refusals_in_another_order_are_found() {
+        let no_room_first: Error = |listing, question, room| {
+            let answer = judged(listing, question, room);
+            let is_bare = room.bytes().is_empty();
+            match (question, answer.number) {
+                (Question::Translation(..), 35..=37) if is_bare => Answer {
+                    number: 34,
+                    ..answer
+                },
+                _ => answer,
+            }
+        };
+        assert!(differ(no_room_first) > 0);
+    }
+
+    #[test]
+    fn every_wrong_write_is_found() {
+        let wrong: [Error; 6] = [
+            // Nothing.
+            |listing, question, room| judged(listing, question, &mut Room::new(room.bytes().len())),
+            // Past the answer.
+            |listing, question, room| {
+                let answer = judged(listing, question, room);
+                if let Question::Translation(..) = question {
+                    if let Some(next) = room.bytes().get_mut(answer.shown[0] as usize) {
+                        *next = 0;
+                    }
+                }
+                answer
+            },
+            |listing, question, room| {
+                let answer = judged(listing, question, room);
+                if let (Question::Spans(..), 0) = (question, answer.number) {
+                    if let Some(last) = room.numbers().last_mut() {
+                        *last = 0;
+                    }
+                }
+                answer
+            },
+            // Past the room.
+            |listing, question, room| {
+                let answer = judged(listing, question, room);
+                if let (Question::Translations(_), 34) = (question, answer.number) {
+                    let end = room.bytes.len() - MARGIN;
+                    room.bytes[end] = b'\n';
+                }
+                answer
+            },
+            // Though it refuses.
+            |listing, question, room| {
+                let answer = judged(listing, question, room);
+                if answer.number == 37 {
+                    if let Some(first) = room.bytes().first_mut() {
+                        *first = b'M';
+                    }
+                }
+                answer
+            },
+            |listing, question, room| {
+                let answer = judged(listing, question, room);
+                if answer.number == 34 {
+                    if let Some(first) = room.numbers().first_mut() {
+                        *first = 1;
+                    }
+                }
+                answer
+            },
+        ];
+        for (number, error) in wrong.into_iter().enumerate() {
+            assert!(differ(error) > 0, "error {number}");
+        }
+    }
+
+    #[test]
+    fn a_number_that_is_never_the_answer_fails() {
+        let mut lookups = Lookups::new(boundary::ask, None);
+        lookups.kind("none", std::iter::empty());
+        assert_eq!(lookups.unmet().len(), 37);
+        assert!(!lookups.close());
+    }
+
+    #[test]
+    fn first_differences_are_told_from_the_start_of_the_room() {
+        let (mut room, other) = (Room::new(3), Room::new(3));
+        assert_eq!(first_difference(&room, &other), None);
+        room.bytes()[2] = 7;
+        let told = first_difference(&room, &other);
+        assert_eq!(told.as_deref(), Some("byte 2 is 7, by the referee 138"));
+        room.numbers[MARGIN - 1] = 5;
+        let told = first_difference(&room, &other);
+        let said = "number -1 is 5, by the referee 3735879687";
+        assert_eq!(told.as_deref(), Some(said));
+    }
+
+    #[test]
+    fn the_archive_agrees() {
+        let mut lookups = Lookups::new(boundary::ask, None);
+        lookups.kind("generated", layout::generated(60, 1));
+        assert_eq!(lookups.count.differ, 0);
+        assert!(lookups.count.cases > 1000);
+    }
+}

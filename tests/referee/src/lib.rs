@@ -1,0 +1,25 @@
+//! The independent referee of Dreichnook, written from document 01 alone.
+#![forbid(unsafe_code)]
+
+pub mod automaton;
+mod cds;
+pub mod coding;
+pub mod generate;
+pub mod hand;
+pub mod layout;
+mod listing;
+pub mod location;
+pub mod regex;
+pub mod text;
+mod tree;
+mod values;
+
+pub use coding::{codon_letter, translate, StopInside};
+pub use layout::layout;
+pub use listing::{
+    broken, verdict_lines, Counts, FeatureAnswer, Listing, QualifierAnswer, Refusal,
+    SequenceAnswer, SpansAnswer,
+};
+pub use location::{location, Location, Operator, Span};
+pub use text::Part;
+pub use values::{Broken, Kind};
