@@ -26,13 +26,23 @@ enum-known-fault : tie.Need-enum-known-fault
 enum-known-fault c = search needs
 
 returns : tie.Need-returns
-returns c = refused-so (subst (ShapeSays (now (c .before .before .before .before .before .args .listing))) (c .before .rule .given .1) (c .before .before .before .layout .ensures))
+returns c =
+    let args = c .before .before .before .before .before .args in
+    refused-so (subst (ShapeSays (now (args .listing))) (c .before .rule .given .1) (c .before .before .before .layout .ensures))
 
 returns-2 : tie.Need-returns-2
-returns-2 c = accepted-so (subst (ShapeSays (now (c .before .before .before .before .before .before .before .args .listing))) (c .before .before .before .enum-told .given .1) (c .before .before .before .before .before .layout .ensures)) (c .before .before .judge .ensures) refl (c .enum-told2 .given .1)
+returns-2 c =
+    let args = c .before .before .before .before .before .before .before .args in
+    let layout = c .before .before .before .before .before .layout in
+    accepted-so (subst (ShapeSays (now (args .listing))) (c .before .before .before .enum-told .given .1) (layout .ensures))
+    (c .before .before .judge .ensures) refl (c .enum-told2 .given .1)
 
 returns-3 : tie.Need-returns-3
-returns-3 c = broken-so (subst (ShapeSays (now (c .before .before .before .before .before .before .before .before .args .listing))) (c .before .before .before .before .enum-told .given .1) (c .before .before .before .before .before .before .layout .ensures)) (c .before .before .before .judge .ensures) refl (c .before .fault .given .1)
+returns-3 c =
+    let args = c .before .before .before .before .before .before .before .before .args in
+    let layout = c .before .before .before .before .before .before .layout in
+    broken-so (subst (ShapeSays (now (args .listing))) (c .before .before .before .before .enum-told .given .1) (layout .ensures))
+    (c .before .before .before .judge .ensures) refl (c .before .fault .given .1)
 
 pub check-spec : {M : Type 1} → statement M
 check-spec =

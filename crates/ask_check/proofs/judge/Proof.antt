@@ -39,7 +39,11 @@ earlier-requires-2 c κs = search needs
 
 returns : tie.Need-returns
 returns c =
-    listing-judged (c .before .earlier .result) (c .earlier2 .result) (c .before .before .before .before .before .before .before .before .before .before .before .judge-header .ensures) (c .before .before .before .before .before .judge-sequences .ensures) (c .before .before .before .before .bytes-of .ensures) (c .before .before .before .is-number .ensures) (c .before .before .unless .ensures) (c .before .earlier .ensures) (c .earlier2 .ensures)
+    let judge-header = c .before .before .before .before .before .before .before .before .before .before .before .judge-header in
+    let judge-sequences = c .before .before .before .before .before .judge-sequences in
+    listing-judged (c .before .earlier .result) (c .earlier2 .result) (judge-header .ensures) (judge-sequences .ensures)
+    (c .before .before .before .before .bytes-of .ensures) (c .before .before .before .is-number .ensures)
+    (c .before .before .unless .ensures) (c .before .earlier .ensures) (c .earlier2 .ensures)
 
 pub judge-spec : {M : Type 1} → statement M
 judge-spec =

@@ -21,10 +21,17 @@ feature-in-requires : tie.Need-feature-in-requires
 feature-in-requires c κs = search needs
 
 returns : tie.Need-returns
-returns c = paper.earlier (subst (SequenceAsked (now (c .before .before .before .before .before .args .listing)) (c .before .before .before .before .before .args .k)) (c .before .rule .given .1) (c .before .before .before .find-sequence .ensures))
+returns c =
+    let args = c .before .before .before .before .before .args in
+    paper.earlier
+    (subst (SequenceAsked (now (args .listing)) (args .k)) (c .before .rule .given .1) (c .before .before .before .find-sequence .ensures))
 
 returns-2 : tie.Need-returns-2
-returns-2 c = feature-asked (subst (SequenceAsked (now (c .before .before .before .before .before .before .args .listing)) (c .before .before .before .before .before .before .args .k)) (c .before .before .sequence .given .1) (c .before .before .before .before .find-sequence .ensures)) (c .feature-in .result) (c .feature-in .ensures)
+returns-2 c =
+    let args = c .before .before .before .before .before .before .args in
+    feature-asked
+    (subst (SequenceAsked (now (args .listing)) (args .k)) (c .before .before .sequence .given .1) (c .before .before .before .before .find-sequence .ensures))
+    (c .feature-in .result) (c .feature-in .ensures)
 
 pub find-feature-spec : {M : Type 1} → statement M
 find-feature-spec =

@@ -21,10 +21,17 @@ qualifier-in-requires : tie.Need-qualifier-in-requires
 qualifier-in-requires c κs = search needs
 
 returns : tie.Need-returns
-returns c = paper.earlier (subst (FeatureAsked (now (c .before .before .before .before .before .args .listing)) (c .before .before .before .before .before .args .k) (c .before .before .before .before .before .args .j)) (c .before .rule .given .1) (c .before .before .before .find-feature .ensures))
+returns c =
+    let args = c .before .before .before .before .before .args in
+    paper.earlier
+    (subst (FeatureAsked (now (args .listing)) (args .k) (args .j)) (c .before .rule .given .1) (c .before .before .before .find-feature .ensures))
 
 returns-2 : tie.Need-returns-2
-returns-2 c = qualifier-asked (subst (FeatureAsked (now (c .before .before .before .before .before .before .args .listing)) (c .before .before .before .before .before .before .args .k) (c .before .before .before .before .before .before .args .j)) (c .before .before .feature .given .1) (c .before .before .before .before .find-feature .ensures)) (c .qualifier-in .result) (c .qualifier-in .ensures)
+returns-2 c =
+    let args = c .before .before .before .before .before .before .args in
+    qualifier-asked
+    (subst (FeatureAsked (now (args .listing)) (args .k) (args .j)) (c .before .before .feature .given .1) (c .before .before .before .before .find-feature .ensures))
+    (c .qualifier-in .result) (c .qualifier-in .ensures)
 
 pub find-qualifier-spec : {M : Type 1} → statement M
 find-qualifier-spec =

@@ -34,16 +34,36 @@ is-skipped-requires : tie.Need-is-skipped-requires
 is-skipped-requires c κs = search needs
 
 returns : tie.Need-returns
-returns c = skipped-so (subst (FindsFirst (now (c .before .before .before .before .before .before .before .before .before .before .before .before .args .listing))) (c .before .before .before .before .before .before .before .before .first .given .1) (c .before .before .before .before .before .before .before .before .before .before .first-sequence .ensures)) (placed (c .before .before .before .before .at .given .1) (c .before .before .before .before .before .before .nth .ensures)) (c .before .before .sequence .ensures) (c .before .is-skipped .ensures) (c .if1 .taken)
+returns c =
+    let args = c .before .before .before .before .before .before .before .before .before .before .before .before .args in
+    let first-sequence = c .before .before .before .before .before .before .before .before .before .before .first-sequence in
+    let first = c .before .before .before .before .before .before .before .before .first in
+    let nth = c .before .before .before .before .before .before .nth in
+    skipped-so (subst (FindsFirst (now (args .listing))) (first .given .1) (first-sequence .ensures))
+    (placed (c .before .before .before .before .at .given .1) (nth .ensures)) (c .before .before .sequence .ensures)
+    (c .before .is-skipped .ensures) (c .if1 .taken)
 
 returns-2 : tie.Need-returns-2
-returns-2 c = paper.own (subst (FindsFirst (now (c .before .before .before .before .before .args .listing))) (c .before .rule .given .1) (c .before .before .before .first-sequence .ensures))
+returns-2 c =
+    let args = c .before .before .before .before .before .args in
+    paper.own (subst (FindsFirst (now (args .listing))) (c .before .rule .given .1) (c .before .before .before .first-sequence .ensures))
 
 returns-3 : tie.Need-returns-3
-returns-3 c = no-sequence (subst (FindsFirst (now (c .before .before .before .before .before .before .before .before .args .listing))) (c .before .before .before .before .first .given .1) (c .before .before .before .before .before .before .first-sequence .ensures)) (placed (c .enum-told .given .1) (c .before .before .nth .ensures))
+returns-3 c =
+    let args = c .before .before .before .before .before .before .before .before .args in
+    let first-sequence = c .before .before .before .before .before .before .first-sequence in
+    no-sequence (subst (FindsFirst (now (args .listing))) (c .before .before .before .before .first .given .1) (first-sequence .ensures))
+    (placed (c .enum-told .given .1) (c .before .before .nth .ensures))
 
 returns-4 : tie.Need-returns-4
-returns-4 c = sequence-so (subst (FindsFirst (now (c .before .before .before .before .before .before .before .before .before .before .before .before .args .listing))) (c .before .before .before .before .before .before .before .before .first .given .1) (c .before .before .before .before .before .before .before .before .before .before .first-sequence .ensures)) (placed (c .before .before .before .before .at .given .1) (c .before .before .before .before .before .before .nth .ensures)) (c .before .before .sequence .ensures) (c .before .is-skipped .ensures) (c .if1 .left)
+returns-4 c =
+    let args = c .before .before .before .before .before .before .before .before .before .before .before .before .args in
+    let first-sequence = c .before .before .before .before .before .before .before .before .before .before .first-sequence in
+    let first = c .before .before .before .before .before .before .before .before .first in
+    let nth = c .before .before .before .before .before .before .nth in
+    sequence-so (subst (FindsFirst (now (args .listing))) (first .given .1) (first-sequence .ensures))
+    (placed (c .before .before .before .before .at .given .1) (nth .ensures)) (c .before .before .sequence .ensures)
+    (c .before .is-skipped .ensures) (c .if1 .left)
 
 pub find-sequence-spec : {M : Type 1} → statement M
 find-sequence-spec =

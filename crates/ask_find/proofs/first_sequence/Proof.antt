@@ -20,10 +20,15 @@ judge-header-requires : tie.Need-judge-header-requires
 judge-header-requires c κs = search needs
 
 returns : tie.Need-returns
-returns c = subst (CheckSays (now (c .before .before .before .before .before .args .listing))) (c .before .rule .given .1) (c .before .before .before .check .ensures)
+returns c =
+    let args = c .before .before .before .before .before .args in
+    subst (CheckSays (now (args .listing))) (c .before .rule .given .1) (c .before .before .before .check .ensures)
 
 returns-2 : tie.Need-returns-2
-returns-2 c = first-found (subst (CheckSays (now (c .before .before .before .before .before .args .listing))) (c .before .enum-told .given .1) (c .before .before .before .check .ensures)) (c .judge-header .ensures)
+returns-2 c =
+    let args = c .before .before .before .before .before .args in
+    first-found (subst (CheckSays (now (args .listing))) (c .before .enum-told .given .1) (c .before .before .before .check .ensures))
+    (c .judge-header .ensures)
 
 pub first-sequence-spec : {M : Type 1} → statement M
 first-sequence-spec =

@@ -29,10 +29,20 @@ stretch-of-requires-2 : tie.Need-stretch-of-requires-2
 stretch-of-requires-2 c κs = search needs
 
 returns : tie.Need-returns
-returns c = feature-refused (subst (FeatureAsked (now (c .before .before .before .before .before .before .before .args .listing)) (c .before .before .before .before .before .before .before .args .k) (c .before .before .before .before .before .before .before .args .j)) (c .before .before .before .rule .given .1) (c .before .before .before .before .before .find-feature .ensures)) (c .before .no-stretch .ensures) (c .no-stretch2 .ensures)
+returns c =
+    let args = c .before .before .before .before .before .before .before .args in
+    let find-feature = c .before .before .before .before .before .find-feature in
+    feature-refused
+    (subst (FeatureAsked (now (args .listing)) (args .k) (args .j)) (c .before .before .before .rule .given .1) (find-feature .ensures))
+    (c .before .no-stretch .ensures) (c .no-stretch2 .ensures)
 
 returns-2 : tie.Need-returns-2
-returns-2 c = feature-located (subst (FeatureAsked (now (c .before .before .before .before .before .before .before .args .listing)) (c .before .before .before .before .before .before .before .args .k) (c .before .before .before .before .before .before .before .args .j)) (c .before .before .before .feature .given .1) (c .before .before .before .before .before .find-feature .ensures)) (c .before .stretch-of .ensures) (c .stretch-of2 .ensures)
+returns-2 c =
+    let args = c .before .before .before .before .before .before .before .args in
+    let find-feature = c .before .before .before .before .before .find-feature in
+    feature-located
+    (subst (FeatureAsked (now (args .listing)) (args .k) (args .j)) (c .before .before .before .feature .given .1) (find-feature .ensures))
+    (c .before .stretch-of .ensures) (c .stretch-of2 .ensures)
 
 pub locate-feature-spec : {M : Type 1} → statement M
 locate-feature-spec =

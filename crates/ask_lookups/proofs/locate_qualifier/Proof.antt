@@ -32,10 +32,20 @@ value-stretch-requires : tie.Need-value-stretch-requires
 value-stretch-requires c κs = search needs
 
 returns : tie.Need-returns
-returns c = qualifier-refused (subst (QualifierAsked (now (c .before .before .before .before .before .before .before .args .listing)) (c .before .before .before .before .before .before .before .args .k) (c .before .before .before .before .before .before .before .args .j) (c .before .before .before .before .before .before .before .args .i)) (c .before .before .before .rule .given .1) (c .before .before .before .before .before .find-qualifier .ensures)) (c .before .no-stretch .ensures) (c .no-stretch2 .ensures)
+returns c =
+    let args = c .before .before .before .before .before .before .before .args in
+    let find-qualifier = c .before .before .before .before .before .find-qualifier in
+    qualifier-refused
+    (subst (QualifierAsked (now (args .listing)) (args .k) (args .j) (args .i)) (c .before .before .before .rule .given .1) (find-qualifier .ensures))
+    (c .before .no-stretch .ensures) (c .no-stretch2 .ensures)
 
 returns-2 : tie.Need-returns-2
-returns-2 c = qualifier-located (subst (QualifierAsked (now (c .before .before .before .before .before .before .before .before .args .listing)) (c .before .before .before .before .before .before .before .before .args .k) (c .before .before .before .before .before .before .before .before .args .j) (c .before .before .before .before .before .before .before .before .args .i)) (c .before .before .before .before .found .given .1) (c .before .before .before .before .before .before .find-qualifier .ensures)) (c .before .before .stretch-of .ensures) (c .before .is-present .ensures) (c .value-stretch .ensures)
+returns-2 c =
+    let args = c .before .before .before .before .before .before .before .before .args in
+    let find-qualifier = c .before .before .before .before .before .before .find-qualifier in
+    qualifier-located
+    (subst (QualifierAsked (now (args .listing)) (args .k) (args .j) (args .i)) (c .before .before .before .before .found .given .1) (find-qualifier .ensures))
+    (c .before .before .stretch-of .ensures) (c .before .is-present .ensures) (c .value-stretch .ensures)
 
 pub locate-qualifier-spec : {M : Type 1} → statement M
 locate-qualifier-spec =

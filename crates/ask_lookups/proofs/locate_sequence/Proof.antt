@@ -32,10 +32,20 @@ stretch-of-requires : tie.Need-stretch-of-requires
 stretch-of-requires c κs = search needs
 
 returns : tie.Need-returns
-returns c = sequence-refused (subst (SequenceAsked (now (c .before .before .before .before .before .before .args .listing)) (c .before .before .before .before .before .before .args .k)) (c .before .before .rule .given .1) (c .before .before .before .before .find-sequence .ensures)) (c .no-stretch .ensures)
+returns c =
+    let args = c .before .before .before .before .before .before .args in
+    sequence-refused
+    (subst (SequenceAsked (now (args .listing)) (args .k)) (c .before .before .rule .given .1) (c .before .before .before .before .find-sequence .ensures))
+    (c .no-stretch .ensures)
 
 returns-2 : tie.Need-returns-2
-returns-2 c = sequence-located (subst (SequenceAsked (now (c .before .before .before .before .before .before .before .before .before .before .args .listing)) (c .before .before .before .before .before .before .before .before .before .before .args .k)) (c .before .before .before .before .before .before .found .given .1) (c .before .before .before .before .before .before .before .before .find-sequence .ensures)) (c .before .before .before .bytes-of .ensures) (c .before .before .kind-of .ensures) (c .before .kind-number .ensures) (c .stretch-of .ensures)
+returns-2 c =
+    let args = c .before .before .before .before .before .before .before .before .before .before .args in
+    let find-sequence = c .before .before .before .before .before .before .before .before .find-sequence in
+    let found = c .before .before .before .before .before .before .found in
+    sequence-located (subst (SequenceAsked (now (args .listing)) (args .k)) (found .given .1) (find-sequence .ensures))
+    (c .before .before .before .bytes-of .ensures) (c .before .before .kind-of .ensures) (c .before .kind-number .ensures)
+    (c .stretch-of .ensures)
 
 pub locate-sequence-spec : {M : Type 1} → statement M
 locate-sequence-spec =

@@ -47,31 +47,63 @@ no-spans-requires-4 : tie.Need-no-spans-requires-4
 no-spans-requires-4 c κs = search needs
 
 returns : tie.Need-returns
-returns c = spans-refused (subst (FeatureAsked (now (c .before .before .before .before .before .before .before .args .listing)) (c .before .before .before .before .before .before .before .args .k) (c .before .before .before .before .before .before .before .args .j)) (c .before .before .rule .given .1) (c .before .before .before .before .find-feature .ensures)) (c .no-spans .ensures)
+returns c =
+    let args = c .before .before .before .before .before .before .before .args in
+    spans-refused
+    (subst (FeatureAsked (now (args .listing)) (args .k) (args .j)) (c .before .before .rule .given .1) (c .before .before .before .before .find-feature .ensures))
+    (c .no-spans .ensures)
 
 same-length : tie.Need-same-length
 same-length c = search needs
 
 returns-2 : tie.Need-returns-2
-returns-2 c = spans-found (subst (FeatureAsked (now (c .before .before .before .before .before .before .before .before .before .before .before .before .before .before .before .args .listing)) (c .before .before .before .before .before .before .before .before .before .before .before .before .before .before .before .args .k) (c .before .before .before .before .before .before .before .before .before .before .before .before .before .before .before .args .j)) (c .before .before .before .before .before .before .before .before .before .before .sequence .given .1) (c .before .before .before .before .before .before .before .before .before .before .before .before .find-feature .ensures)) (c .before .before .before .before .before .before .before .before .known-of .ensures) (c .before .before .before .before .before .spans .ensures) (c .before .operator .given .1)
+returns-2 c =
+    let args = c .before .before .before .before .before .before .before .before .before .before .before .before .before .before .before .args in
+    let find-feature = c .before .before .before .before .before .before .before .before .before .before .before .before .find-feature in
+    let sequence = c .before .before .before .before .before .before .before .before .before .before .sequence in
+    let known-of = c .before .before .before .before .before .before .before .before .known-of in
+    let spans' = c .before .before .before .before .before .spans in
+    spans-found (subst (FeatureAsked (now (args .listing)) (args .k) (args .j)) (sequence .given .1) (find-feature .ensures))
+    (known-of .ensures) (spans' .ensures) (c .before .operator .given .1)
 
 same-length-2 : tie.Need-same-length-2
 same-length-2 c = search needs
 
 returns-3 : tie.Need-returns-3
-returns-3 c = spans-short (subst (FeatureAsked (now (c .before .before .before .before .before .before .before .before .before .before .before .before .before .before .before .args .listing)) (c .before .before .before .before .before .before .before .before .before .before .before .before .before .before .before .args .k) (c .before .before .before .before .before .before .before .before .before .before .before .before .before .before .before .args .j)) (c .before .before .before .before .before .before .before .before .before .before .sequence .given .1) (c .before .before .before .before .before .before .before .before .before .before .before .before .find-feature .ensures)) (c .before .before .before .before .before .before .before .before .known-of .ensures) (c .before .before .before .before .before .spans .ensures) (c .before .enum-told .given .1) (c .no-spans2 .ensures)
+returns-3 c =
+    let args = c .before .before .before .before .before .before .before .before .before .before .before .before .before .before .before .args in
+    let find-feature = c .before .before .before .before .before .before .before .before .before .before .before .before .find-feature in
+    let sequence = c .before .before .before .before .before .before .before .before .before .before .sequence in
+    let known-of = c .before .before .before .before .before .before .before .before .known-of in
+    let spans' = c .before .before .before .before .before .spans in
+    spans-short (subst (FeatureAsked (now (args .listing)) (args .k) (args .j)) (sequence .given .1) (find-feature .ensures))
+    (known-of .ensures) (spans' .ensures) (c .before .enum-told .given .1) (c .no-spans2 .ensures)
 
 same-length-3 : tie.Need-same-length-3
 same-length-3 c = search needs
 
 returns-4 : tie.Need-returns-4
-returns-4 c = spans-none (subst (FeatureAsked (now (c .before .before .before .before .before .before .before .before .before .before .before .before .before .before .before .args .listing)) (c .before .before .before .before .before .before .before .before .before .before .before .before .before .before .before .args .k) (c .before .before .before .before .before .before .before .before .before .before .before .before .before .before .before .args .j)) (c .before .before .before .before .before .before .before .before .before .before .sequence .given .1) (c .before .before .before .before .before .before .before .before .before .before .before .before .find-feature .ensures)) (c .before .before .before .before .before .before .before .before .known-of .ensures) (c .before .before .before .before .before .spans .ensures) (c .before .enum-told2 .given .1)
+returns-4 c =
+    let args = c .before .before .before .before .before .before .before .before .before .before .before .before .before .before .before .args in
+    let find-feature = c .before .before .before .before .before .before .before .before .before .before .before .before .find-feature in
+    let sequence = c .before .before .before .before .before .before .before .before .before .before .sequence in
+    let known-of = c .before .before .before .before .before .before .before .before .known-of in
+    let spans' = c .before .before .before .before .before .spans in
+    spans-none (subst (FeatureAsked (now (args .listing)) (args .k) (args .j)) (sequence .given .1) (find-feature .ensures))
+    (known-of .ensures) (spans' .ensures) (c .before .enum-told2 .given .1)
 
 same-length-4 : tie.Need-same-length-4
 same-length-4 c = search needs
 
 returns-5 : tie.Need-returns-5
-returns-5 c = spans-wrong (subst (FeatureAsked (now (c .before .before .before .before .before .before .before .before .before .before .before .before .before .before .before .args .listing)) (c .before .before .before .before .before .before .before .before .before .before .before .before .before .before .before .args .k) (c .before .before .before .before .before .before .before .before .before .before .before .before .before .before .before .args .j)) (c .before .before .before .before .before .before .before .before .before .before .sequence .given .1) (c .before .before .before .before .before .before .before .before .before .before .before .before .find-feature .ensures)) (c .before .before .before .before .before .before .before .before .known-of .ensures) (c .before .before .before .before .before .spans .ensures) (c .before .enum-told3 .given .1)
+returns-5 c =
+    let args = c .before .before .before .before .before .before .before .before .before .before .before .before .before .before .before .args in
+    let find-feature = c .before .before .before .before .before .before .before .before .before .before .before .before .find-feature in
+    let sequence = c .before .before .before .before .before .before .before .before .before .before .sequence in
+    let known-of = c .before .before .before .before .before .before .before .before .known-of in
+    let spans' = c .before .before .before .before .before .spans in
+    spans-wrong (subst (FeatureAsked (now (args .listing)) (args .k) (args .j)) (sequence .given .1) (find-feature .ensures))
+    (known-of .ensures) (spans' .ensures) (c .before .enum-told3 .given .1)
 
 pub spans-spec : {M : Type 1} → statement M
 spans-spec =

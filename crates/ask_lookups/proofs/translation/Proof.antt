@@ -32,13 +32,22 @@ translate-requires : tie.Need-translate-requires
 translate-requires c κs = search needs
 
 returns : tie.Need-returns
-returns c = translation-refused (subst (FeatureAsked (now (c .before .before .before .before .before .before .args .listing)) (c .before .before .before .before .before .before .args .k) (c .before .before .before .before .before .before .args .j)) (c .before .rule .given .1) (c .before .before .before .find-feature .ensures))
+returns c =
+    let args = c .before .before .before .before .before .before .args in
+    translation-refused
+    (subst (FeatureAsked (now (args .listing)) (args .k) (args .j)) (c .before .rule .given .1) (c .before .before .before .find-feature .ensures))
 
 same-length : tie.Need-same-length
 same-length c = search needs
 
 returns-2 : tie.Need-returns-2
-returns-2 c = translation-found (subst (FeatureAsked (now (c .before .before .before .before .before .before .before .before .before .before .before .before .before .before .before .before .before .args .listing)) (c .before .before .before .before .before .before .before .before .before .before .before .before .before .before .before .before .before .args .k) (c .before .before .before .before .before .before .before .before .before .before .before .before .before .before .before .before .before .args .j)) (c .before .before .before .before .before .before .before .before .before .before .before .before .sequence .given .1) (c .before .before .before .before .before .before .before .before .before .before .before .before .before .before .find-feature .ensures)) (c .before .before .before .before .before .before .before .before .before .before .known-of .ensures) (c .before .before .translate .ensures)
+returns-2 c =
+    let args = c .before .before .before .before .before .before .before .before .before .before .before .before .before .before .before .before .before .args in
+    let find-feature = c .before .before .before .before .before .before .before .before .before .before .before .before .before .before .find-feature in
+    let sequence = c .before .before .before .before .before .before .before .before .before .before .before .before .sequence in
+    let known-of = c .before .before .before .before .before .before .before .before .before .before .known-of in
+    translation-found (subst (FeatureAsked (now (args .listing)) (args .k) (args .j)) (sequence .given .1) (find-feature .ensures))
+    (known-of .ensures) (c .before .before .translate .ensures)
 
 pub translation-spec : {M : Type 1} → statement M
 translation-spec =

@@ -32,13 +32,22 @@ translate-all-requires : tie.Need-translate-all-requires
 translate-all-requires c κs = search needs
 
 returns : tie.Need-returns
-returns c = translations-refused (subst (SequenceAsked (now (c .before .before .before .before .before .before .args .listing)) (c .before .before .before .before .before .before .args .k)) (c .before .rule .given .1) (c .before .before .before .find-sequence .ensures))
+returns c =
+    let args = c .before .before .before .before .before .before .args in
+    translations-refused
+    (subst (SequenceAsked (now (args .listing)) (args .k)) (c .before .rule .given .1) (c .before .before .before .find-sequence .ensures))
 
 same-length : tie.Need-same-length
 same-length c = search needs
 
 returns-2 : tie.Need-returns-2
-returns-2 c = translations-found (subst (SequenceAsked (now (c .before .before .before .before .before .before .before .before .before .before .before .before .before .before .before .before .before .before .args .listing)) (c .before .before .before .before .before .before .before .before .before .before .before .before .before .before .before .before .before .before .args .k)) (c .before .before .before .before .before .before .before .before .before .before .before .before .before .sequence .given .1) (c .before .before .before .before .before .before .before .before .before .before .before .before .before .before .before .find-sequence .ensures)) (c .before .before .before .before .before .before .before .before .before .before .before .known-of .ensures) (c .before .before .translate-all .ensures)
+returns-2 c =
+    let args = c .before .before .before .before .before .before .before .before .before .before .before .before .before .before .before .before .before .before .args in
+    let find-sequence = c .before .before .before .before .before .before .before .before .before .before .before .before .before .before .before .find-sequence in
+    let sequence = c .before .before .before .before .before .before .before .before .before .before .before .before .before .sequence in
+    let known-of = c .before .before .before .before .before .before .before .before .before .before .before .known-of in
+    translations-found (subst (SequenceAsked (now (args .listing)) (args .k)) (sequence .given .1) (find-sequence .ensures))
+    (known-of .ensures) (c .before .before .translate-all .ensures)
 
 pub translations-spec : {M : Type 1} → statement M
 translations-spec =

@@ -27,10 +27,21 @@ enum-known-n : tie.Need-enum-known-n
 enum-known-n c = search needs
 
 returns-2 : tie.Need-returns-2
-returns-2 c = plan-unjudged (c .before .before .before .before .before .before .bytes-of .ensures) (c .before .before .before .before .before .is-coding .ensures) (c .before .before .before .judge-location .result) (not-false (c .before .before .before .before .before .is-coding .result) (c .before .before .before .before .if1 .left)) (c .before .before .before .judge-location .ensures) (c .before .before .start-of .ensures) (c .enum-told .given .1)
+returns-2 c =
+    let bytes-of = c .before .before .before .before .before .before .bytes-of in
+    let is-coding = c .before .before .before .before .before .is-coding in
+    plan-unjudged (bytes-of .ensures) (is-coding .ensures) (c .before .before .before .judge-location .result)
+    (not-false (is-coding .result) (c .before .before .before .before .if1 .left)) (c .before .before .before .judge-location .ensures)
+    (c .before .before .start-of .ensures) (c .enum-told .given .1)
 
 returns-3 : tie.Need-returns-3
-returns-3 c = plan-from (c .before .before .before .before .before .before .before .bytes-of .ensures) (c .before .before .before .before .before .before .is-coding .ensures) (c .before .before .before .before .judge-location .result) (not-false (c .before .before .before .before .before .before .is-coding .result) (c .before .before .before .before .before .if1 .left)) (c .before .before .before .before .judge-location .ensures) (c .before .before .before .start-of .ensures) (c .before .n .given .1)
+returns-3 c =
+    let bytes-of = c .before .before .before .before .before .before .before .bytes-of in
+    let is-coding = c .before .before .before .before .before .before .is-coding in
+    let if1 = c .before .before .before .before .before .if1 in
+    plan-from (bytes-of .ensures) (is-coding .ensures) (c .before .before .before .before .judge-location .result)
+    (not-false (is-coding .result) (if1 .left)) (c .before .before .before .before .judge-location .ensures)
+    (c .before .before .before .start-of .ensures) (c .before .n .given .1)
 
 pub plan-of-spec : {M : Type 1} → statement M
 plan-of-spec =

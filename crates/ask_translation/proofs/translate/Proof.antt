@@ -56,19 +56,39 @@ same-length : tie.Need-same-length
 same-length c = search needs
 
 returns-3 : tie.Need-returns-3
-returns-3 c = one-is (c .before .before .before .before .before .before .before .before .before .before .before .before .plan-of .ensures) (c .before .before .before .before .before .before .before .before .before .before .start .given .1) (c .before .before .before .before .before .before .before .before .bytes-of .ensures) (c .before .before .before .before .before .before .before .bytes-of2 .ensures) (c .before .before .before .before .before .write .ensures) (c .before .n .given .1)
+returns-3 c =
+    let plan-of = c .before .before .before .before .before .before .before .before .before .before .before .before .plan-of in
+    let start = c .before .before .before .before .before .before .before .before .before .before .start in
+    let bytes-of = c .before .before .before .before .before .before .before .before .bytes-of in
+    let bytes-of2 = c .before .before .before .before .before .before .before .bytes-of2 in
+    let write = c .before .before .before .before .before .write in
+    one-is (plan-of .ensures) (start .given .1) (bytes-of .ensures) (bytes-of2 .ensures) (write .ensures) (c .before .n .given .1)
 
 same-length-2 : tie.Need-same-length-2
 same-length-2 c = search needs
 
 returns-4 : tie.Need-returns-4
-returns-4 c = answered (c .refused3 .ensures) (one-short (c .before .before .before .before .before .before .before .before .before .before .before .before .plan-of .ensures) (c .before .before .before .before .before .before .before .before .before .before .start .given .1) (c .before .before .before .before .before .before .before .before .bytes-of .ensures) (c .before .before .before .before .before .before .before .bytes-of2 .ensures) (c .before .before .before .before .before .write .ensures) (c .before .enum-told3 .given .1))
+returns-4 c =
+    let plan-of = c .before .before .before .before .before .before .before .before .before .before .before .before .plan-of in
+    let start = c .before .before .before .before .before .before .before .before .before .before .start in
+    let bytes-of = c .before .before .before .before .before .before .before .before .bytes-of in
+    let bytes-of2 = c .before .before .before .before .before .before .before .bytes-of2 in
+    let write = c .before .before .before .before .before .write in
+    answered (c .refused3 .ensures)
+    (one-short (plan-of .ensures) (start .given .1) (bytes-of .ensures) (bytes-of2 .ensures) (write .ensures) (c .before .enum-told3 .given .1))
 
 same-length-3 : tie.Need-same-length-3
 same-length-3 c = search needs
 
 returns-5 : tie.Need-returns-5
-returns-5 c = answered (c .refused4 .ensures) (one-stop (c .before .before .before .before .before .before .before .before .before .before .before .before .plan-of .ensures) (c .before .before .before .before .before .before .before .before .before .before .start .given .1) (c .before .before .before .before .before .before .before .before .bytes-of .ensures) (c .before .before .before .before .before .before .before .bytes-of2 .ensures) (c .before .before .before .before .before .write .ensures) (c .before .enum-told4 .given .1))
+returns-5 c =
+    let plan-of = c .before .before .before .before .before .before .before .before .before .before .before .before .plan-of in
+    let start = c .before .before .before .before .before .before .before .before .before .before .start in
+    let bytes-of = c .before .before .before .before .before .before .before .before .bytes-of in
+    let bytes-of2 = c .before .before .before .before .before .before .before .bytes-of2 in
+    let write = c .before .before .before .before .before .write in
+    answered (c .refused4 .ensures)
+    (one-stop (plan-of .ensures) (start .given .1) (bytes-of .ensures) (bytes-of2 .ensures) (write .ensures) (c .before .enum-told4 .given .1))
 
 pub translate-spec : {M : Type 1} → statement M
 translate-spec =

@@ -23,16 +23,22 @@ returns-2 : tie.Need-returns-2
 returns-2 c = adds-second (c .enum-told2 .given .1)
 
 returns-3 : tie.Need-returns-3
-returns-3 c = adds-none (c .before .before .before .before .before .a .given .1) (c .if1 .taken)
+returns-3 c =
+    let a = c .before .before .before .before .before .a in
+    adds-none (a .given .1) (c .if1 .taken)
 
 returns-4 : tie.Need-returns-4
-returns-4 c = adds-over (c .before .before .before .before .before .before .a .given .1) (c .before .before .before .b .given .1) (c .if2 .taken)
+returns-4 c =
+    let a = c .before .before .before .before .before .before .a in
+    adds-over (a .given .1) (c .before .before .before .b .given .1) (c .if2 .taken)
 
 add-t7 : tie.Need-add-t7
 add-t7 c = search needs
 
 returns-5 : tie.Need-returns-5
-returns-5 c = adds-is (c .before .before .before .before .before .before .a .given .1) (c .before .before .before .b .given .1) (c .before .if1 .left) (c .if2 .left)
+returns-5 c =
+    let a = c .before .before .before .before .before .before .a in
+    adds-is (a .given .1) (c .before .before .before .b .given .1) (c .before .if1 .left) (c .if2 .left)
 
 pub both-spec : {M : Type 1} → statement M
 both-spec =

@@ -35,7 +35,13 @@ add-t17 : tie.Need-add-t17
 add-t17 c = search needs
 
 returns : tie.Need-returns
-returns c = size-is (c .before .before .before .before .before .before .before .before .before .before .plan-of .ensures) (c .before .before .before .before .before .before .before .before .start .given .1) (c .before .before .before .before .before .before .bytes-of .ensures) (c .before .before .before .before .before .bytes-of2 .ensures) (c .before .before .before .before .measure .ensures) (c .before .before .n .given .1) (c .if1 .taken)
+returns c =
+    let plan-of = c .before .before .before .before .before .before .before .before .before .before .plan-of in
+    let start = c .before .before .before .before .before .before .before .before .start in
+    let bytes-of = c .before .before .before .before .before .before .bytes-of in
+    let bytes-of2 = c .before .before .before .before .before .bytes-of2 in
+    size-is (plan-of .ensures) (start .given .1) (bytes-of .ensures) (bytes-of2 .ensures)
+    (c .before .before .before .before .measure .ensures) (c .before .before .n .given .1) (c .if1 .taken)
 
 enum-told-3 : tie.Need-enum-told-3
 enum-told-3 c = search needs
@@ -53,13 +59,28 @@ returns-3 : tie.Need-returns-3
 returns-3 c = size-unjudged (c .before .before .before .plan-of .ensures) (c .before .enum-told2 .given .1) (c .dash-size .ensures)
 
 returns-4 : tie.Need-returns-4
-returns-4 c = size-full (c .before .before .before .before .before .before .before .before .before .before .plan-of .ensures) (c .before .before .before .before .before .before .before .before .start .given .1) (c .before .before .before .before .before .before .bytes-of .ensures) (c .before .before .before .before .before .bytes-of2 .ensures) (c .before .before .before .before .measure .ensures) (c .before .before .n .given .1) (c .if1 .left)
+returns-4 c =
+    let plan-of = c .before .before .before .before .before .before .before .before .before .before .plan-of in
+    let start = c .before .before .before .before .before .before .before .before .start in
+    let bytes-of = c .before .before .before .before .before .before .bytes-of in
+    let bytes-of2 = c .before .before .before .before .before .bytes-of2 in
+    size-full (plan-of .ensures) (start .given .1) (bytes-of .ensures) (bytes-of2 .ensures)
+    (c .before .before .before .before .measure .ensures) (c .before .before .n .given .1) (c .if1 .left)
 
 returns-5 : tie.Need-returns-5
-returns-5 c = size-short (c .before .before .before .before .before .before .before .before .plan-of .ensures) (c .before .before .before .before .before .before .start .given .1) (c .before .before .before .before .bytes-of .ensures) (c .before .before .before .bytes-of2 .ensures) (c .before .before .measure .ensures) (c .enum-told3 .given .1)
+returns-5 c =
+    let plan-of = c .before .before .before .before .before .before .before .before .plan-of in
+    let start = c .before .before .before .before .before .before .start in
+    size-short (plan-of .ensures) (start .given .1) (c .before .before .before .before .bytes-of .ensures)
+    (c .before .before .before .bytes-of2 .ensures) (c .before .before .measure .ensures) (c .enum-told3 .given .1)
 
 returns-6 : tie.Need-returns-6
-returns-6 c = size-stop (c .before .before .before .before .before .before .before .before .before .plan-of .ensures) (c .before .before .before .before .before .before .before .start .given .1) (c .before .before .before .before .before .bytes-of .ensures) (c .before .before .before .before .bytes-of2 .ensures) (c .before .before .before .measure .ensures) (c .before .enum-told4 .given .1) (c .dash-size2 .ensures)
+returns-6 c =
+    let plan-of = c .before .before .before .before .before .before .before .before .before .plan-of in
+    let start = c .before .before .before .before .before .before .before .start in
+    let bytes-of = c .before .before .before .before .before .bytes-of in
+    size-stop (plan-of .ensures) (start .given .1) (bytes-of .ensures) (c .before .before .before .before .bytes-of2 .ensures)
+    (c .before .before .before .measure .ensures) (c .before .enum-told4 .given .1) (c .dash-size2 .ensures)
 
 pub line-size-spec : {M : Type 1} → statement M
 line-size-spec =

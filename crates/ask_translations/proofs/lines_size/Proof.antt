@@ -29,7 +29,10 @@ past-requires : tie.Need-past-requires Inv-loop μ-loop
 past-requires c κs = search needs
 
 returns : tie.Need-returns Inv-loop μ-loop
-returns c = sizing-stuck (c .before .before .before .before .feature-here .ensures) (c .before .before .before .before .before .loop .inv) (c .before .before .before .if1 .taken) (c .before .before .feature .ensures) (c .before .past .ensures) (c .if2 .taken)
+returns c =
+    let loop' = c .before .before .before .before .before .loop in
+    sizing-stuck (c .before .before .before .before .feature-here .ensures) (loop' .inv) (c .before .before .before .if1 .taken)
+    (c .before .before .feature .ensures) (c .before .past .ensures) (c .if2 .taken)
 
 line-size-requires : tie.Need-line-size-requires Inv-loop μ-loop
 line-size-requires c κs = search needs
@@ -38,10 +41,20 @@ both-requires : tie.Need-both-requires Inv-loop μ-loop
 both-requires c κs = search needs
 
 loop-less : tie.Need-loop-less Inv-loop μ-loop
-loop-less c = omega (arith, there-inside 60 (bytes "INSDFeature") (now (c .before .before .before .before .before .before .before .before .before .args .s)) (c .before .before .before .before .before .before .before .loop .at) (c .before .before .before .before .before .if1 .taken) (c .before .before .before .before .before .before .feature-here .ensures))
+loop-less c =
+    let args = c .before .before .before .before .before .before .before .before .before .args in
+    let loop' = c .before .before .before .before .before .before .before .loop in
+    let feature-here = c .before .before .before .before .before .before .feature-here in
+    let if1 = c .before .before .before .before .before .if1 in
+    omega (arith, there-inside 60 (bytes "INSDFeature") (now (args .s)) (loop' .at) (if1 .taken) (feature-here .ensures))
 
 loop-again : tie.Need-loop-again Inv-loop μ-loop
-loop-again c = sizing-more (c .before .before .before .before .before .before .feature-here .ensures) (c .before .before .before .before .before .before .before .loop .inv) (c .before .before .before .before .before .if1 .taken) (c .before .before .before .before .feature .ensures) (c .before .before .before .past .ensures) (c .before .line-size .ensures) (c .both .ensures)
+loop-again c =
+    let loop' = c .before .before .before .before .before .before .before .loop in
+    let feature-here = c .before .before .before .before .before .before .feature-here in
+    let if1 = c .before .before .before .before .before .if1 in
+    sizing-more (feature-here .ensures) (loop' .inv) (if1 .taken) (c .before .before .before .before .feature .ensures)
+    (c .before .before .before .past .ensures) (c .before .line-size .ensures) (c .both .ensures)
 
 returns-2 : tie.Need-returns-2 Inv-loop μ-loop
 returns-2 c = sizing-done (c .before .feature-here .ensures) (c .before .before .loop .inv) (c .if1 .left)

@@ -20,13 +20,19 @@ same-length-2 : tie.Need-same-length-2
 same-length-2 c = search needs
 
 returns-2 : tie.Need-returns-2
-returns-2 c = put-dashed (c .before .before .before .before .before .before .before .before .before .before .translate .ensures) (search needs) (c .before .before .before .before .before .before .if1 .left) (c .before .before .before .before .if2 .taken) (c .before .before .put-dash .ensures)
+returns-2 c =
+    let translate = c .before .before .before .before .before .before .before .before .before .before .translate in
+    let if1 = c .before .before .before .before .before .before .if1 in
+    put-dashed (translate .ensures) (search needs) (if1 .left) (c .before .before .before .before .if2 .taken)
+    (c .before .before .put-dash .ensures)
 
 same-length-3 : tie.Need-same-length-3
 same-length-3 c = search needs
 
 returns-3 : tie.Need-returns-3
-returns-3 c = put-full (c .before .before .before .before .before .before .before .translate .ensures) (search needs) (c .before .if2 .left) (c .if3 .taken)
+returns-3 c =
+    let translate = c .before .before .before .before .before .before .before .translate in
+    put-full (translate .ensures) (search needs) (c .before .if2 .left) (c .if3 .taken)
 
 slice-write-out : tie.Need-slice-write-out
 slice-write-out c = search needs
@@ -38,7 +44,9 @@ same-length-4 : tie.Need-same-length-4
 same-length-4 c = search needs
 
 returns-4 : tie.Need-returns-4
-returns-4 c = put-is (c .before .before .before .before .before .before .before .translate .ensures) (search needs) (c .before .if2 .left) (c .if3 .left)
+returns-4 c =
+    let translate = c .before .before .before .before .before .before .before .translate in
+    put-is (translate .ensures) (search needs) (c .before .if2 .left) (c .if3 .left)
 
 pub put-line-spec : {M : Type 1} → statement M
 put-line-spec =

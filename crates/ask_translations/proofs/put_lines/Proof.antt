@@ -29,31 +29,56 @@ past-requires : tie.Need-past-requires Inv-loop μ-loop
 past-requires c κs = search needs
 
 same-length : tie.Need-same-length Inv-loop μ-loop
-same-length c = c .before .before .before .before .before .loop .inv .kept
+same-length c =
+    let loop' = c .before .before .before .before .before .loop in
+    loop' .inv .kept
 
 returns : tie.Need-returns Inv-loop μ-loop
-returns c = putting-stuck (c .before .before .before .before .feature-here .ensures) (c .before .before .before .before .before .loop .inv) (c .before .before .before .if1 .taken) (c .before .before .feature .ensures) (c .before .past .ensures) (c .if2 .taken)
+returns c =
+    let loop' = c .before .before .before .before .before .loop in
+    putting-stuck (c .before .before .before .before .feature-here .ensures) (loop' .inv) (c .before .before .before .if1 .taken)
+    (c .before .before .feature .ensures) (c .before .past .ensures) (c .if2 .taken)
 
 sub-put-line : tie.Need-sub-put-line Inv-loop μ-loop
-sub-put-line c = omega (arith, c .before .before .before .before .before .loop .inv .within)
+sub-put-line c =
+    let loop' = c .before .before .before .before .before .loop in
+    omega (arith, loop' .inv .within)
 
 part-put-line-start : tie.Need-part-put-line-start Inv-loop μ-loop
-part-put-line-start c = omega (arith, c .before .before .before .before .before .loop .inv .within)
+part-put-line-start c =
+    let loop' = c .before .before .before .before .before .loop in
+    omega (arith, loop' .inv .within)
 
 part-put-line-end : tie.Need-part-put-line-end Inv-loop μ-loop
-part-put-line-end c = omega (arith, c .before .before .before .before .before .loop .inv .within)
+part-put-line-end c =
+    let loop' = c .before .before .before .before .before .loop in
+    omega (arith, loop' .inv .within)
 
 put-line-requires : tie.Need-put-line-requires Inv-loop μ-loop
 put-line-requires c κs = search needs
 
 add-end : tie.Need-add-end Inv-loop μ-loop
-add-end c = omega (arith, putting-within (c .before .before .before .before .before .before .before .before .before .loop .inv) (c .before .before .put-line .ensures), c .before .before .before .before .before .before .before .before .before .before .before .before .good .1 .1 .1 .1 .1 .1 .0 .0)
+add-end c =
+    let good = c .before .before .before .before .before .before .before .before .before .before .before .before .good in
+    let loop' = c .before .before .before .before .before .before .before .before .before .loop in
+    omega (arith, putting-within (loop' .inv) (c .before .before .put-line .ensures), good .1 .1 .1 .1 .1 .1 .0 .0)
 
 loop-less : tie.Need-loop-less Inv-loop μ-loop
-loop-less c = omega (arith, there-inside 60 (bytes "INSDFeature") (now (c .before .before .before .before .before .before .before .before .before .before .before .before .args .s)) (c .before .before .before .before .before .before .before .before .before .loop .at) (c .before .before .before .before .before .before .before .if1 .taken) (c .before .before .before .before .before .before .before .before .feature-here .ensures))
+loop-less c =
+    let args = c .before .before .before .before .before .before .before .before .before .before .before .before .args in
+    let loop' = c .before .before .before .before .before .before .before .before .before .loop in
+    let feature-here = c .before .before .before .before .before .before .before .before .feature-here in
+    let if1 = c .before .before .before .before .before .before .before .if1 in
+    omega (arith, there-inside 60 (bytes "INSDFeature") (now (args .s)) (loop' .at) (if1 .taken) (feature-here .ensures))
 
 loop-again : tie.Need-loop-again Inv-loop μ-loop
-loop-again c = putting-more (c .before .before .before .before .before .before .before .before .feature-here .ensures) (c .before .before .before .before .before .before .before .before .before .loop .inv) (c .before .before .before .before .before .before .before .if1 .taken) (c .before .before .before .before .before .before .feature .ensures) (c .before .before .before .before .before .past .ensures) (c .before .before .put-line .ensures)
+loop-again c =
+    let loop' = c .before .before .before .before .before .before .before .before .before .loop in
+    let feature-here = c .before .before .before .before .before .before .before .before .feature-here in
+    let if1 = c .before .before .before .before .before .before .before .if1 in
+    let feature = c .before .before .before .before .before .before .feature in
+    let past = c .before .before .before .before .before .past in
+    putting-more (feature-here .ensures) (loop' .inv) (if1 .taken) (feature .ensures) (past .ensures) (c .before .before .put-line .ensures)
 
 same-length-2 : tie.Need-same-length-2 Inv-loop μ-loop
 same-length-2 c = c .before .before .loop .inv .kept

@@ -27,19 +27,28 @@ slice-relend-prefix-put-lines : tie.Need-slice-relend-prefix-put-lines
 slice-relend-prefix-put-lines c = size-within (c .before .before .before .lines-size .ensures) (c .before .size .given .1)
 
 slice-aggregate-put-lines : tie.Need-slice-aggregate-put-lines
-slice-aggregate-put-lines c = sym (length-take-le (c .before .before .size .given .0 .0) (now (c .before .before .before .before .before .before .before .before .before .args .out)) (size-within (c .before .before .before .before .lines-size .ensures) (c .before .before .size .given .1)))
+slice-aggregate-put-lines c =
+    let args = c .before .before .before .before .before .before .before .before .before .args in
+    sym
+    (length-take-le (c .before .before .size .given .0 .0) (now (args .out)) (size-within (c .before .before .before .before .lines-size .ensures) (c .before .before .size .given .1)))
 
 put-lines-requires : tie.Need-put-lines-requires
 put-lines-requires c κs = search needs
 
 returns-2 : tie.Need-returns-2
-returns-2 c = all-short (not-false _ (c .before .before .before .before .if1 .left)) (c .before .before .before .lines-size .ensures) (c .before .enum-told .given .1) (c .refused .ensures)
+returns-2 c =
+    all-short (not-false _ (c .before .before .before .before .if1 .left)) (c .before .before .before .lines-size .ensures)
+    (c .before .enum-told .given .1) (c .refused .ensures)
 
 same-length : tie.Need-same-length
 same-length c = search needs
 
 returns-3 : tie.Need-returns-3
-returns-3 c = all-is (not-false _ (c .before .before .before .before .before .before .before .before .if1 .left)) (c .before .before .before .before .before .before .before .lines-size .ensures) (c .before .before .before .before .before .size .given .1) (c .before .before .put-lines .ensures)
+returns-3 c =
+    let if1 = c .before .before .before .before .before .before .before .before .if1 in
+    let lines-size = c .before .before .before .before .before .before .before .lines-size in
+    let size = c .before .before .before .before .before .size in
+    all-is (not-false _ (if1 .left)) (lines-size .ensures) (size .given .1) (c .before .before .put-lines .ensures)
 
 pub translate-all-spec : {M : Type 1} → statement M
 translate-all-spec =

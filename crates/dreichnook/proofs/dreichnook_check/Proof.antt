@@ -11,7 +11,9 @@ hand-verdict-requires : tie.Need-hand-verdict-requires
 hand-verdict-requires c κs = search needs
 
 returns : tie.Need-returns
-returns c = check-handed (c .before .before .before .before .before .before .before .check .ensures) (c .hand-verdict .ensures)
+returns c =
+    let check = c .before .before .before .before .before .before .before .check in
+    check-handed (check .ensures) (c .hand-verdict .ensures)
 
 pub dreichnook-check-spec : {M : Type 1} → statement M
 dreichnook-check-spec = tie.close (tie.spec check-requires hand-verdict-requires returns)

@@ -11,7 +11,9 @@ hand-feature-requires : tie.Need-hand-feature-requires
 hand-feature-requires c κs = search needs
 
 returns : tie.Need-returns
-returns c = feature-handed (c .before .before .before .before .before .before .locate-feature .ensures .0) (c .hand-feature .ensures)
+returns c =
+    let locate-feature = c .before .before .before .before .before .before .locate-feature in
+    feature-handed (locate-feature .ensures .0) (c .hand-feature .ensures)
 
 pub dreichnook-feature-spec : {M : Type 1} → statement M
 dreichnook-feature-spec = tie.close (tie.spec locate-feature-requires hand-feature-requires returns)

@@ -11,7 +11,9 @@ hand-qualifier-requires : tie.Need-hand-qualifier-requires
 hand-qualifier-requires c κs = search needs
 
 returns : tie.Need-returns
-returns c = qualifier-handed (c .before .before .before .before .before .before .before .locate-qualifier .ensures .0) (c .hand-qualifier .ensures)
+returns c =
+    let locate-qualifier = c .before .before .before .before .before .before .before .locate-qualifier in
+    qualifier-handed (locate-qualifier .ensures .0) (c .hand-qualifier .ensures)
 
 pub dreichnook-qualifier-spec : {M : Type 1} → statement M
 dreichnook-qualifier-spec = tie.close (tie.spec locate-qualifier-requires hand-qualifier-requires returns)

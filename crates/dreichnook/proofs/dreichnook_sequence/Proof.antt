@@ -11,7 +11,9 @@ hand-sequence-requires : tie.Need-hand-sequence-requires
 hand-sequence-requires c κs = search needs
 
 returns : tie.Need-returns
-returns c = sequence-handed (c .before .before .before .before .before .locate-sequence .ensures .0) (c .hand-sequence .ensures)
+returns c =
+    let locate-sequence = c .before .before .before .before .before .locate-sequence in
+    sequence-handed (locate-sequence .ensures .0) (c .hand-sequence .ensures)
 
 pub dreichnook-sequence-spec : {M : Type 1} → statement M
 dreichnook-sequence-spec = tie.close (tie.spec locate-sequence-requires hand-sequence-requires returns)

@@ -14,7 +14,9 @@ same-length : tie.Need-same-length
 same-length c = search needs
 
 returns : tie.Need-returns
-returns c = spans-handed (c .before .before .before .before .before .before .spans .ensures) (c .hand-spans .ensures)
+returns c =
+    let spans = c .before .before .before .before .before .before .spans in
+    spans-handed (spans .ensures) (c .hand-spans .ensures)
 
 pub dreichnook-spans-spec : {M : Type 1} → statement M
 dreichnook-spans-spec = tie.close (tie.spec spans-requires hand-spans-requires same-length returns)

@@ -14,7 +14,9 @@ same-length : tie.Need-same-length
 same-length c = search needs
 
 returns : tie.Need-returns
-returns c = translation-handed (c .before .before .before .before .before .translation .ensures) (c .hand-translation .ensures)
+returns c =
+    let translation = c .before .before .before .before .before .translation in
+    translation-handed (translation .ensures) (c .hand-translation .ensures)
 
 pub dreichnook-translation-spec : {M : Type 1} → statement M
 dreichnook-translation-spec = tie.close (tie.spec translation-requires hand-translation-requires same-length returns)

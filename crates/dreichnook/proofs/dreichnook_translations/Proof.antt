@@ -14,7 +14,9 @@ same-length : tie.Need-same-length
 same-length c = search needs
 
 returns : tie.Need-returns
-returns c = translations-handed (c .before .before .before .before .before .translations .ensures) (c .hand-translation .ensures)
+returns c =
+    let translations = c .before .before .before .before .before .translations in
+    translations-handed (translations .ensures) (c .hand-translation .ensures)
 
 pub dreichnook-translations-spec : {M : Type 1} → statement M
 dreichnook-translations-spec = tie.close (tie.spec translations-requires hand-translation-requires same-length returns)

@@ -34,7 +34,11 @@ translations-requires c κs = search needs
 
 returns-5 : tie.Need-returns-5
 returns-5 c =
-    region-judged (c .before .before .before .before .before .verdict .given .1) (c .before .before .before .before .before .before .before .before .before .if1 .left) (not-false _ (c .before .before .before .before .before .before .before .if2 .left)) (c .before .before .before .if3 .left) (c .before .before .bytes-of .ensures) (c .before .bytes-of2 .ensures) (c .translations .ensures)
+    let if1 = c .before .before .before .before .before .before .before .before .before .if1 in
+    let if2 = c .before .before .before .before .before .before .before .if2 in
+    let verdict = c .before .before .before .before .before .verdict in
+    region-judged (verdict .given .1) (if1 .left) (not-false _ (if2 .left)) (c .before .before .before .if3 .left)
+    (c .before .before .bytes-of .ensures) (c .before .bytes-of2 .ensures) (c .translations .ensures)
 
 pub region-fault-spec : {M : Type 1} → statement M
 region-fault-spec =

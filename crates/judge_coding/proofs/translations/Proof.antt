@@ -26,16 +26,30 @@ qualifier-requires : tie.Need-qualifier-requires Inv-loop μ-loop
 qualifier-requires c κs = search needs
 
 returns : tie.Need-returns Inv-loop μ-loop
-returns c = checking-stuck (c .before .before .before .before .qualifier-here .ensures) (c .before .before .before .before .before .loop .inv) (c .before .before .before .if1 .taken) (c .before .before .qualifier .ensures) (c .if2 .taken)
+returns c =
+    let loop' = c .before .before .before .before .before .loop in
+    checking-stuck (c .before .before .before .before .qualifier-here .ensures) (loop' .inv) (c .before .before .before .if1 .taken)
+    (c .before .before .qualifier .ensures) (c .if2 .taken)
 
 check-requires : tie.Need-check-requires Inv-loop μ-loop
-check-requires c κs = c .before .before .before .before .before .before .before .before .before .pre
+check-requires c κs =
+    let pre' = c .before .before .before .before .before .before .before .before .before .pre in
+    pre'
 
 loop-less : tie.Need-loop-less Inv-loop μ-loop
-loop-less c = omega (arith, there-inside 60 (bytes "INSDQualifier") (now (c .before .before .before .before .before .before .before .before .before .before .args .s)) (c .before .before .before .before .before .before .loop .at) (c .before .before .before .before .if1 .taken) (c .before .before .before .before .before .qualifier-here .ensures))
+loop-less c =
+    let args = c .before .before .before .before .before .before .before .before .before .before .args in
+    let loop' = c .before .before .before .before .before .before .loop in
+    let qualifier-here = c .before .before .before .before .before .qualifier-here in
+    omega
+    (arith, there-inside 60 (bytes "INSDQualifier") (now (args .s)) (loop' .at) (c .before .before .before .before .if1 .taken) (qualifier-here .ensures))
 
 loop-again : tie.Need-loop-again Inv-loop μ-loop
-loop-again c = checking-next (c .before .before .before .before .before .qualifier-here .ensures) (c .before .before .before .before .before .before .loop .inv) (c .before .before .before .before .if1 .taken) (c .before .before .before .qualifier .ensures) (c .check .ensures)
+loop-again c =
+    let loop' = c .before .before .before .before .before .before .loop in
+    let qualifier-here = c .before .before .before .before .before .qualifier-here in
+    checking-next (qualifier-here .ensures) (loop' .inv) (c .before .before .before .before .if1 .taken)
+    (c .before .before .before .qualifier .ensures) (c .check .ensures)
 
 returns-2 : tie.Need-returns-2 Inv-loop μ-loop
 returns-2 c = checking-done (c .before .qualifier-here .ensures) (c .before .before .loop .inv) (c .if1 .left)

@@ -26,7 +26,10 @@ same-requires : tie.Need-same-requires
 same-requires c κs = search needs
 
 returns-2 : tie.Need-returns-2
-returns-2 c = right-same (c .before .before .before .before .before .bytes-of .ensures) (c .same .result) (c .before .before .before .right .given .1) (c .before .bytes-of2 .ensures) (c .same .ensures)
+returns-2 c =
+    let bytes-of = c .before .before .before .before .before .bytes-of in
+    right-same (bytes-of .ensures) (c .same .result) (c .before .before .before .right .given .1) (c .before .bytes-of2 .ensures)
+    (c .same .ensures)
 
 pub value-right-spec : {M : Type 1} → statement M
 value-right-spec =

@@ -25,16 +25,24 @@ returns-2 : tie.Need-returns-2
 returns-2 c = rw (c .before .before .before .a .given .1, c .enum-told2 .given .1) refl
 
 returns-3 : tie.Need-returns-3
-returns-3 c = rw (c .before .before .before .before .before .a .given .1, c .before .before .b .given .1) (inl (refl, inl (c .if1 .taken)))
+returns-3 c =
+    let a = c .before .before .before .before .before .a in
+    rw (a .given .1, c .before .before .b .given .1) (inl (refl, inl (c .if1 .taken)))
 
 returns-4 : tie.Need-returns-4
-returns-4 c = rw (c .before .before .before .before .before .before .a .given .1, c .before .before .before .b .given .1) (inr (refl, inl (c .if2 .taken)))
+returns-4 c =
+    let a = c .before .before .before .before .before .before .a in
+    rw (a .given .1, c .before .before .before .b .given .1) (inr (refl, inl (c .if2 .taken)))
 
 returns-5 : tie.Need-returns-5
-returns-5 c = rw (c .before .before .before .before .before .before .before .a .given .1, c .before .before .before .before .b .given .1) (inl (refl, inr (omega arith, omega arith)))
+returns-5 c =
+    let a = c .before .before .before .before .before .before .before .a in
+    rw (a .given .1, c .before .before .before .before .b .given .1) (inl (refl, inr (omega arith, omega arith)))
 
 returns-6 : tie.Need-returns-6
-returns-6 c = rw (c .before .before .before .before .before .before .before .a .given .1, c .before .before .before .before .b .given .1) (inr (refl, inr (omega arith, omega arith)))
+returns-6 c =
+    let a = c .before .before .before .before .before .before .before .a in
+    rw (a .given .1, c .before .before .before .before .b .given .1) (inr (refl, inr (omega arith, omega arith)))
 
 pub earlier-spec : {M : Type 1} → statement M
 earlier-spec =

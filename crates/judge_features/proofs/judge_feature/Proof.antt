@@ -33,8 +33,14 @@ judge-source-requires c κs = search needs
 
 returns : tie.Need-returns
 returns c =
-    as-source (c .before .before .before .before .before .before .before .before .judge-location .result) (c .before .before .before .before .before .before .before .before .before .before .before .feature .ensures) (c .before .before .before .before .before .before .before .before .judge-location .ensures) (c .before .before .before .before .before .before .before .judge-place .ensures) (c .before .before .before .before .before .before .bytes-of .ensures) (c .before .before .before .before .before .in-upper .ensures)
-    (c .before .before .before .before .note .ensures) (c .before .before .before .feature-end .ensures) (c .before .before .is-source .ensures) (c .before .if1 .taken) (c .judge-source .ensures)
+    let feature = c .before .before .before .before .before .before .before .before .before .before .before .feature in
+    let judge-location = c .before .before .before .before .before .before .before .before .judge-location in
+    let judge-place = c .before .before .before .before .before .before .before .judge-place in
+    let bytes-of = c .before .before .before .before .before .before .bytes-of in
+    let in-upper = c .before .before .before .before .before .in-upper in
+    as-source (judge-location .result) (feature .ensures) (judge-location .ensures) (judge-place .ensures) (bytes-of .ensures)
+    (in-upper .ensures) (c .before .before .before .before .note .ensures) (c .before .before .before .feature-end .ensures)
+    (c .before .before .is-source .ensures) (c .before .if1 .taken) (c .judge-source .ensures)
 
 is-coding-requires : tie.Need-is-coding-requires
 is-coding-requires c κs = search needs
@@ -50,14 +56,31 @@ role-of-requires c κs = search needs
 
 returns-2 : tie.Need-returns-2
 returns-2 c =
-    as-coding (c .before .before .before .before .before .before .before .before .before .before .before .before .judge-location .result) (c .before .before .before .before .before .before .before .before .before .before .before .before .before .before .before .feature .ensures) (c .before .before .before .before .before .before .before .before .before .before .before .before .judge-location .ensures) (c .before .before .before .before .before .before .before .before .before .before .before .judge-place .ensures) (c .before .before .before .before .before .before .before .before .before .before .bytes-of .ensures) (c .before .before .before .before .before .before .before .before .before .in-upper .ensures)
-    (c .before .before .before .before .before .before .before .before .note .ensures) (c .before .before .before .before .before .before .before .feature-end .ensures) (c .before .before .before .before .before .before .is-source .ensures) (c .before .before .before .before .before .if1 .left) (c .before .before .before .before .is-coding .ensures)
-    (c .before .earlier .result) (c .before .before .before .if2 .taken) (c .before .before .judge-coding .ensures) (c .before .earlier .ensures) (c .role-of .ensures)
+    let feature = c .before .before .before .before .before .before .before .before .before .before .before .before .before .before .before .feature in
+    let judge-location = c .before .before .before .before .before .before .before .before .before .before .before .before .judge-location in
+    let judge-place = c .before .before .before .before .before .before .before .before .before .before .before .judge-place in
+    let bytes-of = c .before .before .before .before .before .before .before .before .before .before .bytes-of in
+    let in-upper = c .before .before .before .before .before .before .before .before .before .in-upper in
+    let note = c .before .before .before .before .before .before .before .before .note in
+    let feature-end = c .before .before .before .before .before .before .before .feature-end in
+    let is-source = c .before .before .before .before .before .before .is-source in
+    let if1 = c .before .before .before .before .before .if1 in
+    as-coding (judge-location .result) (feature .ensures) (judge-location .ensures) (judge-place .ensures) (bytes-of .ensures)
+    (in-upper .ensures) (note .ensures) (feature-end .ensures) (is-source .ensures) (if1 .left)
+    (c .before .before .before .before .is-coding .ensures) (c .before .earlier .result) (c .before .before .before .if2 .taken)
+    (c .before .before .judge-coding .ensures) (c .before .earlier .ensures) (c .role-of .ensures)
 
 returns-3 : tie.Need-returns-3
 returns-3 c =
-    as-plain (c .before .before .before .before .before .before .before .before .before .judge-location .result) (c .before .before .before .before .before .before .before .before .before .before .before .before .feature .ensures) (c .before .before .before .before .before .before .before .before .before .judge-location .ensures) (c .before .before .before .before .before .before .before .before .judge-place .ensures) (c .before .before .before .before .before .before .before .bytes-of .ensures) (c .before .before .before .before .before .before .in-upper .ensures)
-    (c .before .before .before .before .before .note .ensures) (c .before .before .before .before .feature-end .ensures) (c .before .before .before .is-source .ensures) (c .before .before .if1 .left) (c .before .is-coding .ensures) (c .if2 .left)
+    let feature = c .before .before .before .before .before .before .before .before .before .before .before .before .feature in
+    let judge-location = c .before .before .before .before .before .before .before .before .before .judge-location in
+    let judge-place = c .before .before .before .before .before .before .before .before .judge-place in
+    let bytes-of = c .before .before .before .before .before .before .before .bytes-of in
+    let in-upper = c .before .before .before .before .before .before .in-upper in
+    let note = c .before .before .before .before .before .note in
+    as-plain (judge-location .result) (feature .ensures) (judge-location .ensures) (judge-place .ensures) (bytes-of .ensures)
+    (in-upper .ensures) (note .ensures) (c .before .before .before .before .feature-end .ensures)
+    (c .before .before .before .is-source .ensures) (c .before .before .if1 .left) (c .before .is-coding .ensures) (c .if2 .left)
 
 pub judge-feature-spec : {M : Type 1} → statement M
 judge-feature-spec =

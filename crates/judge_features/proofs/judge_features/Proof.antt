@@ -29,18 +29,28 @@ judge-feature-requires : tie.Need-judge-feature-requires Inv-loop μ-loop
 judge-feature-requires c κs = search needs
 
 returns : tie.Need-returns Inv-loop μ-loop
-returns c = adding-stuck (c .before .before .if1 .taken) (c .before .before .before .feature-here .ensures) (c .before .before .before .before .loop .inv) (c .before .judge-feature .ensures) (c .if2 .taken)
+returns c =
+    adding-stuck (c .before .before .if1 .taken) (c .before .before .before .feature-here .ensures)
+    (c .before .before .before .before .loop .inv) (c .before .judge-feature .ensures) (c .if2 .taken)
 
 add-requires : tie.Need-add-requires Inv-loop μ-loop
 add-requires c κs = search needs
 
 loop-less : tie.Need-loop-less Inv-loop μ-loop
-loop-less c = omega (arith, there-inside 60 (bytes "INSDFeature") (now (c .before .before .before .before .before .before .before .before .args .s)) (c .before .before .before .before .before .loop .at) (c .before .before .before .if1 .taken) (c .before .before .before .before .feature-here .ensures))
+loop-less c =
+    let args = c .before .before .before .before .before .before .before .before .args in
+    let loop' = c .before .before .before .before .before .loop in
+    omega
+    (arith, there-inside 60 (bytes "INSDFeature") (now (args .s)) (loop' .at) (c .before .before .before .if1 .taken) (c .before .before .before .before .feature-here .ensures))
 
 loop-again : tie.Need-loop-again Inv-loop μ-loop
 loop-again c =
-    adding-more (c .before .before .before .if1 .taken) (c .before .before .before .before .feature-here .ensures) (c .before .before .before .before .before .loop .inv) (c .before .before .judge-feature .ensures)
-    (there-inside 60 (bytes "INSDFeature") (now (c .before .before .before .before .before .before .before .before .args .s)) (c .before .before .before .before .before .loop .at) (c .before .before .before .if1 .taken) (c .before .before .before .before .feature-here .ensures)) (omega arith) (c .add .ensures)
+    let args = c .before .before .before .before .before .before .before .before .args in
+    let loop' = c .before .before .before .before .before .loop in
+    adding-more (c .before .before .before .if1 .taken) (c .before .before .before .before .feature-here .ensures) (loop' .inv)
+    (c .before .before .judge-feature .ensures)
+    (there-inside 60 (bytes "INSDFeature") (now (args .s)) (loop' .at) (c .before .before .before .if1 .taken) (c .before .before .before .before .feature-here .ensures))
+    (omega arith) (c .add .ensures)
 
 returns-2 : tie.Need-returns-2 Inv-loop μ-loop
 returns-2 c = adding-done (c .if1 .left) (c .before .feature-here .ensures) (c .before .before .loop .inv)

@@ -17,25 +17,33 @@ enum-told-2 : tie.Need-enum-told-2
 enum-told-2 c = search needs
 
 returns-2 : tie.Need-returns-2
-returns-2 c = rw (c .before .before .before .before .before .verdict .given .1, c .before .before .before .if1 .left, c .before .before .if2 .taken, c .enum-told2 .given .1) refl
+returns-2 c =
+    let verdict = c .before .before .before .before .before .verdict in
+    rw (verdict .given .1, c .before .before .before .if1 .left, c .before .before .if2 .taken, c .enum-told2 .given .1) refl
 
 enum-told-3 : tie.Need-enum-told-3
 enum-told-3 c = search needs
 
 returns-3 : tie.Need-returns-3
-returns-3 c = rw (c .before .before .before .before .before .verdict .given .1, c .before .before .before .if1 .left, c .before .before .if2 .taken, c .enum-told3 .given .1) refl
+returns-3 c =
+    let verdict = c .before .before .before .before .before .verdict in
+    rw (verdict .given .1, c .before .before .before .if1 .left, c .before .before .if2 .taken, c .enum-told3 .given .1) refl
 
 enum-told-4 : tie.Need-enum-told-4
 enum-told-4 c = search needs
 
 returns-4 : tie.Need-returns-4
-returns-4 c = rw (c .before .before .before .before .before .verdict .given .1, c .before .before .before .if1 .left, c .before .before .if2 .taken, c .enum-told4 .given .1) refl
+returns-4 c =
+    let verdict = c .before .before .before .before .before .verdict in
+    rw (verdict .given .1, c .before .before .before .if1 .left, c .before .before .if2 .taken, c .enum-told4 .given .1) refl
 
 enum-told-5 : tie.Need-enum-told-5
 enum-told-5 c = search needs
 
 returns-5 : tie.Need-returns-5
-returns-5 c = rw (c .before .before .before .before .before .verdict .given .1, c .before .before .before .if1 .left, c .before .before .if2 .taken, c .enum-told5 .given .1) refl
+returns-5 c =
+    let verdict = c .before .before .before .before .before .verdict in
+    rw (verdict .given .1, c .before .before .before .if1 .left, c .before .before .if2 .taken, c .enum-told5 .given .1) refl
 
 returns-6 : tie.Need-returns-6
 returns-6 c = rw (c .enum-told .given .1) refl

@@ -21,7 +21,10 @@ earlier-requires-2 c κs = search needs
 
 returns : tie.Need-returns
 returns c =
-    dates-judged (c .before .before .before .before .judge-date .result) (c .before .before .before .judge-date2 .result) (c .before .before .judge-date3 .result) (c .before .earlier .result) (c .before .before .before .before .judge-date .ensures) (c .before .before .before .judge-date2 .ensures) (c .before .before .judge-date3 .ensures) (c .before .earlier .ensures) (c .earlier2 .ensures)
+    dates-judged (c .before .before .before .before .judge-date .result) (c .before .before .before .judge-date2 .result)
+    (c .before .before .judge-date3 .result) (c .before .earlier .result) (c .before .before .before .before .judge-date .ensures)
+    (c .before .before .before .judge-date2 .ensures) (c .before .before .judge-date3 .ensures) (c .before .earlier .ensures)
+    (c .earlier2 .ensures)
 
 pub judge-dates-spec : {M : Type 1} → statement M
 judge-dates-spec =

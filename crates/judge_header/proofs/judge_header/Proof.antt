@@ -33,8 +33,15 @@ earlier-requires-3 c κs = search needs
 
 returns : tie.Need-returns
 returns c =
-    header-judged (c .before .before .before .before .before .before .before .before .judge-version .result) (c .before .before .before .before .before .before .before .judge-dates .result) (c .before .before .before .before .before .before .judge-offices .result) (c .before .before .earlier .result) (c .before .earlier2 .result) (c .before .before .before .before .before .before .before .before .before .before .header .ensures) (c .before .before .before .before .before .before .before .before .judge-version .ensures)
-    (c .before .before .before .before .before .before .before .judge-dates .ensures) (c .before .before .before .before .before .before .judge-offices .ensures) (c .before .before .before .before .before .judge-languages .ensures) (c .before .before .before .before .total .ensures) (c .before .before .earlier .ensures) (c .before .earlier2 .ensures) (c .earlier3 .ensures)
+    let header = c .before .before .before .before .before .before .before .before .before .before .header in
+    let judge-version = c .before .before .before .before .before .before .before .before .judge-version in
+    let judge-dates = c .before .before .before .before .before .before .before .judge-dates in
+    let judge-offices = c .before .before .before .before .before .before .judge-offices in
+    let judge-languages = c .before .before .before .before .before .judge-languages in
+    header-judged (judge-version .result) (judge-dates .result) (judge-offices .result) (c .before .before .earlier .result)
+    (c .before .earlier2 .result) (header .ensures) (judge-version .ensures) (judge-dates .ensures) (judge-offices .ensures)
+    (judge-languages .ensures) (c .before .before .before .before .total .ensures) (c .before .before .earlier .ensures)
+    (c .before .earlier2 .ensures) (c .earlier3 .ensures)
 
 pub judge-header-spec : {M : Type 1} → statement M
 judge-header-spec =

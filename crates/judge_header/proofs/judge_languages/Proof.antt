@@ -21,7 +21,10 @@ earlier-requires-2 c κs = search needs
 
 returns : tie.Need-returns
 returns c =
-    languages-judged (c .before .before .before .before .judge-language .result) (c .before .before .before .judge-language2 .result) (c .before .earlier .result) (c .before .before .before .before .judge-language .ensures) (c .before .before .before .judge-language2 .ensures) (c .before .before .judge-titles .ensures) (c .before .earlier .ensures) (c .earlier2 .ensures)
+    languages-judged (c .before .before .before .before .judge-language .result) (c .before .before .before .judge-language2 .result)
+    (c .before .earlier .result) (c .before .before .before .before .judge-language .ensures)
+    (c .before .before .before .judge-language2 .ensures) (c .before .before .judge-titles .ensures) (c .before .earlier .ensures)
+    (c .earlier2 .ensures)
 
 pub judge-languages-spec : {M : Type 1} → statement M
 judge-languages-spec =

@@ -14,7 +14,9 @@ earlier-requires : tie.Need-earlier-requires
 earlier-requires c κs = search needs
 
 returns : tie.Need-returns
-returns c = offices-judged (c .before .before .judge-office .result) (c .before .judge-office2 .result) (c .before .before .judge-office .ensures) (c .before .judge-office2 .ensures) (c .earlier .ensures)
+returns c =
+    offices-judged (c .before .before .judge-office .result) (c .before .judge-office2 .result) (c .before .before .judge-office .ensures)
+    (c .before .judge-office2 .ensures) (c .earlier .ensures)
 
 pub judge-offices-spec : {M : Type 1} → statement M
 judge-offices-spec =

@@ -38,7 +38,8 @@ title-requires c κs = search needs
 
 returns : tie.Need-returns Inv-loop μ-loop
 returns c =
-    record { says = λ l e d fol. absurd (seen-stuck (bytes "InventionTitle") (child (spoken (bytes "InventionTitle"))) (spoken-leads (bytes "InventionTitle")) totalled (record { clash = refl; sharps = refl }) (λ (l : List (Spoken ℕ)). Firsts (Wrong 13 (Two isLower) (codes l)) (c .before .before .before .before .before .loop .fault)) (c .before .before .before .if1 .taken) (c .before .before .before .before .title-here .ensures) (c .before .before .before .before .before .loop .inv) (title-over (c .before .before .title .ensures)) (c .if2 .taken) l e d fol) }
+    let loop' = c .before .before .before .before .before .loop in
+    record { says = λ l e d fol. absurd (seen-stuck (bytes "InventionTitle") (child (spoken (bytes "InventionTitle"))) (spoken-leads (bytes "InventionTitle")) totalled (record { clash = refl; sharps = refl }) (λ (l : List (Spoken ℕ)). Firsts (Wrong 13 (Two isLower) (codes l)) (loop' .fault)) (c .before .before .before .if1 .taken) (c .before .before .before .before .title-here .ensures) (loop' .inv) (title-over (c .before .before .title .ensures)) (c .if2 .taken) l e d fol) }
 
 judge-language-requires : tie.Need-judge-language-requires Inv-loop μ-loop
 judge-language-requires c κs = search needs
@@ -47,14 +48,22 @@ earlier-requires : tie.Need-earlier-requires Inv-loop μ-loop
 earlier-requires c κs = search needs
 
 loop-less : tie.Need-loop-less Inv-loop μ-loop
-loop-less c = omega (arith, there-inside 60 (bytes "InventionTitle") (now (c .before .before .before .before .before .before .before .before .before .args .s)) (c .before .before .before .before .before .before .before .loop .at) (c .before .before .before .before .before .if1 .taken) (c .before .before .before .before .before .before .title-here .ensures))
+loop-less c =
+    let args = c .before .before .before .before .before .before .before .before .before .args in
+    let loop' = c .before .before .before .before .before .before .before .loop in
+    let title-here = c .before .before .before .before .before .before .title-here in
+    let if1 = c .before .before .before .before .before .if1 in
+    omega (arith, there-inside 60 (bytes "InventionTitle") (now (args .s)) (loop' .at) (if1 .taken) (title-here .ensures))
 
 loop-again : tie.Need-loop-again Inv-loop μ-loop
 loop-again c =
+    let loop' = c .before .before .before .before .before .before .before .loop in
+    let title-here = c .before .before .before .before .before .before .title-here in
+    let if1 = c .before .before .before .before .before .if1 in
     seen-next (bytes "InventionTitle") (child (spoken (bytes "InventionTitle"))) (spoken-leads (bytes "InventionTitle")) totalled (record { clash = refl; sharps = refl })
-    (λ (l : List (Spoken ℕ)). Firsts (Wrong 13 (Two isLower) (codes l)) (c .before .before .before .before .before .before .before .loop .fault)) (λ (l : List (Spoken ℕ)). Firsts (Wrong 13 (Two isLower) (codes l)) (c .earlier .result))
-    (c .before .before .before .before .before .if1 .taken) (c .before .before .before .before .before .before .title-here .ensures) (c .before .before .before .before .before .before .before .loop .inv) (title-over (c .before .before .before .before .title .ensures))
-    (λ done x e d fol f. title-more done x (c .before .before .before .before .before .before .before .loop .fault) (c .before .judge-language .result) f (c .before .before .before .before .title .ensures x e d fol .part) (c .before .judge-language .ensures) (c .earlier .ensures))
+    (λ (l : List (Spoken ℕ)). Firsts (Wrong 13 (Two isLower) (codes l)) (loop' .fault)) (λ (l : List (Spoken ℕ)). Firsts (Wrong 13 (Two isLower) (codes l)) (c .earlier .result))
+    (if1 .taken) (title-here .ensures) (loop' .inv) (title-over (c .before .before .before .before .title .ensures))
+    (λ done x e d fol f. title-more done x (loop' .fault) (c .before .judge-language .result) f (c .before .before .before .before .title .ensures x e d fol .part) (c .before .judge-language .ensures) (c .earlier .ensures))
 
 returns-2 : tie.Need-returns-2 Inv-loop μ-loop
 returns-2 c =

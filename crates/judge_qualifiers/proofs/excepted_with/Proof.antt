@@ -21,7 +21,10 @@ same-requires : tie.Need-same-requires
 same-requires c κs = search needs
 
 returns-3 : tie.Need-returns-3
-returns-3 c = excepts-other (c .before .before .before .before .before .if1 .left) (c .before .before .before .if2 .left) (c .before .before .before .before .is-excepted .ensures) (not-true (c .before .same .result) (c .if3 .taken)) (c .before .same .ensures)
+returns-3 c =
+    let if1 = c .before .before .before .before .before .if1 in
+    excepts-other (if1 .left) (c .before .before .before .if2 .left) (c .before .before .before .before .is-excepted .ensures)
+    (not-true (c .before .same .result) (c .if3 .taken)) (c .before .same .ensures)
 
 slice-aggregate-value-is : tie.Need-slice-aggregate-value-is
 slice-aggregate-value-is c = search needs
@@ -31,7 +34,12 @@ value-is-requires c κs = search needs
 
 returns-4 : tie.Need-returns-4
 returns-4 c =
-    excepts-code (c .before .before .before .before .before .before .before .if1 .left) (c .before .before .before .before .before .if2 .left) (c .before .before .before .before .before .before .is-excepted .ensures) (c .value-is .result) (not-false (c .before .before .before .same .result) (c .before .before .if3 .left)) (c .before .before .before .same .ensures) (c .value-is .ensures)
+    let if1 = c .before .before .before .before .before .before .before .if1 in
+    let is-excepted = c .before .before .before .before .before .before .is-excepted in
+    let if2 = c .before .before .before .before .before .if2 in
+    excepts-code (if1 .left) (if2 .left) (is-excepted .ensures) (c .value-is .result)
+    (not-false (c .before .before .before .same .result) (c .before .before .if3 .left)) (c .before .before .before .same .ensures)
+    (c .value-is .ensures)
 
 pub excepted-with-spec : {M : Type 1} → statement M
 excepted-with-spec =

@@ -42,9 +42,12 @@ same-requires-4 c κs = search needs
 
 returns-4 : tie.Need-returns-4
 returns-4 c =
+    let same = c .before .before .before .before .before .before .before .before .before .same in
+    let if1 = c .before .before .before .before .before .before .before .before .if1 in
+    let same2 = c .before .before .before .before .before .before .same2 in
+    let if2 = c .before .before .before .before .before .if2 in
     excepted-read (c .same4 .result)
-    (excepted-last (c .same4 .result) (tells-false (c .before .before .before .before .before .before .before .before .before .same .result) (c .before .before .before .before .before .before .before .before .if1 .left) (c .before .before .before .before .before .before .before .before .before .same .ensures)) (tells-false (c .before .before .before .before .before .before .same2 .result) (c .before .before .before .before .before .if2 .left) (c .before .before .before .before .before .before .same2 .ensures))
-    (tells-false (c .before .before .before .same3 .result) (c .before .before .if3 .left) (c .before .before .before .same3 .ensures)) (c .same4 .ensures))
+    (excepted-last (c .same4 .result) (tells-false (same .result) (if1 .left) (same .ensures)) (tells-false (same2 .result) (if2 .left) (same2 .ensures)) (tells-false (c .before .before .before .same3 .result) (c .before .before .if3 .left) (c .before .before .before .same3 .ensures)) (c .same4 .ensures))
 
 pub is-excepted-spec : {M : Type 1} → statement M
 is-excepted-spec =

@@ -27,7 +27,10 @@ qualifier-requires : tie.Need-qualifier-requires Inv-loop μ-loop
 qualifier-requires c κs = search needs
 
 returns : tie.Need-returns Inv-loop μ-loop
-returns c = noting-stuck (c .before .before .before .before .qualifier-here .ensures) (c .before .before .before .before .before .loop .inv) _ (c .before .before .before .if1 .taken) (c .before .before .qualifier .ensures) (c .if2 .taken)
+returns c =
+    let loop' = c .before .before .before .before .before .loop in
+    noting-stuck (c .before .before .before .before .qualifier-here .ensures) (loop' .inv) _ (c .before .before .before .if1 .taken)
+    (c .before .before .qualifier .ensures) (c .if2 .taken)
 
 bytes-of-requires : tie.Need-bytes-of-requires Inv-loop μ-loop
 bytes-of-requires c κs = search needs
@@ -58,13 +61,26 @@ kept-requires c κs = search needs
 
 loop-less : tie.Need-loop-less Inv-loop μ-loop
 loop-less c =
-    omega (arith, there-inside 60 (bytes "INSDQualifier") (now (c .before .before .before .before .before .before .before .before .before .before .before .before .before .before .before .before .args .s)) (c .before .before .before .before .before .before .before .before .before .before .before .before .before .before .loop .at) (c .before .before .before .before .before .before .before .before .before .before .before .before .if1 .taken) (c .before .before .before .before .before .before .before .before .before .before .before .before .before .qualifier-here .ensures))
+    let args = c .before .before .before .before .before .before .before .before .before .before .before .before .before .before .before .before .args in
+    let loop' = c .before .before .before .before .before .before .before .before .before .before .before .before .before .before .loop in
+    let qualifier-here = c .before .before .before .before .before .before .before .before .before .before .before .before .before .qualifier-here in
+    let if1 = c .before .before .before .before .before .before .before .before .before .before .before .before .if1 in
+    omega (arith, there-inside 60 (bytes "INSDQualifier") (now (args .s)) (loop' .at) (if1 .taken) (qualifier-here .ensures))
 
 loop-again : tie.Need-loop-again Inv-loop μ-loop
 loop-again c =
-    noting-next (c .before .before .before .before .before .before .before .before .before .before .before .before .before .qualifier-here .ensures) (c .before .before .before .before .before .before .before .before .before .before .before .before .before .before .loop .inv) (c .before .before .before .before .before .before .before .before .before .before .before .before .if1 .taken) (c .before .before .before .before .before .before .before .before .before .before .before .qualifier .ensures) (c .before .before .before .before .before .before .before .before .bytes-of .ensures) (c .before .before .before .before .before .before .before .is-organism .result)
-    (c .before .before .before .before .before .is-moltype .result) (c .before .before .before .frame-with .ensures) (c .before .before .excepted-with .ensures) (c .before .before .before .before .before .before .before .is-organism .ensures) (c .before .before .before .before .before .before .more-of-two .ensures) (c .before .before .before .before .before .is-moltype .ensures)
-    (c .before .before .before .before .more-of-two2 .ensures) (c .before .met-with .ensures) (c .kept .ensures)
+    let loop' = c .before .before .before .before .before .before .before .before .before .before .before .before .before .before .loop in
+    let qualifier-here = c .before .before .before .before .before .before .before .before .before .before .before .before .before .qualifier-here in
+    let if1 = c .before .before .before .before .before .before .before .before .before .before .before .before .if1 in
+    let qualifier = c .before .before .before .before .before .before .before .before .before .before .before .qualifier in
+    let bytes-of = c .before .before .before .before .before .before .before .before .bytes-of in
+    let is-organism = c .before .before .before .before .before .before .before .is-organism in
+    let more-of-two = c .before .before .before .before .before .before .more-of-two in
+    let is-moltype = c .before .before .before .before .before .is-moltype in
+    noting-next (qualifier-here .ensures) (loop' .inv) (if1 .taken) (qualifier .ensures) (bytes-of .ensures) (is-organism .result)
+    (is-moltype .result) (c .before .before .before .frame-with .ensures) (c .before .before .excepted-with .ensures)
+    (is-organism .ensures) (more-of-two .ensures) (is-moltype .ensures) (c .before .before .before .before .more-of-two2 .ensures)
+    (c .before .met-with .ensures) (c .kept .ensures)
 
 returns-2 : tie.Need-returns-2 Inv-loop μ-loop
 returns-2 c = noting-done (c .before .qualifier-here .ensures) (c .before .before .loop .inv) (c .if1 .left)

@@ -31,10 +31,14 @@ returns-2 : tie.Need-returns-2
 returns-2 c = starts-at (c .before .before .before .before .note .ensures) (c .before .before .before .is-unjudged .ensures) (c .before .before .if1 .left) (λ f h. absent (subst (FrameIs (qualifiersOf f)) (c .enum-told .given .1) h))
 
 returns-3 : tie.Need-returns-3
-returns-3 c = starts-at (c .before .before .before .before .before .note .ensures) (c .before .before .before .before .is-unjudged .ensures) (c .before .before .before .if1 .left) (λ f h. start-one f (subst (FrameIs (qualifiersOf f)) (c .before .frame .given .1) h))
+returns-3 c =
+    let note = c .before .before .before .before .before .note in
+    starts-at (note .ensures) (c .before .before .before .before .is-unjudged .ensures) (c .before .before .before .if1 .left) (λ f h. start-one f (subst (FrameIs (qualifiersOf f)) (c .before .frame .given .1) h))
 
 returns-4 : tie.Need-returns-4
-returns-4 c = starts-nowhere (c .before .before .before .before .note .ensures) (c .before .before .before .is-unjudged .ensures) (c .enum-told2 .given .1)
+returns-4 c =
+    starts-nowhere (c .before .before .before .before .note .ensures) (c .before .before .before .is-unjudged .ensures)
+    (c .enum-told2 .given .1)
 
 pub start-of-spec : {M : Type 1} → statement M
 start-of-spec =

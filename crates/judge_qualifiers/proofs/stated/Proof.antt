@@ -37,7 +37,11 @@ returns-3 : tie.Need-returns-3
 returns-3 c = states 3 (bytes "3") refl (inr (inr refl)) (decimal-number 3 (omega arith)) (c .if3 .taken) (c .before .value-is3 .ensures)
 
 returns-4 : tie.Need-returns-4
-returns-4 c = states-wrong (c .before .before .before .before .before .before .if1 .left) (c .before .before .before .before .before .before .before .value-is .ensures) (c .before .before .before .if2 .left) (c .before .before .before .before .value-is2 .ensures) (c .if3 .left) (c .before .value-is3 .ensures)
+returns-4 c =
+    let value-is = c .before .before .before .before .before .before .before .value-is in
+    let if1 = c .before .before .before .before .before .before .if1 in
+    states-wrong (if1 .left) (value-is .ensures) (c .before .before .before .if2 .left)
+    (c .before .before .before .before .value-is2 .ensures) (c .if3 .left) (c .before .value-is3 .ensures)
 
 pub stated-spec : {M : Type 1} → statement M
 stated-spec =

@@ -26,7 +26,9 @@ plus-requires-5 c κs = search needs
 
 returns : tie.Need-returns
 returns c =
-    record { fault = c .before .before .before .before .before .before .earlier .ensures; total = c .before .before .before .before .before .plus .ensures; skipped = rw (c .before .before .before .before .one-if .ensures) at (c .before .before .before .plus2 .ensures); features = c .before .before .plus3 .ensures; judged = c .before .plus4 .ensures; unjudged = c .plus5 .ensures }
+    let earlier = c .before .before .before .before .before .before .earlier in
+    let plus = c .before .before .before .before .before .plus in
+    record { fault = earlier .ensures; total = plus .ensures; skipped = rw (c .before .before .before .before .one-if .ensures) at (c .before .before .before .plus2 .ensures); features = c .before .before .plus3 .ensures; judged = c .before .plus4 .ensures; unjudged = c .plus5 .ensures }
 
 pub add-spec : {M : Type 1} → statement M
 add-spec =

@@ -24,7 +24,10 @@ earlier-requires c κs = search needs
 
 returns : tie.Need-returns
 returns c =
-    skipped-one (c .before .before .before .before .before .before .before .before .before .before .before .before .sequence .ensures) (c .before .before .before .before .before .judge-number .ensures) (c .before .before .before .before .is-skipped .ensures) (c .earlier .result) (c .before .before .before .if1 .taken) (c .before .before .is-empty .ensures) (c .before .unless .ensures) (c .earlier .ensures)
+    let sequence = c .before .before .before .before .before .before .before .before .before .before .before .before .sequence in
+    let judge-number = c .before .before .before .before .before .judge-number in
+    skipped-one (sequence .ensures) (judge-number .ensures) (c .before .before .before .before .is-skipped .ensures) (c .earlier .result)
+    (c .before .before .before .if1 .taken) (c .before .before .is-empty .ensures) (c .before .unless .ensures) (c .earlier .ensures)
 
 known-of-requires : tie.Need-known-of-requires
 known-of-requires c κs = search needs
@@ -43,7 +46,13 @@ earlier-requires-3 c κs = search needs
 
 returns-2 : tie.Need-returns-2
 returns-2 c =
-    judged-one (c .before .before .before .before .before .before .before .before .before .before .before .before .before .before .sequence .ensures) (c .before .before .before .before .before .before .before .judge-number .ensures) (c .before .before .before .before .before .before .is-skipped .ensures) (c .before .earlier2 .result) (c .earlier3 .result) (c .before .before .before .before .before .if1 .left) (c .before .before .before .before .known-of .ensures) (c .before .before .before .judge-texts .ensures) (c .before .before .judge-table .ensures) (c .before .earlier2 .ensures) (c .earlier3 .ensures)
+    let sequence = c .before .before .before .before .before .before .before .before .before .before .before .before .before .before .sequence in
+    let judge-number = c .before .before .before .before .before .before .before .judge-number in
+    let is-skipped = c .before .before .before .before .before .before .is-skipped in
+    let if1 = c .before .before .before .before .before .if1 in
+    judged-one (sequence .ensures) (judge-number .ensures) (is-skipped .ensures) (c .before .earlier2 .result) (c .earlier3 .result)
+    (if1 .left) (c .before .before .before .before .known-of .ensures) (c .before .before .before .judge-texts .ensures)
+    (c .before .before .judge-table .ensures) (c .before .earlier2 .ensures) (c .earlier3 .ensures)
 
 pub judge-sequence-spec : {M : Type 1} → statement M
 judge-sequence-spec =

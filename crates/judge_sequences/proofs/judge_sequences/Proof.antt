@@ -32,18 +32,31 @@ judge-sequence-requires : tie.Need-judge-sequence-requires Inv-loop μ-loop
 judge-sequence-requires c κs = search needs
 
 returns : tie.Need-returns Inv-loop μ-loop
-returns c = adding-stuck (c .before .before .before .if1 .taken) (c .before .before .before .before .sequence-here .ensures) (c .before .before .before .before .before .loop .inv) (c .before .judge-sequence .ensures) (c .if2 .taken)
+returns c =
+    let loop' = c .before .before .before .before .before .loop in
+    adding-stuck (c .before .before .before .if1 .taken) (c .before .before .before .before .sequence-here .ensures) (loop' .inv)
+    (c .before .judge-sequence .ensures) (c .if2 .taken)
 
 add-requires : tie.Need-add-requires Inv-loop μ-loop
 add-requires c κs = search needs
 
 loop-less : tie.Need-loop-less Inv-loop μ-loop
-loop-less c = omega (arith, there-inside 60 (bytes "SequenceData") (now (c .before .before .before .before .before .before .before .before .before .args .s)) (c .before .before .before .before .before .before .loop .at) (c .before .before .before .before .if1 .taken) (c .before .before .before .before .before .sequence-here .ensures))
+loop-less c =
+    let args = c .before .before .before .before .before .before .before .before .before .args in
+    let loop' = c .before .before .before .before .before .before .loop in
+    let sequence-here = c .before .before .before .before .before .sequence-here in
+    omega
+    (arith, there-inside 60 (bytes "SequenceData") (now (args .s)) (loop' .at) (c .before .before .before .before .if1 .taken) (sequence-here .ensures))
 
 loop-again : tie.Need-loop-again Inv-loop μ-loop
 loop-again c =
-    adding-more (c .before .before .before .before .if1 .taken) (c .before .before .before .before .before .sequence-here .ensures) (c .before .before .before .before .before .before .loop .inv) (c .before .before .judge-sequence .ensures)
-    (there-inside 60 (bytes "SequenceData") (now (c .before .before .before .before .before .before .before .before .before .args .s)) (c .before .before .before .before .before .before .loop .at) (c .before .before .before .before .if1 .taken) (c .before .before .before .before .before .sequence-here .ensures)) (omega arith) (c .before .before .before .plus .ensures) (c .add .ensures)
+    let args = c .before .before .before .before .before .before .before .before .before .args in
+    let loop' = c .before .before .before .before .before .before .loop in
+    let sequence-here = c .before .before .before .before .before .sequence-here in
+    adding-more (c .before .before .before .before .if1 .taken) (sequence-here .ensures) (loop' .inv)
+    (c .before .before .judge-sequence .ensures)
+    (there-inside 60 (bytes "SequenceData") (now (args .s)) (loop' .at) (c .before .before .before .before .if1 .taken) (sequence-here .ensures))
+    (omega arith) (c .before .before .before .plus .ensures) (c .add .ensures)
 
 returns-2 : tie.Need-returns-2 Inv-loop μ-loop
 returns-2 c = adding-done (c .if1 .left) (c .before .sequence-here .ensures) (c .before .before .loop .inv)

@@ -27,8 +27,11 @@ earlier-requires c κs = search needs
 
 returns : tie.Need-returns
 returns c =
-    source-judged (c .before .before .before .before .before .unless .result) (c .before .unless2 .result) (c .before .before .before .before .before .before .is-once .ensures) (c .before .before .before .before .before .unless .ensures) (c .before .before .before .before .bytes-of .ensures) (c .before .before .is-whole .ensures)
-    (c .before .unless2 .ensures) (c .earlier .ensures)
+    let is-once = c .before .before .before .before .before .before .is-once in
+    let unless = c .before .before .before .before .before .unless in
+    source-judged (unless .result) (c .before .unless2 .result) (is-once .ensures) (unless .ensures)
+    (c .before .before .before .before .bytes-of .ensures) (c .before .before .is-whole .ensures) (c .before .unless2 .ensures)
+    (c .earlier .ensures)
 
 pub judge-source-spec : {M : Type 1} → statement M
 judge-source-spec =

@@ -20,7 +20,11 @@ is-blank-requires-3 : tie.Need-is-blank-requires-3
 is-blank-requires-3 c κs = search needs
 
 returns-3 : tie.Need-returns-3
-returns-3 c = division-left (c .before .before .before .before .before .before .if1 .left) (c .before .before .before .before .before .if2 .left) (c .before .before .before .if3 .taken) (c .before .before .before .before .is-blank .ensures) (c .before .if4 .taken) (c .before .before .is-blank2 .ensures) (c .is-blank3 .ensures)
+returns-3 c =
+    let if1 = c .before .before .before .before .before .before .if1 in
+    let if2 = c .before .before .before .before .before .if2 in
+    division-left (if1 .left) (if2 .left) (c .before .before .before .if3 .taken) (c .before .before .before .before .is-blank .ensures)
+    (c .before .if4 .taken) (c .before .before .is-blank2 .ensures) (c .is-blank3 .ensures)
 
 returns-4 : tie.Need-returns-4
 returns-4 c = not-moltype (c .if4 .left) (c .before .is-blank2 .ensures)

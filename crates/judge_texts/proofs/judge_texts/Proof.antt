@@ -51,7 +51,18 @@ earlier-requires-3 c κs = search needs
 
 returns : tie.Need-returns
 returns c =
-    texts-judged (c .before .before .before .before .before .before .before .before .before .before .before .before .same .result) (c .before .before .earlier .result) (c .before .earlier2 .result) (c .before .before .before .before .before .before .before .before .is-known .ensures) (c .before .before .before .before .before .before .before .before .before .before .before .before .before .before .bytes-of .ensures) (c .before .before .before .before .before .before .before .before .before .before .before .before .same .ensures) (c .before .before .before .before .before .before .before .before .before .before .before .bytes-of2 .ensures) (c .before .before .before .before .before .before .before .before .before .is-number .ensures) (c .before .before .before .before .before .before .before .unless .ensures) (c .before .before .before .before .before .before .unless2 .ensures) (c .before .before .before .before .before .bytes-of3 .ensures) (c .before .before .before .before .judge-residues .ensures) (c .before .before .before .unless3 .ensures) (c .before .before .earlier .ensures) (c .before .earlier2 .ensures) (c .earlier3 .ensures)
+    let bytes-of = c .before .before .before .before .before .before .before .before .before .before .before .before .before .before .bytes-of in
+    let same = c .before .before .before .before .before .before .before .before .before .before .before .before .same in
+    let bytes-of2 = c .before .before .before .before .before .before .before .before .before .before .before .bytes-of2 in
+    let is-number = c .before .before .before .before .before .before .before .before .before .is-number in
+    let is-known = c .before .before .before .before .before .before .before .before .is-known in
+    let unless = c .before .before .before .before .before .before .before .unless in
+    let unless2 = c .before .before .before .before .before .before .unless2 in
+    let bytes-of3 = c .before .before .before .before .before .bytes-of3 in
+    texts-judged (same .result) (c .before .before .earlier .result) (c .before .earlier2 .result) (is-known .ensures) (bytes-of .ensures)
+    (same .ensures) (bytes-of2 .ensures) (is-number .ensures) (unless .ensures) (unless2 .ensures) (bytes-of3 .ensures)
+    (c .before .before .before .before .judge-residues .ensures) (c .before .before .before .unless3 .ensures)
+    (c .before .before .earlier .ensures) (c .before .earlier2 .ensures) (c .earlier3 .ensures)
 
 pub judge-texts-spec : {M : Type 1} → statement M
 judge-texts-spec =

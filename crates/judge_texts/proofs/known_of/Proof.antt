@@ -23,7 +23,10 @@ size-of-requires : tie.Need-size-of-requires
 size-of-requires c κs = search needs
 
 returns : tie.Need-returns
-returns c = knows (c .before .before .before .before .before .bytes-of .ensures) (c .before .before .before .before .kind-of .ensures) (c .before .before .before .bytes-of2 .ensures) (c .before .before .is-clean .ensures) (c .before .length-of .ensures) (c .size-of .ensures)
+returns c =
+    let bytes-of = c .before .before .before .before .before .bytes-of in
+    knows (bytes-of .ensures) (c .before .before .before .before .kind-of .ensures) (c .before .before .before .bytes-of2 .ensures)
+    (c .before .before .is-clean .ensures) (c .before .length-of .ensures) (c .size-of .ensures)
 
 pub known-of-spec : {M : Type 1} → statement M
 known-of-spec =

@@ -47,15 +47,21 @@ same-length c = search needs
 
 returns : tie.Need-returns
 returns c =
+    let pre' = c .before .before .before .before .before .before .before .before .before .before .before .before .before .before .before .before .before .before .before .before .before .before .before .before .before .before .before .before .before .before .before .pre in
+    let put-text = c .before .before .before .before .before .before .before .before .before .before .before .before .before .before .before .before .before .before .before .before .before .before .before .before .before .before .before .put-text in
+    let put-line = c .before .before .before .before .before .before .before .before .before .before .before .before .before .before .before .before .before .before .before .before .before .before .put-line in
+    let put-line2 = c .before .before .before .before .before .before .before .before .before .before .before .before .before .before .before .before .before .put-line2 in
+    let put-line3 = c .before .before .before .before .before .before .before .before .before .before .before .before .put-line3 in
+    let put-line4 = c .before .before .before .before .before .before .before .put-line4 in
     let stands =
-    behind-next (c .before .before .before .before .before .before .before .before .before .before .before .before .before .before .before .before .before .before .before .before .before .before .before .before .before .before .before .put-text .ensures)
-    (behind-next (c .before .before .before .before .before .before .before .before .before .before .before .before .before .before .before .before .before .before .before .before .before .before .put-line .ensures .stands)
-    (behind-next (c .before .before .before .before .before .before .before .before .before .before .before .before .before .before .before .before .before .put-line2 .ensures .stands)
-    (behind-next (c .before .before .before .before .before .before .before .before .before .before .before .before .put-line3 .ensures .stands) (behind-next (c .before .before .before .before .before .before .before .put-line4 .ensures .stands) (c .before .before .put-line5 .ensures .stands))))) in
-    let fits : c .before .before .put-line5 .result ≤ 161 = omega (arith, c .before .before .before .before .before .before .before .before .before .before .before .before .before .before .before .before .before .before .before .before .before .before .before .before .before .before .before .put-text .ensures .ends, c .before .before .before .before .before .before .before .before .before .before .before .before .before .before .before .before .before .before .before .before .before .before .put-line .ensures .short) in
+    behind-next (put-text .ensures)
+    (behind-next (put-line .ensures .stands)
+    (behind-next (put-line2 .ensures .stands)
+    (behind-next (put-line3 .ensures .stands) (behind-next (put-line4 .ensures .stands) (c .before .before .put-line5 .ensures .stands))))) in
+    let fits : c .before .before .put-line5 .result ≤ 161 = omega (arith, put-text .ensures .ends, put-line .ensures .short) in
     record {
       fits = fits;
-      counts = counted _ _ (omega (arith, c .before .before .before .before .before .before .before .before .before .before .before .before .before .before .before .before .before .before .before .before .before .before .before .before .before .before .before .before .before .before .before .pre, c .before .before .before .before .before .before .before .before .before .before .before .before .before .before .before .before .before .before .before .before .before .before .before .before .before .before .before .put-text .kept, c .before .before .before .before .before .before .before .before .before .before .before .before .before .before .before .before .before .before .before .before .before .before .put-line .kept));
+      counts = counted _ _ (omega (arith, pre', put-text .kept, put-line .kept));
       holds = stands .holds;
     }
 

@@ -27,27 +27,36 @@ slice-aggregate-put-text-2 c = search needs
 
 put-text-requires-3 : tie.Need-put-text-requires-3
 put-text-requires-3 c κs =
-    let few = few-digits (c .before .before .before .before .before .before .before .before .before .before .before .decimal .ensures .1 .0) (omega (arith, c .before .before .before .before .before .before .before .before .before .before .before .before .before .before .before .fits .n)) in
-    omega (arith, c .before .before .before .before .before .before .before .before .before .before .before .decimal .ensures .0 .1)
+    let fits = c .before .before .before .before .before .before .before .before .before .before .before .before .before .before .before .fits in
+    let decimal = c .before .before .before .before .before .before .before .before .before .before .before .decimal in
+    let few = few-digits (decimal .ensures .1 .0) (omega (arith, fits .n)) in
+    omega (arith, decimal .ensures .0 .1)
 
 slice-aggregate-put-text-3 : tie.Need-slice-aggregate-put-text-3
 slice-aggregate-put-text-3 c = search needs
 
 put-text-requires-4 : tie.Need-put-text-requires-4
 put-text-requires-4 c κs =
-    let few = few-digits (c .before .before .before .before .before .before .before .before .before .before .before .before .before .before .before .before .decimal .ensures .1 .0) (omega (arith, c .before .before .before .before .before .before .before .before .before .before .before .before .before .before .before .before .before .before .before .before .fits .n)) in
-    omega (arith, c .before .before .before .before .before .before .before .before .before .before .before .before .before .before .before .before .decimal .ensures .0 .1)
+    let fits = c .before .before .before .before .before .before .before .before .before .before .before .before .before .before .before .before .before .before .before .before .fits in
+    let decimal = c .before .before .before .before .before .before .before .before .before .before .before .before .before .before .before .before .decimal in
+    let few = few-digits (decimal .ensures .1 .0) (omega (arith, fits .n)) in
+    omega (arith, decimal .ensures .0 .1)
 
 same-length : tie.Need-same-length
 same-length c = search needs
 
 returns : tie.Need-returns
 returns c =
-    let few = few-digits (c .before .before .before .before .before .before .before .before .before .before .before .before .before .before .before .before .before .before .before .decimal .ensures .1 .0) (omega (arith, c .before .before .before .before .before .before .before .before .before .before .before .before .before .before .before .before .before .before .before .before .before .before .before .fits .n)) in
-    let number = rw (c .before .before .before .before .before .before .before .before .before .before .before .before .before .before .before .before .before .before .before .decimal .ensures .1 .1 ∙ digits-decimal (c .before .before .before .before .before .before .before .before .before .before .before .before .before .before .before .before .before .before .before .decimal .ensures .1 .0)) at (c .before .before .before .before .before .before .before .put-text3 .ensures) in
+    let fits = c .before .before .before .before .before .before .before .before .before .before .before .before .before .before .before .before .before .before .before .before .before .before .before .fits in
+    let decimal = c .before .before .before .before .before .before .before .before .before .before .before .before .before .before .before .before .before .before .before .decimal in
+    let put-text = c .before .before .before .before .before .before .before .before .before .before .before .before .before .before .before .before .before .put-text in
+    let put-text2 = c .before .before .before .before .before .before .before .before .before .before .before .before .put-text2 in
+    let put-text3 = c .before .before .before .before .before .before .before .put-text3 in
+    let few = few-digits (decimal .ensures .1 .0) (omega (arith, fits .n)) in
+    let number = rw (decimal .ensures .1 .1 ∙ digits-decimal (decimal .ensures .1 .0)) at (put-text3 .ensures) in
     record {
-      stands = behind-next (c .before .before .before .before .before .before .before .before .before .before .before .before .before .before .before .before .before .put-text .ensures) (behind-next (c .before .before .before .before .before .before .before .before .before .before .before .before .put-text2 .ensures) (behind-next number (c .before .before .put-text4 .ensures)));
-      short = omega (arith, c .before .before .before .before .before .before .before .before .before .before .before .before .before .before .before .before .before .before .before .decimal .ensures .0 .1);
+      stands = behind-next (put-text .ensures) (behind-next (put-text2 .ensures) (behind-next number (c .before .before .put-text4 .ensures)));
+      short = omega (arith, decimal .ensures .0 .1);
     }
 
 pub put-line-spec : {M : Type 1} → statement M

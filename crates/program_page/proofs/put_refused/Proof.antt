@@ -28,8 +28,11 @@ same-length c = search needs
 
 returns : tie.Need-returns
 returns c =
-    let stands = behind-next (c .before .before .before .before .before .before .before .before .before .before .before .before .put-text .ensures) (behind-next (c .before .before .before .before .before .before .before .put-line .ensures .stands) (c .before .before .put-line2 .ensures .stands)) in
-    record { fits = omega arith; counts = counted _ _ (omega (arith, c .before .before .before .before .before .before .before .before .before .before .before .before .before .before .before .before .pre)); holds = stands .holds }
+    let pre' = c .before .before .before .before .before .before .before .before .before .before .before .before .before .before .before .before .pre in
+    let put-text = c .before .before .before .before .before .before .before .before .before .before .before .before .put-text in
+    let put-line = c .before .before .before .before .before .before .before .put-line in
+    let stands = behind-next (put-text .ensures) (behind-next (put-line .ensures .stands) (c .before .before .put-line2 .ensures .stands)) in
+    record { fits = omega arith; counts = counted _ _ (omega (arith, pre')); holds = stands .holds }
 
 pub put-refused-spec : {M : Type 1} → statement M
 put-refused-spec =

@@ -50,9 +50,11 @@ loop-less c = search needs
 
 loop-again : tie.Need-loop-again Inv-loop μ-loop
 loop-again c =
+    let pre' = c .before .before .before .before .before .before .before .before .pre in
+    let loop' = c .before .before .before .before .before .before .loop in
     let a = c .before .before .before .before .before .before .before .before .args in (
       omega arith,
-      no-stop-more (a .r .now) (a .turned) (a .at) (c .before .before .before .before .before .before .loop .inv .1) (c .before .before .before .before .before .before .before .before .pre .1) (search needs) (search needs) (c .before .may-stop .ensures),
+      no-stop-more (a .r .now) (a .turned) (a .at) (loop' .inv .1) (pre' .1) (search needs) (search needs) (c .before .may-stop .ensures),
     )
 
 returns : tie.Need-returns Inv-loop μ-loop

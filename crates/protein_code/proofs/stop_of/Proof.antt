@@ -31,6 +31,7 @@ equal-requires-4 c κs = search needs
 
 returns : tie.Need-returns
 returns c =
+    let equal = c .before .before .before .before .before .equal in
     let a = c .before .before .before .before .before .before .before .before .args in
     let sum = c .before .before .before .before .before .before .before .wrapping-add-u8 in
     let aa = c .before .before .before .before .before .before .wrapping-add-u82 in
@@ -39,7 +40,7 @@ returns c =
     λ h. sums-none (a .t) (a .a) (a .g) (a .r) (a .x) (a .y) (a .z)
     (rw (← sum .ensures, ← aa .ensures, ← ag .ensures, ← ar .ensures)
     (none-of (eqb (a .x) (a .t)) (eqb (sum .result) (aa .result)) (eqb (sum .result) (ag .result)) (eqb (sum .result) (ar .result)) (c .equal4 .ensures)
-    (c .before .before .before .before .before .equal .ensures) (c .before .before .before .equal2 .ensures) (c .before .equal3 .ensures) h))
+    (equal .ensures) (c .before .before .before .equal2 .ensures) (c .before .equal3 .ensures) h))
 
 pub stop-of-spec : {M : Type 1} → statement M
 stop-of-spec =

@@ -23,7 +23,9 @@ enum-told : tie.Need-enum-told Inv-loop μ-loop
 enum-told c = search needs
 
 returns : tie.Need-returns Inv-loop μ-loop
-returns c = filling-done (c .before .before .before .before .before .loop .inv) (c .before .before .before .if1 .taken) (steps-are (c .before .before .step .ensures) (c .enum-told .given .1))
+returns c =
+    let loop' = c .before .before .before .before .before .loop in
+    filling-done (loop' .inv) (c .before .before .before .if1 .taken) (steps-are (c .before .before .step .ensures) (c .enum-told .given .1))
 
 enum-known-a : tie.Need-enum-known-a Inv-loop μ-loop
 enum-known-a c = search needs
@@ -33,11 +35,19 @@ opened-requires c κs = steps-are (c .before .before .before .step .ensures) (c 
 
 loop-less : tie.Need-loop-less Inv-loop μ-loop
 loop-less c =
-    fewer-steps (c .before .before .before .before .before .before .before .loop .inv) (c .before .before .before .before .before .if1 .taken) (c .before .before .before .before .before .before .before .before .before .before .pre .0) (steps-are (c .before .before .before .before .step .ensures) (c .before .before .a .given .1)) (c .opened .ensures)
+    let pre' = c .before .before .before .before .before .before .before .before .before .before .pre in
+    let loop' = c .before .before .before .before .before .before .before .loop in
+    let if1 = c .before .before .before .before .before .if1 in
+    fewer-steps (loop' .inv) (if1 .taken) (pre' .0)
+    (steps-are (c .before .before .before .before .step .ensures) (c .before .before .a .given .1)) (c .opened .ensures)
 
 loop-again : tie.Need-loop-again Inv-loop μ-loop
 loop-again c =
-    filling-next (c .before .before .before .before .before .before .before .loop .inv) (c .before .before .before .before .before .if1 .taken) (c .before .before .before .before .before .before .before .before .before .before .pre .0) (steps-are (c .before .before .before .before .step .ensures) (c .before .before .a .given .1)) (c .opened .ensures)
+    let pre' = c .before .before .before .before .before .before .before .before .before .before .pre in
+    let loop' = c .before .before .before .before .before .before .before .loop in
+    let if1 = c .before .before .before .before .before .if1 in
+    filling-next (loop' .inv) (if1 .taken) (pre' .0)
+    (steps-are (c .before .before .before .before .step .ensures) (c .before .before .a .given .1)) (c .opened .ensures)
 
 returns-2 : tie.Need-returns-2 Inv-loop μ-loop
 returns-2 c = filling-full (c .before .before .loop .inv) (c .if1 .left)

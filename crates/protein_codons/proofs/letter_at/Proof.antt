@@ -29,10 +29,11 @@ codon-requires c κs = search needs
 
 returns : tie.Need-returns
 returns c =
+    let place = c .before .before .before .before .before .place in
     let a = c .before .before .before .before .before .before .before .args in
     let p = c .before .before .before .before .before .before .before .pre in
     c .codon .ensures _ (p .1 .1 .1 .0)
-    ∙ at-place (a .r .now) (a .low) (a .high) (a .turned) (a .k) (c .before .before .before .before .before .place .ensures .0) true (c .before .before .before .before .if1 .taken) (p .0) (p .1 .0)
+    ∙ at-place (a .r .now) (a .low) (a .high) (a .turned) (a .k) (place .ensures .0) true (c .before .before .before .before .if1 .taken) (p .0) (p .1 .0)
 
 shared-slice-read-codon-4 : tie.Need-shared-slice-read-codon-4
 shared-slice-read-codon-4 c = search needs
@@ -54,10 +55,11 @@ codon-requires-2 c κs = search needs
 
 returns-2 : tie.Need-returns-2
 returns-2 c =
+    let place = c .before .before .before .before .before .place in
     let a = c .before .before .before .before .before .before .before .args in
     let p = c .before .before .before .before .before .before .before .pre in
     c .codon2 .ensures _ (p .1 .1 .0)
-    ∙ at-place (a .r .now) (a .low) (a .high) (a .turned) (a .k) (c .before .before .before .before .before .place .ensures .0) false (c .before .before .before .before .if1 .left) (p .0) (p .1 .0)
+    ∙ at-place (a .r .now) (a .low) (a .high) (a .turned) (a .k) (place .ensures .0) false (c .before .before .before .before .if1 .left) (p .0) (p .1 .0)
 
 pub letter-at-spec : {M : Type 1} → statement M
 letter-at-spec =

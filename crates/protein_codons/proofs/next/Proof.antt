@@ -20,7 +20,9 @@ onward-requires : tie.Need-onward-requires
 onward-requires c κs = search needs
 
 returns-2 : tie.Need-returns-2
-returns-2 c = record { says = next-letter (c .before .before .before .before .before .pre .1 .0) (c .onward .ensures) (c .before .letter-at .ensures) }
+returns-2 c =
+    let pre' = c .before .before .before .before .before .pre in
+    record { says = next-letter (pre' .1 .0) (c .onward .ensures) (c .before .letter-at .ensures) }
 
 pub next-spec : {M : Type 1} → statement M
 next-spec =

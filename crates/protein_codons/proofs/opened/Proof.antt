@@ -17,7 +17,10 @@ cast-t8 : tie.Need-cast-t8
 cast-t8 c = search needs
 
 returns-2 : tie.Need-returns-2
-returns-2 c = opens-some (c .before .before .before .before .before .args .x) (c .before .before .before .before .before .args .walk) (c .before .before .before .before .before .pre) (c .before .before .if1 .left)
+returns-2 c =
+    let args = c .before .before .before .before .before .args in
+    let pre' = c .before .before .before .before .before .pre in
+    opens-some (args .x) (args .walk) (pre') (c .before .before .if1 .left)
 
 pub opened-spec : {M : Type 1} → statement M
 opened-spec = tie.close (tie.spec returns cast-t6 sub-t7 cast-t8 returns-2)

@@ -35,11 +35,12 @@ plain-letter-requires c κs = search needs
 
 returns : tie.Need-returns
 returns c =
+    let place = c .before .before .before .before .before .place in
     let a = c .before .before .before .before .before .before .before .args in
     let p = c .before .before .before .before .before .before .before .pre in
-    let at = c .before .before .before .before .before .place .ensures .0 in
+    let at = place .ensures .0 in
     c .plain-letter .ensures
-    ∙ plain-here (a .r .now) (a .turned) (c .before .before .before .before .before .place .result) _ at (p .1 .1 .1 .0) (p .1 .1 .1 .1)
+    ∙ plain-here (a .r .now) (a .turned) (place .result) _ at (p .1 .1 .1 .0) (p .1 .1 .1 .1)
     ∙ at-place (a .r .now) (a .low) (a .high) (a .turned) (a .k) at (a .turned) refl (p .0) (p .1 .0)
 
 pub plain-at-spec : {M : Type 1} → statement M

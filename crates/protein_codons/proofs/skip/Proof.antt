@@ -17,13 +17,16 @@ loop-holds : tie.Need-loop-holds Inv-loop μ-loop
 loop-holds c = (omega arith, skipped-none (c .before .before .pre .1 .0))
 
 next-base-requires : tie.Need-next-base-requires Inv-loop μ-loop
-next-base-requires c κs = (c .before .before .before .before .pre .0, (c .before .loop .inv .1 .ready, (c .before .before .before .before .pre .1 .1 .0, c .before .before .before .before .pre .1 .1 .1)))
+next-base-requires c κs =
+    (c .before .before .before .before .pre .0, (c .before .loop .inv .1 .ready, (c .before .before .before .before .pre .1 .1 .0, c .before .before .before .before .pre .1 .1 .1)))
 
 enum-told : tie.Need-enum-told Inv-loop μ-loop
 enum-told c = search needs
 
 returns : tie.Need-returns Inv-loop μ-loop
-returns c = skipped-all (c .before .before .before .before .loop .inv .1) (bases-are (c .before .before .next-base .ensures) (c .enum-told .given .1)) (c .before .before .before .before .loop .inv .0)
+returns c =
+    skipped-all (c .before .before .before .before .loop .inv .1)
+    (bases-are (c .before .before .next-base .ensures) (c .enum-told .given .1)) (c .before .before .before .before .loop .inv .0)
 
 enum-known-y : tie.Need-enum-known-y Inv-loop μ-loop
 enum-known-y c = search needs
@@ -35,7 +38,9 @@ loop-less : tie.Need-loop-less Inv-loop μ-loop
 loop-less c = search needs
 
 loop-again : tie.Need-loop-again Inv-loop μ-loop
-loop-again c = (omega arith, skipped-one (c .before .before .before .before .before .loop .inv .1) (bases-are (c .before .before .before .next-base .ensures) (c .before .y .given .1)))
+loop-again c =
+    let loop' = c .before .before .before .before .before .loop in
+    (omega arith, skipped-one (loop' .inv .1) (bases-are (c .before .before .before .next-base .ensures) (c .before .y .given .1)))
 
 returns-2 : tie.Need-returns-2 Inv-loop μ-loop
 returns-2 c = skipped-end (c .before .loop .inv .0) (c .loop-test .left) (c .before .loop .inv .1)

@@ -39,8 +39,10 @@ returns-2 c = c .before .before .before .loop .inv .1
 
 same-plain-requires : tie.Need-same-plain-requires Inv-loop μ-loop
 same-plain-requires c κs =
+    let pre' = c .before .before .before .before .before .before .before .before .before .pre in
+    let plain-table = c .before .before .before .before .before .plain-table in
     let plain = c .before .before .plain-block .ensures (not-false _ (c .before .if2 .left)) in
-    (omega arith, (c .before .before .before .before .before .before .before .before .before .pre .1 .0, (plain, (omega arith, (c .before .before .before .before .loop .inv .1, c .before .before .before .before .before .plain-table .ensures)))))
+    (omega arith, (pre' .1 .0, (plain, (omega arith, (c .before .before .before .before .loop .inv .1, plain-table .ensures)))))
 
 add-if3 : tie.Need-add-if3 Inv-loop μ-loop
 add-if3 c = search needs

@@ -30,7 +30,9 @@ shared-slice-read-if2 : tie.Need-shared-slice-read-if2 Inv-loop μ-loop
 shared-slice-read-if2 c = search needs
 
 returns-2 : tie.Need-returns-2 Inv-loop μ-loop
-returns-2 c = c .before .before .before .before .before .loop .inv
+returns-2 c =
+    let loop' = c .before .before .before .before .before .loop in
+    loop' .inv
 
 add-k : tie.Need-add-k Inv-loop μ-loop
 add-k c = search needs
@@ -40,7 +42,9 @@ loop-less c = search needs
 
 loop-again : tie.Need-loop-again Inv-loop μ-loop
 loop-again c =
-    same-more (c .before .before .before .before .before .loop .inv) (omega arith) (omega arith) (c .before .before .before .letter-at .ensures) (c .before .before .if1 .left) (c .if2 .left)
+    let loop' = c .before .before .before .before .before .loop in
+    same-more (loop' .inv) (omega arith) (omega arith) (c .before .before .before .letter-at .ensures) (c .before .before .if1 .left)
+    (c .if2 .left)
 
 returns-3 : tie.Need-returns-3 Inv-loop μ-loop
 returns-3 c = c .before .loop .inv

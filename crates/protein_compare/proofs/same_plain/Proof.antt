@@ -39,7 +39,9 @@ shared-slice-read-if2 : tie.Need-shared-slice-read-if2 Inv-loop μ-loop
 shared-slice-read-if2 c = search needs
 
 returns-2 : tie.Need-returns-2 Inv-loop μ-loop
-returns-2 c = c .before .before .before .before .before .loop .inv .1
+returns-2 c =
+    let loop' = c .before .before .before .before .before .loop in
+    loop' .inv .1
 
 add-k : tie.Need-add-k Inv-loop μ-loop
 add-k c = search needs
@@ -49,7 +51,8 @@ loop-less c = search needs
 
 loop-again : tie.Need-loop-again Inv-loop μ-loop
 loop-again c =
-    let more = same-more (c .before .before .before .before .before .loop .inv .1) (omega arith) (omega arith) (c .before .before .before .plain-at .ensures) (c .before .before .if1 .left) (c .if2 .left) in
+    let loop' = c .before .before .before .before .before .loop in
+    let more = same-more (loop' .inv .1) (omega arith) (omega arith) (c .before .before .before .plain-at .ensures) (c .before .before .if1 .left) (c .if2 .left) in
     (omega arith, more)
 
 returns-3 : tie.Need-returns-3 Inv-loop μ-loop

@@ -45,10 +45,14 @@ returns-2 : tie.Need-returns-2 Inv-loop μ-loop
 returns-2 c = c .before .before .before .loop .inv .1
 
 stops-requires : tie.Need-stops-requires Inv-loop μ-loop
-stops-requires c κs = (omega (arith, c .before .before .block-at .ensures .1), c .before .before .before .before .before .mark-table .ensures)
+stops-requires c κs =
+    let mark-table = c .before .before .before .before .before .mark-table in
+    (omega (arith, c .before .before .block-at .ensures .1), mark-table .ensures)
 
 returns-3 : tie.Need-returns-3 Inv-loop μ-loop
-returns-3 c = c .before .before .before .before .before .before .loop .inv .1
+returns-3 c =
+    let loop' = c .before .before .before .before .before .before .loop in
+    loop' .inv .1
 
 add-k : tie.Need-add-k Inv-loop μ-loop
 add-k c = search needs
@@ -58,11 +62,13 @@ loop-less c = search needs
 
 loop-again : tie.Need-loop-again Inv-loop μ-loop
 loop-again c =
+    let pre' = c .before .before .before .before .before .before .before .before .before .before .pre in
+    let loop' = c .before .before .before .before .before .before .loop in
     let a = c .before .before .before .before .before .before .before .before .before .before .args in
-    let k = c .before .before .before .before .before .before .loop .k in
+    let k = loop' .k in
     let none = subst (λ (at : ℕ). NoStop (a .r .now) (a .turned) at 192) (c .before .before .before .before .block-at .ensures .0) (c .before .stops .ensures (c .if3 .left)) in
-    let passed = block-none (a .r .now) (a .low) (a .high) (a .turned) k (omega arith) (c .before .before .before .before .before .before .before .before .before .before .pre .0) none in
-    (omega arith, record { within = omega arith; clear = none-join (c .before .before .before .before .before .before .loop .inv .1 .clear) passed })
+    let passed = block-none (a .r .now) (a .low) (a .high) (a .turned) k (omega arith) (pre' .0) none in
+    (omega arith, record { within = omega arith; clear = none-join (loop' .inv .1 .clear) passed })
 
 returns-4 : tie.Need-returns-4 Inv-loop μ-loop
 returns-4 c = c .before .loop .inv .1

@@ -14,7 +14,9 @@ add-t4 : tie.Need-add-t4
 add-t4 c = search needs
 
 returns-2 : tie.Need-returns-2
-returns-2 c = counted-in (c .before .before .before .args .a) (c .before .before .before .args .k) (c .before .before .before .pre) (c .before .if1 .left)
+returns-2 c =
+    counted-in (c .before .before .before .args .a) (c .before .before .before .args .k) (c .before .before .before .pre)
+    (c .before .if1 .left)
 
 pub counted-spec : {M : Type 1} → statement M
 counted-spec = tie.close (tie.spec sub-if1 returns add-t4 returns-2)

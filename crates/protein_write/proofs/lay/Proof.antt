@@ -22,18 +22,23 @@ lay-blocks-requires c κs =
 
 lay-each-requires : tie.Need-lay-each-requires
 lay-each-requires c κs =
+    let least = c .before .before .before .before .before .least in
     let p = c .before .before .before .before .before .before .before .before .pre in
-    let w = c .before .before .before .before .before .least .ensures in
+    let w = least .ensures in
     let front = c .before .before .before .lay-blocks .ensures in
     (front .0, (omega (arith, w), (p .1 .0, (omega (arith, w, front .1 .size), p .1 .1 .1 .1))))
 
 same-length : tie.Need-same-length
-same-length c = lays-join (c .before .before .before .before .before .before .lay-blocks .ensures .1) (c .before .before .lay-each .ensures) .size
+same-length c =
+    let lay-blocks = c .before .before .before .before .before .before .lay-blocks in
+    lays-join (lay-blocks .ensures .1) (c .before .before .lay-each .ensures) .size
 
 returns : tie.Need-returns
 returns c =
-    let w = c .before .before .before .before .before .before .before .before .least .ensures in
-    lays-all (lays-join (c .before .before .before .before .before .before .lay-blocks .ensures .1) (c .before .before .lay-each .ensures)) (omega (arith, w)) (omega (arith, w))
+    let least = c .before .before .before .before .before .before .before .before .least in
+    let lay-blocks = c .before .before .before .before .before .before .lay-blocks in
+    let w = least .ensures in
+    lays-all (lays-join (lay-blocks .ensures .1) (c .before .before .lay-each .ensures)) (omega (arith, w)) (omega (arith, w))
 
 pub lay-spec : {M : Type 1} → statement M
 lay-spec =

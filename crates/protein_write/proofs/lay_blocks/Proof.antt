@@ -42,7 +42,9 @@ loop-less : tie.Need-loop-less Inv-loop μ-loop
 loop-less c = search needs
 
 loop-again : tie.Need-loop-again Inv-loop μ-loop
-loop-again c = (omega arith, lays-join (c .before .before .before .before .before .before .loop .inv .1) (c .before .before .lay-block .ensures))
+loop-again c =
+    let loop' = c .before .before .before .before .before .before .loop in
+    (omega arith, lays-join (loop' .inv .1) (c .before .before .lay-block .ensures))
 
 same-length : tie.Need-same-length Inv-loop μ-loop
 same-length c = c .before .loop .inv .1 .size

@@ -18,8 +18,9 @@ loop-holds c = putting-start (c .before .before .before .pre .1 .0) (c .before .
 
 lay-requires : tie.Need-lay-requires Inv-loop μ-loop
 lay-requires c κs =
+    let pre' = c .before .before .before .before .before .pre in
     let i = c .before .loop .inv in
-    (i .ready .order, (i .ready .inside, (i .within, (omega (arith, i .room, i .size), (c .before .before .before .before .before .pre .1 .1 .0, (c .before .before .before .before .before .pre .1 .1 .1 .0, c .before .before .before .before .before .pre .1 .1 .1 .1 .0))))))
+    (i .ready .order, (i .ready .inside, (i .within, (omega (arith, i .room, i .size), (pre' .1 .1 .0, (pre' .1 .1 .1 .0, pre' .1 .1 .1 .1 .0))))))
 
 add-j : tie.Need-add-j Inv-loop μ-loop
 add-j c =
@@ -31,30 +32,38 @@ onward-requires c κs = c .before .before .lay .ensures .within
 
 same-length : tie.Need-same-length Inv-loop μ-loop
 same-length c =
-    let f = putting-run (c .before .before .before .before .before .before .loop .inv) (c .before .onward .ensures) (c .before .before .before .before .lay .ensures) in
+    let loop' = c .before .before .before .before .before .before .loop in
+    let f = putting-run (loop' .inv) (c .before .onward .ensures) (c .before .before .before .before .lay .ensures) in
     f .size
 
 returns : tie.Need-returns Inv-loop μ-loop
 returns c =
-    let f = putting-run (c .before .before .before .before .before .before .loop .inv) (c .before .onward .ensures) (c .before .before .before .before .lay .ensures) in
+    let loop' = c .before .before .before .before .before .before .loop in
+    let f = putting-run (loop' .inv) (c .before .onward .ensures) (c .before .before .before .before .lay .ensures) in
     putting-end f (c .if1 .taken)
 
 next-requires : tie.Need-next-requires Inv-loop μ-loop
 next-requires c κs =
-    let f = putting-run (c .before .before .before .before .before .before .loop .inv) (c .before .onward .ensures) (c .before .before .before .before .lay .ensures) in
-    (c .before .before .before .before .before .before .before .before .before .before .pre .0, (f .ready, (c .before .before .before .before .before .before .before .before .before .before .pre .1 .1 .0, (c .before .before .before .before .before .before .before .before .before .before .pre .1 .1 .1 .0, c .before .before .before .before .before .before .before .before .before .before .pre .1 .1 .1 .1 .0))))
+    let pre' = c .before .before .before .before .before .before .before .before .before .before .pre in
+    let loop' = c .before .before .before .before .before .before .loop in
+    let f = putting-run (loop' .inv) (c .before .onward .ensures) (c .before .before .before .before .lay .ensures) in
+    (pre' .0, (f .ready, (pre' .1 .1 .0, (pre' .1 .1 .1 .0, pre' .1 .1 .1 .1 .0))))
 
 enum-told : tie.Need-enum-told Inv-loop μ-loop
 enum-told c = search needs
 
 same-length-2 : tie.Need-same-length-2 Inv-loop μ-loop
 same-length-2 c =
-    let f = putting-run (c .before .before .before .before .before .before .before .before .before .loop .inv) (c .before .before .before .before .onward .ensures) (c .before .before .before .before .before .before .before .lay .ensures) in
+    let loop' = c .before .before .before .before .before .before .before .before .before .loop in
+    let lay = c .before .before .before .before .before .before .before .lay in
+    let f = putting-run (loop' .inv) (c .before .before .before .before .onward .ensures) (lay .ensures) in
     f .size
 
 returns-2 : tie.Need-returns-2 Inv-loop μ-loop
 returns-2 c =
-    let f = putting-run (c .before .before .before .before .before .before .before .before .before .loop .inv) (c .before .before .before .before .onward .ensures) (c .before .before .before .before .before .before .before .lay .ensures) in
+    let loop' = c .before .before .before .before .before .before .before .before .before .loop in
+    let lay = c .before .before .before .before .before .before .before .lay in
+    let f = putting-run (loop' .inv) (c .before .before .before .before .onward .ensures) (lay .ensures) in
     putting-done f (c .before .before .before .if1 .left) (letters-are (c .before .before .next .ensures) (c .enum-told .given .1))
 
 enum-known-c : tie.Need-enum-known-c Inv-loop μ-loop
@@ -62,18 +71,26 @@ enum-known-c c = search needs
 
 slice-write-out : tie.Need-slice-write-out Inv-loop μ-loop
 slice-write-out c =
-    let f = putting-run (c .before .before .before .before .before .before .before .before .before .before .loop .inv) (c .before .before .before .before .before .onward .ensures) (c .before .before .before .before .before .before .before .before .lay .ensures) in
+    let loop' = c .before .before .before .before .before .before .before .before .before .before .loop in
+    let lay = c .before .before .before .before .before .before .before .before .lay in
+    let onward = c .before .before .before .before .before .onward in
+    let f = putting-run (loop' .inv) (onward .ensures) (lay .ensures) in
     omega (arith, f .room, f .size)
 
 add-k : tie.Need-add-k Inv-loop μ-loop
-add-k c = omega (arith, c .before .before .before .before .if1 .left, c .before .before .before .before .before .before .before .before .before .before .before .before .before .before .fits .count)
+add-k c =
+    let fits = c .before .before .before .before .before .before .before .before .before .before .before .before .before .before .fits in
+    omega (arith, c .before .before .before .before .if1 .left, fits .count)
 
 loop-less : tie.Need-loop-less Inv-loop μ-loop
 loop-less c = search needs
 
 loop-again : tie.Need-loop-again Inv-loop μ-loop
 loop-again c =
-    let f = putting-run (c .before .before .before .before .before .before .before .before .before .before .loop .inv) (c .before .before .before .before .before .onward .ensures) (c .before .before .before .before .before .before .before .before .lay .ensures) in
+    let loop' = c .before .before .before .before .before .before .before .before .before .before .loop in
+    let lay = c .before .before .before .before .before .before .before .before .lay in
+    let onward = c .before .before .before .before .before .onward in
+    let f = putting-run (loop' .inv) (onward .ensures) (lay .ensures) in
     let g = letters-are (c .before .before .before .next .ensures) (c .before .c .given .1) in
     putting-one f g (c .before .before .before .before .if1 .left)
 

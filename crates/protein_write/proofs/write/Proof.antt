@@ -15,19 +15,27 @@ enum-known-n : tie.Need-enum-known-n
 enum-known-n c = search needs
 
 begin-requires : tie.Need-begin-requires
-begin-requires c κs = (c .before .before .before .before .if1 .left, (c .before .before .before .before .before .before .before .before .pre .0, c .before .before .before .before .before .before .before .before .pre .1 .0))
+begin-requires c κs =
+    let pre' = c .before .before .before .before .before .before .before .before .pre in
+    (c .before .before .before .before .if1 .left, (pre' .0, pre' .1 .0))
 
 put-requires : tie.Need-put-requires
 put-requires c κs =
-    let m = measures-are (c .before .before .before .before .before .measure .ensures) (c .before .before .before .n .given .1) in
-    (c .before .before .before .before .before .before .if1 .left, (c .before .begin .ensures .ready, (c .before .before .before .before .before .before .before .before .before .before .pre .0, (c .before .before .before .before .before .before .before .before .before .before .pre .1 .0, (c .before .before .before .before .before .before .before .before .before .before .pre .1 .1, m .within)))))
+    let pre' = c .before .before .before .before .before .before .before .before .before .before .pre in
+    let if1 = c .before .before .before .before .before .before .if1 in
+    let measure = c .before .before .before .before .before .measure in
+    let m = measures-are (measure .ensures) (c .before .before .before .n .given .1) in
+    (if1 .left, (c .before .begin .ensures .ready, (pre' .0, (pre' .1 .0, (pre' .1 .1, m .within)))))
 
 same-length : tie.Need-same-length
 same-length c = search needs
 
 returns-2 : tie.Need-returns-2
 returns-2 c =
-    writes-is (c .before .before .before .before .begin .ensures) (measures-are (c .before .before .before .before .before .before .before .before .measure .ensures) (c .before .before .before .before .before .before .n .given .1)) (c .before .before .put .ensures)
+    let measure = c .before .before .before .before .before .before .before .before .measure in
+    let n = c .before .before .before .before .before .before .n in
+    writes-is (c .before .before .before .before .begin .ensures) (measures-are (measure .ensures) (n .given .1))
+    (c .before .before .put .ensures)
 
 enum-told : tie.Need-enum-told
 enum-told c = search needs

@@ -48,8 +48,14 @@ word-requires-5 c κs = search needs
 
 returns : tie.Need-returns
 returns c =
-    doctype-reads (c .before .before .before .before .before .before .before .before .before .before .before .before .word .ensures) (c .before .before .before .before .before .before .before .before .before .before .before .gap .ensures) (c .before .before .before .before .before .before .before .before .before .word2 .ensures) (c .before .before .before .before .before .before .before .before .gap2 .ensures) (c .before .before .before .before .before .before .word3 .ensures) (c .before .before .before .before .before .gap3 .ensures) (c .before .before .before .word4 .ensures) (c .before .before .gap4 .ensures)
-    (c .word5 .ensures)
+    let word = c .before .before .before .before .before .before .before .before .before .before .before .before .word in
+    let gap = c .before .before .before .before .before .before .before .before .before .before .before .gap in
+    let word2 = c .before .before .before .before .before .before .before .before .before .word2 in
+    let gap2 = c .before .before .before .before .before .before .before .before .gap2 in
+    let word3 = c .before .before .before .before .before .before .word3 in
+    let gap3 = c .before .before .before .before .before .gap3 in
+    doctype-reads (word .ensures) (gap .ensures) (word2 .ensures) (gap2 .ensures) (word3 .ensures) (gap3 .ensures)
+    (c .before .before .before .word4 .ensures) (c .before .before .gap4 .ensures) (c .word5 .ensures)
 
 pub doctype-spec : {M : Type 1} → statement M
 doctype-spec =

@@ -33,11 +33,14 @@ end-requires : tie.Need-end-requires
 end-requires c κs = search needs
 
 returns : tie.Need-returns
-returns c = (
-  document-reads (step-from (ap (λ (n : ℕ). Ok n n) (sym (c .before .before .before .before .before .before .before .before .before .pre .1))) (c .before .before .before .before .before .before .word .ensures)) (c .before .before .before .before .before .blanks .ensures) (c .before .before .before .before .doctype .ensures) (c .before .before .before .blanks2 .ensures)
-      (c .before .before .root .ensures) (c .before .blanks3 .ensures) (c .end .ensures .0),
-  c .end .ensures .1,
-)
+returns c =
+    let pre' = c .before .before .before .before .before .before .before .before .before .pre in
+    let word = c .before .before .before .before .before .before .word in
+    let blanks = c .before .before .before .before .before .blanks in (
+      document-reads (step-from (ap (λ (n : ℕ). Ok n n) (sym (pre' .1))) (word .ensures)) (blanks .ensures) (c .before .before .before .before .doctype .ensures) (c .before .before .before .blanks2 .ensures)
+          (c .before .before .root .ensures) (c .before .blanks3 .ensures) (c .end .ensures .0),
+      c .end .ensures .1,
+    )
 
 pub document-spec : {M : Type 1} → statement M
 document-spec =

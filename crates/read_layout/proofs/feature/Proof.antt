@@ -53,8 +53,12 @@ leave-requires c κs = search needs
 
 returns-2 : tie.Need-returns-2
 returns-2 c =
-    feature-reads (step-is (c .before .before .before .before .before .before .before .before .before .before .before .tag .ensures) (c .before .before .before .before .before .before .before .before .before .a .given .1)) (c .before .before .before .before .before .before .before .enter .ensures) (c .before .before .before .before .before .leaf-on .ensures) (c .before .before .before .leaf-on2 .ensures) (c .before .before .quals-maybe .ensures)
-    (c .leave .ensures)
+    let tag = c .before .before .before .before .before .before .before .before .before .before .before .tag in
+    let a = c .before .before .before .before .before .before .before .before .before .a in
+    let enter = c .before .before .before .before .before .before .before .enter in
+    let leaf-on = c .before .before .before .before .before .leaf-on in
+    feature-reads (step-is (tag .ensures) (a .given .1)) (enter .ensures) (leaf-on .ensures) (c .before .before .before .leaf-on2 .ensures)
+    (c .before .before .quals-maybe .ensures) (c .leave .ensures)
 
 pub feature-spec : {M : Type 1} → statement M
 feature-spec =

@@ -43,11 +43,17 @@ leaf-requires c κs = search needs
 
 returns-2 : tie.Need-returns-2
 returns-2 c =
-    step-from (c .before .before .before .before .before .before .before .before .st .given .1) (heading-applied (step-is (c .before .before .before .before .before .identification .ensures) (c .before .before .before .n .given .1)) (c .leaf-maybe .ensures))
+    let st = c .before .before .before .before .before .before .before .before .st in
+    let identification = c .before .before .before .before .before .identification in
+    step-from (st .given .1)
+    (heading-applied (step-is (identification .ensures) (c .before .before .before .n .given .1)) (c .leaf-maybe .ensures))
 
 returns-3 : tie.Need-returns-3
 returns-3 c =
-    step-from (c .before .before .before .before .before .before .before .before .st .given .1) (heading-referred (step-is (c .before .before .before .before .before .identification .ensures) (c .before .before .before .k .given .1)) (c .leaf .ensures))
+    let st = c .before .before .before .before .before .before .before .before .st in
+    let identification = c .before .before .before .before .before .identification in
+    step-from (st .given .1)
+    (heading-referred (step-is (identification .ensures) (c .before .before .before .k .given .1)) (c .leaf .ensures))
 
 pub heading-spec : {M : Type 1} → statement M
 heading-spec =

@@ -33,7 +33,11 @@ leave-requires c κs = search needs
 
 returns : tie.Need-returns
 returns c =
-    identification-reads _ (c .before .before .before .before .before .before .before .before .tag .ensures) (c .before .before .before .before .before .before .before .enter .ensures) (c .before .before .before .before .before .leaf-maybe .ensures) (c .before .before .before .leaf-on .ensures) (c .before .leaf-maybe2 .ensures) (c .leave .ensures)
+    let tag = c .before .before .before .before .before .before .before .before .tag in
+    let enter = c .before .before .before .before .before .before .before .enter in
+    let leaf-maybe = c .before .before .before .before .before .leaf-maybe in
+    identification-reads _ (tag .ensures) (enter .ensures) (leaf-maybe .ensures) (c .before .before .before .leaf-on .ensures)
+    (c .before .leaf-maybe2 .ensures) (c .leave .ensures)
 
 pub identification-spec : {M : Type 1} → statement M
 identification-spec =

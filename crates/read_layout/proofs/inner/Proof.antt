@@ -51,8 +51,14 @@ leave-requires c κs = search needs
 
 returns : tie.Need-returns
 returns c =
-    held-reads (c .before .before .before .before .before .before .before .before .before .before .before .before .before .tag .ensures) (c .before .before .before .before .before .before .before .before .before .before .before .before .enter .ensures) (c .before .before .before .before .before .before .before .before .before .before .leaf-on .ensures) (c .before .before .before .before .before .before .before .before .leaf-on2 .ensures) (c .before .before .before .before .before .before .leaf-on3 .ensures) (c .before .before .before .before .before .ids-maybe .ensures) (c .before .before .before .before .table-maybe .ensures)
-    (c .before .before .leaf-on4 .ensures) (c .leave .ensures)
+    let tag = c .before .before .before .before .before .before .before .before .before .before .before .before .before .tag in
+    let enter = c .before .before .before .before .before .before .before .before .before .before .before .before .enter in
+    let leaf-on = c .before .before .before .before .before .before .before .before .before .before .leaf-on in
+    let leaf-on2 = c .before .before .before .before .before .before .before .before .leaf-on2 in
+    let leaf-on3 = c .before .before .before .before .before .before .leaf-on3 in
+    let ids-maybe = c .before .before .before .before .before .ids-maybe in
+    held-reads (tag .ensures) (enter .ensures) (leaf-on .ensures) (leaf-on2 .ensures) (leaf-on3 .ensures) (ids-maybe .ensures)
+    (c .before .before .before .before .table-maybe .ensures) (c .before .before .leaf-on4 .ensures) (c .leave .ensures)
 
 pub inner-spec : {M : Type 1} → statement M
 inner-spec =

@@ -33,7 +33,10 @@ party-maybe-requires-2 c κs = search needs
 
 returns : tie.Need-returns
 returns c =
-    parties-reads (c .before .before .before .before .before .before .before .before .heading .ensures) (c .before .before .before .before .before .before .identification-maybe .ensures) (c .before .before .before .party-maybe .ensures) (c .party-maybe2 .ensures)
+    let heading = c .before .before .before .before .before .before .before .before .heading in
+    let identification-maybe = c .before .before .before .before .before .before .identification-maybe in
+    parties-reads (heading .ensures) (identification-maybe .ensures) (c .before .before .before .party-maybe .ensures)
+    (c .party-maybe2 .ensures)
 
 pub introduction-spec : {M : Type 1} → statement M
 introduction-spec =

@@ -31,10 +31,14 @@ enum-known-k c = search needs
 
 returns-2 : tie.Need-returns-2
 returns-2 c =
-    party-reads _ _ (c .before .before .before .before .before .before .st .given .1) (step-is (c .before .before .before .before .spoken .ensures) (c .before .before .n .given .1)) (c .leaf-maybe .ensures)
+    let st = c .before .before .before .before .before .before .st in
+    party-reads _ _ (st .given .1) (step-is (c .before .before .before .before .spoken .ensures) (c .before .before .n .given .1))
+    (c .leaf-maybe .ensures)
 
 returns-3 : tie.Need-returns-3
-returns-3 c = party-missing _ _ (c .before .before .before .before .before .st .given .1) (step-is (c .before .before .before .spoken .ensures) (c .before .k .given .1))
+returns-3 c =
+    let st = c .before .before .before .before .before .st in
+    party-missing _ _ (st .given .1) (step-is (c .before .before .before .spoken .ensures) (c .before .k .given .1))
 
 pub party-maybe-spec : {M : Type 1} → statement M
 party-maybe-spec =

@@ -50,7 +50,11 @@ leave-requires c κs = search needs
 
 returns-2 : tie.Need-returns-2
 returns-2 c =
-    qualifier-reads (step-is (c .before .before .before .before .before .before .before .before .before .before .tag .ensures) (c .before .before .before .before .before .before .before .before .a .given .1)) (c .before .before .before .before .before .before .enter .ensures) (c .before .before .before .before .leaf-on .ensures) (c .before .before .leaf-maybe .ensures) (c .leave .ensures)
+    let tag = c .before .before .before .before .before .before .before .before .before .before .tag in
+    let a = c .before .before .before .before .before .before .before .before .a in
+    let enter = c .before .before .before .before .before .before .enter in
+    qualifier-reads (step-is (tag .ensures) (a .given .1)) (enter .ensures) (c .before .before .before .before .leaf-on .ensures)
+    (c .before .before .leaf-maybe .ensures) (c .leave .ensures)
 
 pub qualifier-spec : {M : Type 1} → statement M
 qualifier-spec =

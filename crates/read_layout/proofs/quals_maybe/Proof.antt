@@ -40,11 +40,18 @@ stay-requires c κs = search needs
 
 returns-2 : tie.Need-returns-2
 returns-2 c =
-    tried (c .before .before .before .before .before .before .st .given .1) (tagged-reads {G = QualsRest} ev-quals (step-is (c .before .before .before .tag .ensures) (c .before .k .given .1)) (followed-failed _ refl)) refl
+    let st = c .before .before .before .before .before .before .st in
+    tried (st .given .1)
+    (tagged-reads {G = QualsRest} ev-quals (step-is (c .before .before .before .tag .ensures) (c .before .k .given .1)) (followed-failed _ refl))
+    refl
 
 returns-3 : tie.Need-returns-3
 returns-3 c =
-    tried (c .before .before .before .before .before .before .before .before .st .given .1) (tagged-reads {G = QualsRest} ev-quals (step-is (c .before .before .before .before .before .tag .ensures) (c .before .before .before .n .given .1)) (c .before .quals-rest .ensures)) (c .stay .ensures)
+    let st = c .before .before .before .before .before .before .before .before .st in
+    let tag = c .before .before .before .before .before .tag in
+    tried (st .given .1)
+    (tagged-reads {G = QualsRest} ev-quals (step-is (tag .ensures) (c .before .before .before .n .given .1)) (c .before .quals-rest .ensures))
+    (c .stay .ensures)
 
 pub quals-maybe-spec : {M : Type 1} → statement M
 quals-maybe-spec =

@@ -46,10 +46,12 @@ blanks-requires-2 c κs = search needs
 
 returns-2 : tie.Need-returns-2
 returns-2 c =
+    let blanks = c .before .before .before .before .before .before .before .before .before .blanks in
+    let a = c .before .before .before .before .before .before .before .a in
     let h = c .before .before .enum-told2 .given .1 in
     record {
       step = _;
-      reads = step-to (c .before .again2 .ensures ∙ h) (holding?-short (bytes "INSDFeature_quals") qualifiers-facts no-qualifiers (step-is (c .before .before .before .before .before .before .before .before .before .blanks .ensures) (c .before .before .before .before .before .before .before .a .given .1)) (step-is (c .before .before .before .before .lit .ensures) h));
+      reads = step-to (c .before .again2 .ensures ∙ h) (holding?-short (bytes "INSDFeature_quals") qualifiers-facts no-qualifiers (step-is (blanks .ensures) (a .given .1)) (step-is (c .before .before .before .before .lit .ensures) h));
       passes = c .blanks2 .ensures;
     }
 
@@ -76,10 +78,15 @@ blanks-requires-4 c κs = search needs
 
 returns-3 : tie.Need-returns-3
 returns-3 c =
+    let blanks = c .before .before .before .before .before .before .before .before .before .before .before .before .before .before .before .blanks in
+    let a = c .before .before .before .before .before .before .before .before .before .before .before .before .before .a in
+    let lit = c .before .before .before .before .before .before .before .before .before .before .lit in
+    let short = c .before .before .before .before .before .before .before .before .short in
+    let lit2 = c .before .before .before .before .before .lit2 in
     record {
       step = _;
       reads =
-          holding?-long (bytes "INSDFeature_quals") qualifiers-facts no-qualifiers (step-is (c .before .before .before .before .before .before .before .before .before .before .before .before .before .before .before .blanks .ensures) (c .before .before .before .before .before .before .before .before .before .before .before .before .before .a .given .1)) (step-is (c .before .before .before .before .before .before .before .before .before .before .lit .ensures) (c .before .before .before .before .before .before .before .before .short .given .1)) (c .before .before .before .before .before .lit2 .ensures) (c .before .before .before .before .blanks3 .ensures)
+          holding?-long (bytes "INSDFeature_quals") qualifiers-facts no-qualifiers (step-is (blanks .ensures) (a .given .1)) (step-is (lit .ensures) (short .given .1)) (lit2 .ensures) (c .before .before .before .before .blanks3 .ensures)
           (c .before .before .before .qualifiers .ensures) (c .before .close .ensures);
       passes = c .blanks4 .ensures;
     }

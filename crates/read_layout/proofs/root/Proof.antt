@@ -45,8 +45,15 @@ close-requires c κs = search needs
 
 returns : tie.Need-returns
 returns c =
-    root-reads (c .before .before .before .before .before .before .before .before .before .before .before .tag .ensures) (c .before .before .before .before .before .before .before .before .before .before .attributes .ensures) (c .before .before .before .before .before .before .before .before .before .enter .ensures) (c .before .before .before .before .before .before .before .before .introduction .ensures) (titles-reads (c .before .before .before .before .before .before .before .title-on .ensures) (c .before .before .before .before .before .before .titles .ensures))
-    (c .before .before .before .before .leaf-on .ensures) (sequences-reads (c .before .before .before .sequence-on .ensures) (c .before .before .sequences .ensures)) (c .close .ensures)
+    let tag = c .before .before .before .before .before .before .before .before .before .before .before .tag in
+    let attributes = c .before .before .before .before .before .before .before .before .before .before .attributes in
+    let enter = c .before .before .before .before .before .before .before .before .before .enter in
+    let introduction = c .before .before .before .before .before .before .before .before .introduction in
+    let title-on = c .before .before .before .before .before .before .before .title-on in
+    let titles = c .before .before .before .before .before .before .titles in
+    root-reads (tag .ensures) (attributes .ensures) (enter .ensures) (introduction .ensures)
+    (titles-reads (title-on .ensures) (titles .ensures)) (c .before .before .before .before .leaf-on .ensures)
+    (sequences-reads (c .before .before .before .sequence-on .ensures) (c .before .before .sequences .ensures)) (c .close .ensures)
 
 pub root-spec : {M : Type 1} → statement M
 root-spec =

@@ -47,7 +47,10 @@ leave-requires c κs = search needs
 
 returns-2 : tie.Need-returns-2
 returns-2 c =
-    sequence-reads (step-is (c .before .before .before .before .before .before .before .before .before .tag .ensures) (c .before .before .before .before .before .before .before .a .given .1)) (c .before .before .before .before .attribute .ensures) (c .before .before .before .enter .ensures) (c .before .before .inner .ensures) (c .leave .ensures)
+    let tag = c .before .before .before .before .before .before .before .before .before .tag in
+    let a = c .before .before .before .before .before .before .before .a in
+    sequence-reads (step-is (tag .ensures) (a .given .1)) (c .before .before .before .before .attribute .ensures)
+    (c .before .before .before .enter .ensures) (c .before .before .inner .ensures) (c .leave .ensures)
 
 pub sequence-spec : {M : Type 1} → statement M
 sequence-spec =

@@ -51,12 +51,19 @@ stay-requires c κs = search needs
 
 returns-2 : tie.Need-returns-2
 returns-2 c =
-    tried (c .before .before .before .before .before .before .st .given .1) (table-reads (step-is (c .before .before .before .tag .ensures) (c .before .k .given .1)) (enters-failed _ refl) (failed _ refl) (failed _ refl) (leaves-failed _ refl)) refl
+    let st = c .before .before .before .before .before .before .st in
+    tried (st .given .1)
+    (table-reads (step-is (c .before .before .before .tag .ensures) (c .before .k .given .1)) (enters-failed _ refl) (failed _ refl) (failed _ refl) (leaves-failed _ refl))
+    refl
 
 returns-3 : tie.Need-returns-3
 returns-3 c =
-    tried (c .before .before .before .before .before .before .before .before .before .before .before .before .st .given .1)
-    (table-reads (step-is (c .before .before .before .before .before .before .before .before .before .tag .ensures) (c .before .before .before .before .before .before .before .n .given .1)) (c .before .before .before .before .before .enter .ensures) (c .before .before .before .before .feature-on .ensures) (c .before .before .before .features .ensures) (c .before .leave .ensures))
+    let st = c .before .before .before .before .before .before .before .before .before .before .before .before .st in
+    let tag = c .before .before .before .before .before .before .before .before .before .tag in
+    let n = c .before .before .before .before .before .before .before .n in
+    let enter = c .before .before .before .before .before .enter in
+    tried (st .given .1)
+    (table-reads (step-is (tag .ensures) (n .given .1)) (enter .ensures) (c .before .before .before .before .feature-on .ensures) (c .before .before .before .features .ensures) (c .before .leave .ensures))
     (c .stay .ensures)
 
 pub table-maybe-spec : {M : Type 1} → statement M

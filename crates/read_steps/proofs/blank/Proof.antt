@@ -27,8 +27,9 @@ most-requires c κs = search needs
 
 returns-2 : tie.Need-returns-2
 returns-2 c =
+    let args = c .before .before .before .before .before .before .args in
     let g = c .before .before .before .st .given in
-    let s = now (c .before .before .before .before .before .before .args .s) in
+    let s = now (args .s) in
     record {
       is = rw (g .1) (
         0,
@@ -54,8 +55,10 @@ most-requires-2 c κs = search needs
 
 returns-3 : tie.Need-returns-3
 returns-3 c =
-    let g = c .before .before .before .before .before .before .st .given in
-    let s = now (c .before .before .before .before .before .before .before .before .before .args .s) in
+    let args = c .before .before .before .before .before .before .before .before .before .args in
+    let st = c .before .before .before .before .before .before .st in
+    let g = st .given in
+    let s = now (args .s) in
     record {
       is = rw (g .1) (
         1,
@@ -72,8 +75,10 @@ most-requires-3 c κs = search needs
 
 returns-4 : tie.Need-returns-4
 returns-4 c =
-    let g = c .before .before .before .before .before .before .st .given in
-    let s = now (c .before .before .before .before .before .before .before .before .before .args .s) in
+    let args = c .before .before .before .before .before .before .before .before .before .args in
+    let st = c .before .before .before .before .before .before .st in
+    let g = st .given in
+    let s = now (args .s) in
     record {
       is = rw (g .1) (
         0,

@@ -46,9 +46,11 @@ loop-less c = search needs
 
 loop-again : tie.Need-loop-again Inv-loop μ-loop
 loop-again c =
+    let args = c .before .before .before .before .before .before .before .before .before .args in
+    let st = c .before .before .before .before .before .before .st in
     let l = c .before .before .before .before .loop in
-    let g = c .before .before .before .before .before .before .st .given in
-    let s = now (c .before .before .before .before .before .before .before .before .before .args .s) in
+    let g = st .given in
+    let s = now (args .s) in
     let h : l .inv .0 < length (drop (g .0 .0) s) = omega (arith, l .inv .1, length-drop (g .0 .0) s) in (
       suc (l .inv .0),
       omega (arith, l .inv .1),
@@ -62,9 +64,11 @@ most-requires c κs = search needs
 
 returns-2 : tie.Need-returns-2 Inv-loop μ-loop
 returns-2 c =
+    let args = c .before .before .before .before .before .before .before .before .before .before .args in
+    let st = c .before .before .before .before .before .before .before .st in
     let l = c .before .before .before .before .before .loop in
-    let g = c .before .before .before .before .before .before .before .st .given in
-    let s = now (c .before .before .before .before .before .before .before .before .before .before .args .s) in
+    let g = st .given in
+    let s = now (args .s) in
     record {
       is = rw (g .1) (
         l .inv .0,
@@ -81,9 +85,10 @@ most-requires-2 c κs = search needs
 
 returns-3 : tie.Need-returns-3 Inv-loop μ-loop
 returns-3 c =
+    let args = c .before .before .before .before .before .before .before .args in
     let l = c .before .before .loop in
     let g = c .before .before .before .before .st .given in
-    let s = now (c .before .before .before .before .before .before .before .args .s) in
+    let s = now (args .s) in
     record {
       is = rw (g .1) (
         l .inv .0,

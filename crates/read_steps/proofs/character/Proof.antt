@@ -54,8 +54,17 @@ either-requires-5 c κs = search needs
 
 returns : tie.Need-returns
 returns c =
-    letter-reads (c .before .before .before .before .before .before .before .before .before .before .before .before .before .before .before .before .before .args .high) (c .before .before .before .before .before .before .before .before .before .before .before .before .before .before .before .plain .ensures) (c .before .before .before .before .before .before .before .before .before .before .before .before .before .lit .ensures) (c .before .before .before .before .before .before .before .before .before .before .before .before .either .ensures) (c .before .before .before .before .before .before .before .before .before .before .lit2 .ensures) (c .before .before .before .before .before .before .before .before .before .either2 .ensures)
-    (c .before .before .before .before .before .before .before .lit3 .ensures) (c .before .before .before .before .before .before .either3 .ensures) (c .before .before .before .before .lit4 .ensures) (c .before .before .before .either4 .ensures) (c .before .lit5 .ensures) (c .either5 .ensures)
+    let args = c .before .before .before .before .before .before .before .before .before .before .before .before .before .before .before .before .before .args in
+    let plain = c .before .before .before .before .before .before .before .before .before .before .before .before .before .before .before .plain in
+    let lit = c .before .before .before .before .before .before .before .before .before .before .before .before .before .lit in
+    let either = c .before .before .before .before .before .before .before .before .before .before .before .before .either in
+    let lit2 = c .before .before .before .before .before .before .before .before .before .before .lit2 in
+    let either2 = c .before .before .before .before .before .before .before .before .before .either2 in
+    let lit3 = c .before .before .before .before .before .before .before .lit3 in
+    let either3 = c .before .before .before .before .before .before .either3 in
+    letter-reads (args .high) (plain .ensures) (lit .ensures) (either .ensures) (lit2 .ensures) (either2 .ensures) (lit3 .ensures)
+    (either3 .ensures) (c .before .before .before .before .lit4 .ensures) (c .before .before .before .either4 .ensures)
+    (c .before .lit5 .ensures) (c .either5 .ensures)
 
 pub character-spec : {M : Type 1} → statement M
 character-spec =

@@ -30,14 +30,16 @@ most-requires-2 c κs = search needs
 
 returns-2 : tie.Need-returns-2
 returns-2 c =
+    let args = c .before .before .before .before .before .before .args in
     let g = c .before .before .before .st .given in
-    let s = now (c .before .before .before .before .before .before .args .s) in
+    let s = now (args .s) in
     (record { is = rw (g .1) (0, omega (arith, c .most .ensures), end-lost (drop (g .0 .0) s) (g .0 .0) (omega (arith, length-drop (g .0 .0) s))) }, tt)
 
 returns-3 : tie.Need-returns-3
 returns-3 c =
+    let args = c .before .before .before .before .before .before .args in
     let g = c .before .before .before .st .given in
-    let s = now (c .before .before .before .before .before .before .args .s) in (
+    let s = now (args .s) in (
       record { is = rw (g .1) (0, 0, omega arith, omega (arith, c .most2 .ensures), end-took (drop (g .0 .0) s) (g .0 .0) (omega (arith, length-drop (g .0 .0) s))) },
       omega arith,
     )

@@ -37,8 +37,9 @@ most-requires c κs = search needs
 
 returns-2 : tie.Need-returns-2 Inv-loop μ-loop
 returns-2 c =
+    let st = c .before .before .before .before .before .st in
     let l = c .before .before .before .loop in
-    let g = c .before .before .before .before .before .st .given in
+    let g = st .given in
     let a = c .before .before .before .before .before .before .before .before .before .args in
     record {
       is = rw (g .1) (
@@ -60,8 +61,9 @@ most-requires-2 c κs = search needs
 
 returns-3 : tie.Need-returns-3 Inv-loop μ-loop
 returns-3 c =
+    let st = c .before .before .before .before .before .before .before .before .st in
     let l = c .before .before .before .before .before .before .loop in
-    let g = c .before .before .before .before .before .before .before .before .st .given in
+    let g = st .given in
     let a = c .before .before .before .before .before .before .before .before .before .before .before .before .args in
     record {
       is = rw (g .1) (
@@ -83,8 +85,9 @@ loop-less c = search needs
 
 loop-again : tie.Need-loop-again Inv-loop μ-loop
 loop-again c =
+    let st = c .before .before .before .before .before .before .before .st in
     let l = c .before .before .before .before .before .loop in
-    let g = c .before .before .before .before .before .before .before .st .given in
+    let g = st .given in
     let a = c .before .before .before .before .before .before .before .before .before .before .before .args in (
       omega arith,
       omega arith,

@@ -46,8 +46,11 @@ add-result-6 : tie.Need-add-result-6
 add-result-6 c = search needs
 
 returns : tie.Need-returns
-returns c = let l = c .before .before .before .before .before .before .below .ensures in
-    let u = c .before .before .before .before .before .below2 .ensures in
+returns c =
+    let below = c .before .before .before .before .before .before .below in
+    let below2 = c .before .before .before .before .before .below2 in
+    let l = below .ensures in
+    let u = below2 .ensures in
     let e = c .before .before .before .before .equal .ensures in
     let f = c .before .before .before .equal2 .ensures in
     let g = c .before .before .equal3 .ensures in

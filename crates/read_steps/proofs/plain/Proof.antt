@@ -56,7 +56,8 @@ most-requires-2 c κs = search needs
 
 returns-3 : tie.Need-returns-3
 returns-3 c =
-    let g = c .before .before .before .before .before .before .st .given in
+    let st = c .before .before .before .before .before .before .st in
+    let g = st .given in
     let a = c .before .before .before .before .before .before .before .before .before .args in
     let s = now (a .s) in
     record {
@@ -75,7 +76,8 @@ most-requires-3 c κs = search needs
 
 returns-4 : tie.Need-returns-4
 returns-4 c =
-    let g = c .before .before .before .before .before .before .st .given in
+    let st = c .before .before .before .before .before .before .st in
+    let g = st .given in
     let a = c .before .before .before .before .before .before .before .before .before .args in
     let s = now (a .s) in
     record {

@@ -31,7 +31,9 @@ returns-3 : tie.Need-returns-3 Inv-loop μ-loop
 returns-3 c = λ e. absurd (true≢false (sym e))
 
 loop-holds : tie.Need-loop-holds Inv-loop μ-loop
-loop-holds c = (omega arith, alike-none (now (c .before .before .before .before .before .args .s)) (now (c .before .before .before .before .before .args .x)) (c .before .before .before .before .before .args .at))
+loop-holds c =
+    let args = c .before .before .before .before .before .args in
+    (omega arith, alike-none (now (args .s)) (now (args .x)) (args .at))
 
 sub-loop : tie.Need-sub-loop Inv-loop μ-loop
 sub-loop c = search needs

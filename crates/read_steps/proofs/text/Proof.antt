@@ -41,11 +41,12 @@ most-requires-2 c κs = search needs
 
 returns-2 : tie.Need-returns-2 Inv-loop μ-loop
 returns-2 c =
+    let loop' = c .before .before .before .before .before .loop in
     let a = c .before .before .before .before .before .before .before .args in
     let s = now (a .s) in
     let p = c .before .before .before .before .plains in
     rw (c .most2 .ensures)
-    (text-reads (a .high) (c .before .before .before .before .before .loop .inv _ _
+    (text-reads (a .high) (loop' .inv _ _
     (plains-more (a .high) s (p .ensures) (letters-end (a .high) s (text-stops (a .high) s (p .result) (p .ensures .ends (omega arith)) (c .before .if2 .taken))))))
 
 character-requires : tie.Need-character-requires Inv-loop μ-loop
@@ -56,15 +57,19 @@ enum-known-n c = search needs
 
 loop-less : tie.Need-loop-less Inv-loop μ-loop
 loop-less c =
-    let o = letter-onwards (c .before .before .before .before .before .before .before .before .before .before .args .high) (step-is (c .before .before .before .character .ensures) (c .before .n .given .1)) in
-    omega (arith, o .0, o .1, c .before .before .before .before .before .before .before .plains .ensures .onward)
+    let args = c .before .before .before .before .before .before .before .before .before .before .args in
+    let plains = c .before .before .before .before .before .before .before .plains in
+    let o = letter-onwards (args .high) (step-is (c .before .before .before .character .ensures) (c .before .n .given .1)) in
+    omega (arith, o .0, o .1, plains .ensures .onward)
 
 loop-again : tie.Need-loop-again Inv-loop μ-loop
 loop-again c =
+    let loop' = c .before .before .before .before .before .before .before .before .loop in
+    let plains = c .before .before .before .before .before .before .before .plains in
     let a = c .before .before .before .before .before .before .before .before .before .before .args in
     λ m g e.
-    c .before .before .before .before .before .before .before .before .loop .inv m g
-    (plains-more (a .high) (now (a .s)) (c .before .before .before .before .before .before .before .plains .ensures)
+    loop' .inv m g
+    (plains-more (a .high) (now (a .s)) (plains .ensures)
     (letters-more (a .high) (step-is (c .before .before .before .character .ensures) (c .before .n .given .1)) e))
 
 enum-known-k : tie.Need-enum-known-k Inv-loop μ-loop
@@ -72,9 +77,11 @@ enum-known-k c = search needs
 
 returns-3 : tie.Need-returns-3 Inv-loop μ-loop
 returns-3 c =
+    let loop' = c .before .before .before .before .before .before .before .before .loop in
+    let plains = c .before .before .before .before .before .before .before .plains in
     let a = c .before .before .before .before .before .before .before .before .before .before .args in
     let e = letters-stop (a .high) (step-is (c .before .before .before .character .ensures) (c .before .k .given .1)) in
-    text-reads (a .high) (c .before .before .before .before .before .before .before .before .loop .inv _ _ (plains-more (a .high) (now (a .s)) (c .before .before .before .before .before .before .before .plains .ensures) e))
+    text-reads (a .high) (loop' .inv _ _ (plains-more (a .high) (now (a .s)) (plains .ensures) e))
 
 pub text-spec : {M : Type 1} → statement M
 text-spec =

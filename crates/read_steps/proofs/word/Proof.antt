@@ -30,8 +30,10 @@ most-requires : tie.Need-most-requires
 most-requires c κs = search needs
 
 returns-2 : tie.Need-returns-2
-returns-2 c = let g = c .before .before .before .before .st .given in
-    let n = length (now (c .before .before .before .before .before .before .before .before .args .x)) in
+returns-2 c =
+    let args = c .before .before .before .before .before .before .before .before .args in
+    let g = c .before .before .before .before .st .given in
+    let n = length (now (args .x)) in
     record { is = rw (g .1) (n, n, refl, c .most .ensures, stands-took (c .before .before .stands .ensures (c .before .if1 .taken))) }
 
 lit-requires : tie.Need-lit-requires

@@ -30,10 +30,15 @@ again-requires : tie.Need-again-requires
 again-requires c κs = search needs
 
 returns : tie.Need-returns
-returns c = let n = now (c .before .before .before .before .before .before .before .before .before .args .name) in
+returns c =
+    let args = c .before .before .before .before .before .before .before .before .before .args in
+    let pre' = c .before .before .before .before .before .before .before .before .before .pre in
+    let gap = c .before .before .before .before .before .before .gap in
+    let word = c .before .before .before .before .before .word in
+    let n = now (args .name) in
     let h = c .before .enum-told .given .1 in
-    let w = these-join (c .before .before .before .before .before .word .ensures) (c .before .before .before .lit .ensures) in
-    attribute-reads n (named-sharp n (c .before .before .before .before .before .before .before .before .before .pre .1)) (c .before .before .before .before .before .before .gap .ensures) w (failed _ h) (failed-again _ h (c .again .ensures))
+    let w = these-join (word .ensures) (c .before .before .before .lit .ensures) in
+    attribute-reads n (named-sharp n (pre' .1)) (gap .ensures) w (failed _ h) (failed-again _ h (c .again .ensures))
 
 text-requires : tie.Need-text-requires
 text-requires c κs = search needs
@@ -45,9 +50,15 @@ lit-requires-2 : tie.Need-lit-requires-2
 lit-requires-2 c κs = search needs
 
 returns-2 : tie.Need-returns-2
-returns-2 c = let n = now (c .before .before .before .before .before .before .before .before .before .before .before .before .args .name) in
-    let w = step-is (these-join (c .before .before .before .before .before .before .before .before .word .ensures) (c .before .before .before .before .before .before .lit .ensures)) (c .before .before .before .before .a .given .1) in
-    attribute-reads n (named-sharp n (c .before .before .before .before .before .before .before .before .before .before .before .before .pre .1)) (c .before .before .before .before .before .before .before .before .before .gap .ensures) w (c .before .before .text .ensures) (c .lit2 .ensures)
+returns-2 c =
+    let args = c .before .before .before .before .before .before .before .before .before .before .before .before .args in
+    let pre' = c .before .before .before .before .before .before .before .before .before .before .before .before .pre in
+    let gap = c .before .before .before .before .before .before .before .before .before .gap in
+    let word = c .before .before .before .before .before .before .before .before .word in
+    let lit = c .before .before .before .before .before .before .lit in
+    let n = now (args .name) in
+    let w = step-is (these-join (word .ensures) (lit .ensures)) (c .before .before .before .before .a .given .1) in
+    attribute-reads n (named-sharp n (pre' .1)) (gap .ensures) w (c .before .before .text .ensures) (c .lit2 .ensures)
 
 pub attribute-spec : {M : Type 1} → statement M
 attribute-spec =

@@ -36,7 +36,9 @@ most-requires : tie.Need-most-requires
 most-requires c κs = search needs
 
 returns-2 : tie.Need-returns-2
-returns-2 c = step-from (c .before .before .before .before .before .st .given .1) (usual-close (c .before .before .usual .ensures (c .before .if1 .taken)) (omega arith) (c .most .ensures))
+returns-2 c =
+    let st = c .before .before .before .before .before .st in
+    step-from (st .given .1) (usual-close (c .before .before .usual .ensures (c .before .if1 .taken)) (omega arith) (c .most .ensures))
 
 slice-aggregate-lit : tie.Need-slice-aggregate-lit
 slice-aggregate-lit c = search needs
@@ -58,7 +60,9 @@ lit-requires-2 c κs = search needs
 
 returns-3 : tie.Need-returns-3
 returns-3 c =
-    step-from (c .before .before .before .before .before .before .before .before .before .before .st .given .1) (close-reads (these-join (c .before .before .before .before .lit .ensures) (c .before .before .before .word .ensures)) (c .before .before .blanks .ensures) (c .lit2 .ensures))
+    let st = c .before .before .before .before .before .before .before .before .before .before .st in
+    step-from (st .given .1)
+    (close-reads (these-join (c .before .before .before .before .lit .ensures) (c .before .before .before .word .ensures)) (c .before .before .blanks .ensures) (c .lit2 .ensures))
 
 pub close-spec : {M : Type 1} → statement M
 close-spec =

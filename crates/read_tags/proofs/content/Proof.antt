@@ -42,9 +42,11 @@ again-requires-2 c κs = search needs
 
 returns-2 : tie.Need-returns-2
 returns-2 c =
+    let blanks = c .before .before .before .before .before .before .before .before .blanks in
+    let head = c .before .before .before .before .before .before .head in
     let a = c .before .before .before .before .before .before .before .before .before .before .before .args in
     let h = c .before .enum-told2 .given .1 in
-    content-reads (now (a .name)) (a .high) (a .start) (step-is (c .before .before .before .before .before .before .before .before .blanks .ensures) (c .before .before .before .before .before .before .head .given .1))
+    content-reads (now (a .name)) (a .high) (a .start) (step-is (blanks .ensures) (head .given .1))
     (step-to (c .again2 .ensures ∙ h) (body-short (now (a .name)) (a .high) (a .start) (step-is (c .before .before .before .lit .ensures) h)))
 
 slice-aggregate-lit-2 : tie.Need-slice-aggregate-lit-2
@@ -64,10 +66,14 @@ again-requires-3 c κs = search needs
 
 returns-3 : tie.Need-returns-3
 returns-3 c =
+    let blanks = c .before .before .before .before .before .before .before .before .before .before .before .before .before .blanks in
+    let head = c .before .before .before .before .before .before .before .before .before .before .before .head in
+    let lit = c .before .before .before .before .before .before .before .before .lit in
+    let short = c .before .before .before .before .before .before .short in
     let a = c .before .before .before .before .before .before .before .before .before .before .before .before .before .before .before .before .args in
     let h = c .before .enum-told3 .given .1 in
-    content-reads (now (a .name)) (a .high) (a .start) (step-is (c .before .before .before .before .before .before .before .before .before .before .before .before .before .blanks .ensures) (c .before .before .before .before .before .before .before .before .before .before .before .head .given .1))
-    (body-long (now (a .name)) (a .high) (a .start) (step-is (c .before .before .before .before .before .before .before .before .lit .ensures) (c .before .before .before .before .before .before .short .given .1))
+    content-reads (now (a .name)) (a .high) (a .start) (step-is (blanks .ensures) (head .given .1))
+    (body-long (now (a .name)) (a .high) (a .start) (step-is (lit .ensures) (short .given .1))
     (c .before .before .before .lit2 .ensures) (failed _ h) (failed-again _ h (c .again3 .ensures)))
 
 text-requires : tie.Need-text-requires
@@ -78,10 +84,15 @@ close-requires c κs = search needs
 
 returns-4 : tie.Need-returns-4
 returns-4 c =
+    let blanks = c .before .before .before .before .before .before .before .before .before .before .before .before .before .before .before .blanks in
+    let head = c .before .before .before .before .before .before .before .before .before .before .before .before .before .head in
+    let lit = c .before .before .before .before .before .before .before .before .before .before .lit in
+    let short = c .before .before .before .before .before .before .before .before .short in
+    let lit2 = c .before .before .before .before .before .lit2 in
     let a = c .before .before .before .before .before .before .before .before .before .before .before .before .before .before .before .before .before .before .args in
-    content-reads (now (a .name)) (a .high) (a .start) (step-is (c .before .before .before .before .before .before .before .before .before .before .before .before .before .before .before .blanks .ensures) (c .before .before .before .before .before .before .before .before .before .before .before .before .before .head .given .1))
-    (body-long (now (a .name)) (a .high) (a .start) (step-is (c .before .before .before .before .before .before .before .before .before .before .lit .ensures) (c .before .before .before .before .before .before .before .before .short .given .1))
-    (step-is (c .before .before .before .before .before .lit2 .ensures) (c .before .before .before .a .given .1)) (c .before .text .ensures) (c .close .ensures))
+    content-reads (now (a .name)) (a .high) (a .start) (step-is (blanks .ensures) (head .given .1))
+    (body-long (now (a .name)) (a .high) (a .start) (step-is (lit .ensures) (short .given .1))
+    (step-is (lit2 .ensures) (c .before .before .before .a .given .1)) (c .before .text .ensures) (c .close .ensures))
 
 pub content-spec : {M : Type 1} → statement M
 content-spec =

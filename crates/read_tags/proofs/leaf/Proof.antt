@@ -33,7 +33,10 @@ blanks-requires c κs = search needs
 
 returns : tie.Need-returns
 returns c =
-    child-reads (usual-leaf (c .before .before .before .before .before .usual .ensures (c .before .before .before .before .if1 .taken)) (omega arith) (c .before .before .before .most .ensures) (c .before .before .text .ensures) (c .before .close .ensures)) (c .blanks .ensures)
+    let usual = c .before .before .before .before .before .usual in
+    child-reads
+    (usual-leaf (usual .ensures (c .before .before .before .before .if1 .taken)) (omega arith) (c .before .before .before .most .ensures) (c .before .before .text .ensures) (c .before .close .ensures))
+    (c .blanks .ensures)
 
 tag-requires : tie.Need-tag-requires
 tag-requires c κs = search needs

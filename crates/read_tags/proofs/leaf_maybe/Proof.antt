@@ -35,14 +35,17 @@ stay-requires c κs = search needs
 
 returns-2 : tie.Need-returns-2
 returns-2 c =
+    let st = c .before .before .before .before .before .st in
     let t = step-is (c .before .before .before .tag .ensures) (c .before .k .given .1) in
-    tried (c .before .before .before .before .before .st .given .1) (child-reads (leaf-reads t (failed _ refl)) (failed _ refl)) refl
+    tried (st .given .1) (child-reads (leaf-reads t (failed _ refl)) (failed _ refl)) refl
 
 returns-3 : tie.Need-returns-3
 returns-3 c =
-    let t = step-is (c .before .before .before .before .before .tag .ensures) (c .before .before .before .n .given .1) in
+    let st = c .before .before .before .before .before .before .before .st in
+    let tag = c .before .before .before .before .before .tag in
+    let t = step-is (tag .ensures) (c .before .before .before .n .given .1) in
     let l = c .before .leaf-rest .ensures in
-    tried (c .before .before .before .before .before .before .before .st .given .1) (child-reads (leaf-reads t (l .reads)) (l .passes)) (c .stay .ensures)
+    tried (st .given .1) (child-reads (leaf-reads t (l .reads)) (l .passes)) (c .stay .ensures)
 
 pub leaf-maybe-spec : {M : Type 1} → statement M
 leaf-maybe-spec =

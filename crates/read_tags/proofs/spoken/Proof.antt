@@ -21,7 +21,10 @@ blanks-requires : tie.Need-blanks-requires
 blanks-requires c κs = search needs
 
 returns : tie.Need-returns
-returns c = child-reads (spoken-reads (c .before .before .before .before .tag .ensures) (c .before .before .attribute .ensures) (c .before .content .ensures)) (c .blanks .ensures)
+returns c =
+    child-reads
+    (spoken-reads (c .before .before .before .before .tag .ensures) (c .before .before .attribute .ensures) (c .before .content .ensures))
+    (c .blanks .ensures)
 
 pub spoken-spec : {M : Type 1} → statement M
 spoken-spec =

@@ -24,7 +24,9 @@ begins-requires-2 : tie.Need-begins-requires-2
 begins-requires-2 c κs = search needs
 
 returns : tie.Need-returns
-returns c = λ e. record { marked = c .before .before .before .before .before .begins .ensures (c .before .before .before .before .if1 .taken); named = c .before .before .before .stands .ensures (c .before .before .if2 .taken); closed = c .begins2 .ensures e }
+returns c =
+    let begins = c .before .before .before .before .before .begins in
+    λ e. record { marked = begins .ensures (c .before .before .before .before .if1 .taken); named = c .before .before .before .stands .ensures (c .before .before .if2 .taken); closed = c .begins2 .ensures e }
 
 returns-2 : tie.Need-returns-2
 returns-2 c = λ e. absurd (true≢false (sym e))

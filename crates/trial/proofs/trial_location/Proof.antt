@@ -30,7 +30,10 @@ returns c = LocationNumbers.bad (subst (Judges _ _) (c .enum-told .given .1) (c 
 
 returns-2 : tie.Need-returns-2
 returns-2 c =
-    LocationNumbers.is _ (subst (Judges _ _) (c .before .before .before .before .f .given .1) (c .before .before .before .before .before .before .judge-location .ensures .is _ (shows-whole _))) (c .before .before .flag .ensures) (c .before .flag2 .ensures) (c .flag3 .ensures)
+    let judge-location = c .before .before .before .before .before .before .judge-location in
+    LocationNumbers.is _
+    (subst (Judges _ _) (c .before .before .before .before .f .given .1) (judge-location .ensures .is _ (shows-whole _)))
+    (c .before .before .flag .ensures) (c .before .flag2 .ensures) (c .flag3 .ensures)
 
 pub trial-location-spec : {M : Type 1} → statement M
 trial-location-spec =

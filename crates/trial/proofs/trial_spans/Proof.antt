@@ -68,10 +68,11 @@ same-length-4 c = search needs
 
 returns-4 : tie.Need-returns-4
 returns-4 c =
+    let spans = c .before .before .before .before .before .spans in
     let e = c .before .o .given .1 in
     record {
-      says = c .before .before .before .before .before .spans .result;
-      answers = c .before .before .before .before .before .spans .ensures .is _ (shows-whole _);
+      says = spans .result;
+      answers = spans .ensures .is _ (shows-whole _);
       number-is = sym (ap numberOf e);
       operator-is = sym (ap operatorOf e);
       count-is = sym (ap countOf e);

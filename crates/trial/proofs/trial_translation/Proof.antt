@@ -31,10 +31,11 @@ same-length c = search needs
 
 returns : tie.Need-returns
 returns c =
+    let write = c .before .before .before .before .before .write in
     let e = c .before .n .given .1 in
     record {
-      says = c .before .before .before .before .before .write .result;
-      writes = c .before .before .before .before .before .write .ensures;
+      says = write .result;
+      writes = write .ensures;
       number-is = sym (ap sizeNumber e);
       length-is = sym (ap sizeLength e);
     }

@@ -38,7 +38,8 @@ returns-5 c =
 
 returns-6 : tie.Need-returns-6
 returns-6 c =
-    let m = c .before .before .before .before .before .args .month in
+    let args = c .before .before .before .before .before .args in
+    let m = args .month in
     rw (
       ne-eqb m 2 (c .before .before .before .before .if1 .left),
       ne-eqb m 4 (c .before .before .before .if3 .left),
@@ -49,7 +50,8 @@ returns-6 c =
 
 returns-7 : tie.Need-returns-7
 returns-7 c =
-    let m = c .before .before .before .before .before .args .month in
+    let args = c .before .before .before .before .before .args in
+    let m = args .month in
     rw (
       ne-eqb m 2 (c .before .before .before .before .if1 .left),
       ne-eqb m 4 (c .before .before .before .if3 .left),

@@ -26,8 +26,9 @@ days-in-requires c κs = search needs
 
 returns-5 : tie.Need-returns-5
 returns-5 c =
+    let args = c .before .before .before .before .before .args in
     let days = c .days-in .result in
-    let day = c .before .before .before .before .before .args .day in
+    let day = args .day in
     tells (leb day days)
     (λ e. record {
       year-real = omega arith;

@@ -31,10 +31,11 @@ within-requires-2 c κs = search needs
 
 returns-3 : tie.Need-returns-3
 returns-3 c =
+    let if1 = c .before .before .before .before .before .if1 in
     let a = c .before .before .before .before .before .before .before .args in
     let x = c .before .before .before .within in
     let y = c .within2 in
-    two-is (between (a .low) (a .high)) (a .w .now) (c .before .before .before .before .before .if1 .left)
+    two-is (between (a .low) (a .high)) (a .w .now) (if1 .left)
     (sym (x .ensures) ∙ not-false (x .result) (c .before .before .if2 .left)) (y .result) (y .ensures)
 
 pub is-two-spec : {M : Type 1} → statement M

@@ -27,13 +27,14 @@ element-copy-out-if1 c = omega (arith, c .shared-slice-known .given (c .before .
 
 returns : tie.Need-returns Inv-loop μ-loop
 returns c =
+    let pre' = c .before .before .before .before .before .pre in
     let a = c .before .before .before .before .before .args in
     let l = c .before .before .before .before .loop in
     record {
       onward = l .inv .0;
       inside = omega arith;
       each = l .inv .2;
-      there = λ h. of-none (a .w .now) (a .class) (l .i) (a .t .now) (c .before .before .before .before .before .pre .1 .1) (omega (arith, c .before .before .shared-slice-known .given (l .i))) (c .if1 .taken);
+      there = λ h. of-none (a .w .now) (a .class) (l .i) (a .t .now) (pre' .1 .1) (omega (arith, c .before .before .shared-slice-known .given (l .i))) (c .if1 .taken);
     }
 
 add-i : tie.Need-add-i Inv-loop μ-loop
@@ -44,12 +45,13 @@ loop-less c = omega arith
 
 loop-again : tie.Need-loop-again Inv-loop μ-loop
 loop-again c =
+    let pre' = c .before .before .before .before .before .pre in
     let a = c .before .before .before .before .before .args in
     let l = c .before .before .before .before .loop in (
       omega (arith, l .inv .0),
       omega arith,
       between-more (a .w .now) (a .class) (a .from) (l .i) (l .inv .2)
-          (of-class (a .w .now) (a .class) (l .i) (a .t .now) (c .before .before .before .before .before .pre .1 .1) (omega (arith, c .before .before .shared-slice-known .given (l .i))) (c .if1 .left)),
+          (of-class (a .w .now) (a .class) (l .i) (a .t .now) (pre' .1 .1) (omega (arith, c .before .before .shared-slice-known .given (l .i))) (c .if1 .left)),
     )
 
 returns-2 : tie.Need-returns-2 Inv-loop μ-loop

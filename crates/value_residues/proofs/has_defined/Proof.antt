@@ -38,9 +38,10 @@ loop-less c = omega arith
 
 loop-again : tie.Need-loop-again Inv-loop μ-loop
 loop-again c =
+    let args = c .before .before .before .before .before .args in
     let l = c .before .before .before .before .loop in
-    let u = c .before .before .before .before .before .args .undefined in
-    let w = c .before .before .before .before .before .args .w .now in
+    let u = args .undefined in
+    let w = args .w .now in
     ⊎-elim (λ x. (omega arith, omega (arith, others-have u w (l .i) (omega arith) (x .0 .taken))))
     (λ x. (omega arith, omega (arith, others-lack u w (l .i) (omega arith) (x .0 .left)))) (c .if2 .came)
 

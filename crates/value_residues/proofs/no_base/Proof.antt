@@ -21,7 +21,9 @@ differs-requires-5 : tie.Need-differs-requires-5
 differs-requires-5 c κs = search needs
 
 returns : tie.Need-returns
-returns c = base-among (c .before .before .before .before .differs .ensures) (c .before .before .before .differs2 .ensures) (c .before .before .differs3 .ensures) (c .before .differs4 .ensures) (c .differs5 .ensures) refl
+returns c =
+    base-among (c .before .before .before .before .differs .ensures) (c .before .before .before .differs2 .ensures)
+    (c .before .before .differs3 .ensures) (c .before .differs4 .ensures) (c .differs5 .ensures) refl
 
 pub no-base-spec : {M : Type 1} → statement M
 no-base-spec =

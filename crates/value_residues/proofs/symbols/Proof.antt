@@ -29,16 +29,19 @@ add-foreign : tie.Need-add-foreign Inv-loop μ-loop
 add-foreign c = search needs
 
 foreign-requires : tie.Need-foreign-requires Inv-loop μ-loop
-foreign-requires c κs = (omega arith, (omega arith, c .before .before .before .before .before .pre))
+foreign-requires c κs =
+    let pre' = c .before .before .before .before .before .pre in
+    (omega arith, (omega arith, pre'))
 
 add-if2 : tie.Need-add-if2 Inv-loop μ-loop
 add-if2 c = search needs
 
 returns : tie.Need-returns Inv-loop μ-loop
 returns c =
+    let loop' = c .before .before .before .before .before .loop in
     let a = c .before .before .before .before .before .before .before .args in
     let f = c .before .foreign .ensures in
-    first-foreign (a .w .now) (a .class) (c .before .before .before .before .before .loop .inv .1) f (omega (arith, f .inside)) (λ h. omega arith)
+    first-foreign (a .w .now) (a .class) (loop' .inv .1) f (omega (arith, f .inside)) (λ h. omega arith)
 
 add-i : tie.Need-add-i Inv-loop μ-loop
 add-i c = search needs

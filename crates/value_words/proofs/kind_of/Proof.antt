@@ -35,11 +35,12 @@ returns-3 c = let z = c .before .same3 in record { says = named aa (tells-true (
 
 returns-4 : tie.Need-returns-4
 returns-4 c =
+    let if1 = c .before .before .before .before .before .before .if1 in
     let x = c .before .before .before .before .before .before .before .same in
     let y = c .before .before .before .before .same2 in
     let z = c .before .same3 in
     record {
-      says = unnamed (tells-false (x .result) (c .before .before .before .before .before .before .if1 .left) (x .ensures))
+      says = unnamed (tells-false (x .result) (if1 .left) (x .ensures))
           (tells-false (y .result) (c .before .before .before .if2 .left) (y .ensures))
           (tells-false (z .result) (c .if3 .left) (z .ensures));
     }

@@ -26,7 +26,11 @@ parties-requires : tie.Need-parties-requires
 parties-requires c κs = search needs
 
 returns : tie.Need-returns
-returns c = header-found (c .before .before .before .before .before .before .before .line-over .ensures) (c .before .before .before .before .before .before .line-over2 .ensures) (c .before .before .before .before .tag .ensures) (c .before .before .before .attributes .ensures) (c .before .enter .ensures) (c .parties .ensures)
+returns c =
+    let line-over = c .before .before .before .before .before .before .before .line-over in
+    let line-over2 = c .before .before .before .before .before .before .line-over2 in
+    header-found (line-over .ensures) (line-over2 .ensures) (c .before .before .before .before .tag .ensures)
+    (c .before .before .before .attributes .ensures) (c .before .enter .ensures) (c .parties .ensures)
 
 pub header-spec : {M : Type 1} → statement M
 header-spec =

@@ -32,7 +32,12 @@ leave-requires : tie.Need-leave-requires
 leave-requires c κs = search needs
 
 returns : tie.Need-returns
-returns c = identification-found (c .before .before .before .before .before .before .before .before .tag .ensures) (c .before .before .before .before .before .before .before .enter .ensures) (c .before .before .before .before .before .leaf-maybe .ensures) (c .before .before .before .leaf .ensures) (c .before .leaf-maybe2 .ensures) (c .leave .ensures)
+returns c =
+    let tag = c .before .before .before .before .before .before .before .before .tag in
+    let enter = c .before .before .before .before .before .before .before .enter in
+    let leaf-maybe = c .before .before .before .before .before .leaf-maybe in
+    identification-found (tag .ensures) (enter .ensures) (leaf-maybe .ensures) (c .before .before .before .leaf .ensures)
+    (c .before .leaf-maybe2 .ensures) (c .leave .ensures)
 
 pub identification-spec : {M : Type 1} → statement M
 identification-spec =

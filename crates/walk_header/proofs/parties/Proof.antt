@@ -32,7 +32,11 @@ party-maybe-requires-2 : tie.Need-party-maybe-requires-2
 party-maybe-requires-2 c κs = search needs
 
 returns : tie.Need-returns
-returns c = parties-found (c .before .before .before .before .before .before .before .before .heading .ensures) (c .before .before .before .before .before .before .identification-maybe .ensures) (c .before .before .before .party-maybe .ensures) (c .party-maybe2 .ensures)
+returns c =
+    let heading = c .before .before .before .before .before .before .before .before .heading in
+    let identification-maybe = c .before .before .before .before .before .before .identification-maybe in
+    parties-found (heading .ensures) (identification-maybe .ensures) (c .before .before .before .party-maybe .ensures)
+    (c .party-maybe2 .ensures)
 
 pub parties-spec : {M : Type 1} → statement M
 parties-spec =

@@ -14,7 +14,9 @@ leaf-maybe-requires : tie.Need-leaf-maybe-requires
 leaf-maybe-requires c κs = search needs
 
 returns : tie.Need-returns
-returns c = party-present (c .before .before .before .if1 .taken) (c .before .before .before .before .opens .ensures) (c .before .before .spoken .ensures) (c .leaf-maybe .ensures)
+returns c =
+    party-present (c .before .before .before .if1 .taken) (c .before .before .before .before .opens .ensures)
+    (c .before .before .spoken .ensures) (c .leaf-maybe .ensures)
 
 returns-2 : tie.Need-returns-2
 returns-2 c = party-absent (c .if1 .left) (c .before .opens .ensures)

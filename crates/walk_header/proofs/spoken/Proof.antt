@@ -20,7 +20,9 @@ blanks-requires : tie.Need-blanks-requires
 blanks-requires c κs = search needs
 
 returns : tie.Need-returns
-returns c = spoken-found (c .before .before .before .before .before .tag .ensures) (c .before .before .before .attribute .ensures) (c .before .content .ensures) (c .blanks .ensures)
+returns c =
+    let tag = c .before .before .before .before .before .tag in
+    spoken-found (tag .ensures) (c .before .before .before .attribute .ensures) (c .before .content .ensures) (c .blanks .ensures)
 
 pub spoken-spec : {M : Type 1} → statement M
 spoken-spec =

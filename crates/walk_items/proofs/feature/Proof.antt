@@ -32,7 +32,11 @@ children-requires : tie.Need-children-requires
 children-requires c κs = search needs
 
 returns : tie.Need-returns
-returns c = feature-found (c .before .before .before .before .before .before .before .before .before .tag .ensures) (c .before .before .before .before .before .before .before .before .enter .ensures) (c .before .before .before .before .before .before .leaf .ensures) (c .before .before .before .leaf2 .ensures) (c .children .ensures)
+returns c =
+    let tag = c .before .before .before .before .before .before .before .before .before .tag in
+    let enter = c .before .before .before .before .before .before .before .before .enter in
+    let leaf = c .before .before .before .before .before .before .leaf in
+    feature-found (tag .ensures) (enter .ensures) (leaf .ensures) (c .before .before .before .leaf2 .ensures) (c .children .ensures)
 
 pub feature-spec : {M : Type 1} → statement M
 feature-spec =

@@ -20,7 +20,9 @@ leave-requires c κs = search needs
 
 returns : tie.Need-returns
 returns c =
-    then-ends (shutting (bytes "INSDFeature_quals") (c .before .before .before .before .before .args .long)) (leaving (bytes "INSDFeature")) (leaving-sharp (bytes "INSDFeature")) (c .before .before .shut .ensures) (c .leave .ensures)
+    let args = c .before .before .before .before .before .args in
+    then-ends (shutting (bytes "INSDFeature_quals") (args .long)) (leaving (bytes "INSDFeature")) (leaving-sharp (bytes "INSDFeature"))
+    (c .before .before .shut .ensures) (c .leave .ensures)
 
 pub feature-end-spec : {M : Type 1} → statement M
 feature-end-spec =

@@ -32,7 +32,11 @@ leave-requires : tie.Need-leave-requires
 leave-requires c κs = search needs
 
 returns : tie.Need-returns
-returns c = qualifier-found (c .before .before .before .before .before .before .before .before .tag .ensures) (c .before .before .before .before .before .before .before .enter .ensures) (c .before .before .before .before .before .leaf .ensures) (c .before .before .leaf-maybe .ensures) (c .leave .ensures)
+returns c =
+    let tag = c .before .before .before .before .before .before .before .before .tag in
+    let enter = c .before .before .before .before .before .before .before .enter in
+    let leaf = c .before .before .before .before .before .leaf in
+    qualifier-found (tag .ensures) (enter .ensures) (leaf .ensures) (c .before .before .leaf-maybe .ensures) (c .leave .ensures)
 
 pub qualifier-spec : {M : Type 1} → statement M
 qualifier-spec =

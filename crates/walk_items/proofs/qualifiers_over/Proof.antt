@@ -34,7 +34,10 @@ returns c =
     over-stuck (bytes "INSDQualifier") (child qualifier) qualifier-leads closing (record { clash = refl; sharps = refl }) (c .before .before .if1 .taken) (c .before .before .before .qualifier-here .ensures) (c .before .before .before .before .loop .inv) (qualifier-over (c .before .qualifier .ensures)) (c .if2 .taken)
 
 loop-less : tie.Need-loop-less Inv-loop μ-loop
-loop-less c = omega (arith, there-inside 60 (bytes "INSDQualifier") (now (c .before .before .before .before .before .before .args .s)) (c .before .before .before .before .loop .at) (c .before .before .if1 .taken) (c .before .before .before .qualifier-here .ensures))
+loop-less c =
+    let args = c .before .before .before .before .before .before .args in
+    omega
+    (arith, there-inside 60 (bytes "INSDQualifier") (now (args .s)) (c .before .before .before .before .loop .at) (c .before .before .if1 .taken) (c .before .before .before .qualifier-here .ensures))
 
 loop-again : tie.Need-loop-again Inv-loop μ-loop
 loop-again c =

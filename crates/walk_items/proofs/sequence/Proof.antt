@@ -72,7 +72,19 @@ leave-requires-2 c κs = search needs
 
 returns : tie.Need-returns
 returns c =
-    sequence-found (c .before .before .before .before .before .before .before .before .before .before .before .before .before .before .before .before .before .before .before .before .before .before .before .before .before .tag .ensures) (c .before .before .before .before .before .before .before .before .before .before .before .before .before .before .before .before .before .before .before .before .before .before .before .attribute .ensures) (c .before .before .before .before .before .before .before .before .before .before .before .before .before .before .before .before .before .before .before .before .before .enter .ensures) (c .before .before .before .before .before .before .before .before .before .before .before .before .before .before .before .before .before .before .before .tag2 .ensures) (c .before .before .before .before .before .before .before .before .before .before .before .before .before .before .before .before .before .before .enter2 .ensures) (c .before .before .before .before .before .before .before .before .before .before .before .before .before .before .before .before .leaf .ensures) (c .before .before .before .before .before .before .before .before .before .before .before .before .before .leaf2 .ensures) (c .before .before .before .before .before .before .before .before .before .before .leaf3 .ensures) (c .before .before .before .before .before .before .before .before .other-ids .ensures) (c .before .before .before .before .before .before .before .table .ensures) (c .before .before .before .before .before .leaf4 .ensures) (c .before .before .leave .ensures) (c .leave2 .ensures)
+    let tag = c .before .before .before .before .before .before .before .before .before .before .before .before .before .before .before .before .before .before .before .before .before .before .before .before .before .tag in
+    let attribute = c .before .before .before .before .before .before .before .before .before .before .before .before .before .before .before .before .before .before .before .before .before .before .before .attribute in
+    let enter = c .before .before .before .before .before .before .before .before .before .before .before .before .before .before .before .before .before .before .before .before .before .enter in
+    let tag2 = c .before .before .before .before .before .before .before .before .before .before .before .before .before .before .before .before .before .before .before .tag2 in
+    let enter2 = c .before .before .before .before .before .before .before .before .before .before .before .before .before .before .before .before .before .before .enter2 in
+    let leaf = c .before .before .before .before .before .before .before .before .before .before .before .before .before .before .before .before .leaf in
+    let leaf2 = c .before .before .before .before .before .before .before .before .before .before .before .before .before .leaf2 in
+    let leaf3 = c .before .before .before .before .before .before .before .before .before .before .leaf3 in
+    let other-ids = c .before .before .before .before .before .before .before .before .other-ids in
+    let table = c .before .before .before .before .before .before .before .table in
+    let leaf4 = c .before .before .before .before .before .leaf4 in
+    sequence-found (tag .ensures) (attribute .ensures) (enter .ensures) (tag2 .ensures) (enter2 .ensures) (leaf .ensures) (leaf2 .ensures)
+    (leaf3 .ensures) (other-ids .ensures) (table .ensures) (leaf4 .ensures) (c .before .before .leave .ensures) (c .leave2 .ensures)
 
 pub sequence-spec : {M : Type 1} → statement M
 sequence-spec =

@@ -29,7 +29,11 @@ leave-requires : tie.Need-leave-requires
 leave-requires c κs = search needs
 
 returns : tie.Need-returns
-returns c = table-present (c .before .before .before .before .before .before .if1 .taken) (c .before .before .before .before .before .before .before .opens .ensures) (c .before .before .before .before .tag .ensures) (c .before .before .before .enter .ensures) (c .before .before .table-end .ensures) (c .leave .ensures)
+returns c =
+    let opens = c .before .before .before .before .before .before .before .opens in
+    let if1 = c .before .before .before .before .before .before .if1 in
+    table-present (if1 .taken) (opens .ensures) (c .before .before .before .before .tag .ensures)
+    (c .before .before .before .enter .ensures) (c .before .before .table-end .ensures) (c .leave .ensures)
 
 returns-2 : tie.Need-returns-2
 returns-2 c = table-absent (c .if1 .left) (c .before .opens .ensures)

@@ -23,7 +23,9 @@ returns-2 : tie.Need-returns-2
 returns-2 c = no-feature (c .before .before .before .if1 .left) (placed (c .enum-told .given .1) (c .before .before .nth .ensures))
 
 returns-3 : tie.Need-returns-3
-returns-3 c = feature-so (c .before .before .before .before .before .if1 .left) (placed (c .before .before .at .given .1) (c .before .before .before .before .nth .ensures)) (c .feature .ensures)
+returns-3 c =
+    let if1 = c .before .before .before .before .before .if1 in
+    feature-so (if1 .left) (placed (c .before .before .at .given .1) (c .before .before .before .before .nth .ensures)) (c .feature .ensures)
 
 pub feature-in-spec : {M : Type 1} → statement M
 feature-in-spec =

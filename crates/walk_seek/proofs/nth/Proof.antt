@@ -29,25 +29,42 @@ item-here-requires : tie.Need-item-here-requires Inv-loop μ-loop
 item-here-requires c κs = search needs
 
 returns-2 : tie.Need-returns-2 Inv-loop μ-loop
-returns-2 c = ahead-here (c .before .before .before .before .before .before .args .item) (c .before .before .item-here .ensures) (c .before .before .before .loop .inv) (c .before .if2 .taken) (c .if3 .taken)
+returns-2 c =
+    let args = c .before .before .before .before .before .before .args in
+    ahead-here (args .item) (c .before .before .item-here .ensures) (c .before .before .before .loop .inv) (c .before .if2 .taken)
+    (c .if3 .taken)
 
 item-over-requires : tie.Need-item-over-requires Inv-loop μ-loop
 item-over-requires c κs = search needs
 
 returns-3 : tie.Need-returns-3 Inv-loop μ-loop
-returns-3 c = ahead-stuck (c .before .before .before .before .before .before .before .before .args .item) (c .before .before .before .before .item-here .ensures) (c .before .before .before .before .before .loop .inv) (c .before .before .before .if2 .taken) (c .before .item-over .ensures) (c .if4 .taken)
+returns-3 c =
+    let args = c .before .before .before .before .before .before .before .before .args in
+    let loop' = c .before .before .before .before .before .loop in
+    ahead-stuck (args .item) (c .before .before .before .before .item-here .ensures) (loop' .inv) (c .before .before .before .if2 .taken)
+    (c .before .item-over .ensures) (c .if4 .taken)
 
 sub-ahead-2 : tie.Need-sub-ahead-2 Inv-loop μ-loop
 sub-ahead-2 c = search needs
 
 loop-less : tie.Need-loop-less Inv-loop μ-loop
-loop-less c = omega (arith, there-inside 60 (nameOf (c .before .before .before .before .before .before .before .before .args .item)) (now (c .before .before .before .before .before .before .before .before .args .s)) (c .before .before .before .before .before .loop .at) (c .before .before .before .if2 .taken) (c .before .before .before .before .item-here .ensures))
+loop-less c =
+    let args = c .before .before .before .before .before .before .before .before .args in
+    let loop' = c .before .before .before .before .before .loop in
+    omega
+    (arith, there-inside 60 (nameOf (args .item)) (now (args .s)) (loop' .at) (c .before .before .before .if2 .taken) (c .before .before .before .before .item-here .ensures))
 
 loop-again : tie.Need-loop-again Inv-loop μ-loop
-loop-again c = ahead-next (c .before .before .before .before .before .before .before .before .args .item) (c .before .before .before .before .item-here .ensures) (c .before .before .before .before .before .loop .inv) (c .before .before .before .if2 .taken) (c .before .item-over .ensures) (omega (arith, c .before .before .if3 .left))
+loop-again c =
+    let args = c .before .before .before .before .before .before .before .before .args in
+    let loop' = c .before .before .before .before .before .loop in
+    ahead-next (args .item) (c .before .before .before .before .item-here .ensures) (loop' .inv) (c .before .before .before .if2 .taken)
+    (c .before .item-over .ensures) (omega (arith, c .before .before .if3 .left))
 
 returns-4 : tie.Need-returns-4 Inv-loop μ-loop
-returns-4 c = ahead-none (c .before .before .before .before .before .args .item) (c .before .item-here .ensures) (c .before .before .loop .inv) (c .if2 .left)
+returns-4 c =
+    let args = c .before .before .before .before .before .args in
+    ahead-none (args .item) (c .before .item-here .ensures) (c .before .before .loop .inv) (c .if2 .left)
 
 pub nth-spec : {M : Type 1} → statement M
 nth-spec =

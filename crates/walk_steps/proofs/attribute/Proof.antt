@@ -21,7 +21,10 @@ past-requires-3 : tie.Need-past-requires-3
 past-requires-3 c κs = search needs
 
 returns : tie.Need-returns
-returns c = attribute-found (now (c .before .before .before .before .before .before .before .args .name)) (c .before .before .before .before .blanks .ensures) (c .before .before .before .past .ensures) (c .before .before .past2 .ensures) (c .before .until .ensures) (c .past3 .ensures)
+returns c =
+    let args = c .before .before .before .before .before .before .before .args in
+    attribute-found (now (args .name)) (c .before .before .before .before .blanks .ensures) (c .before .before .before .past .ensures)
+    (c .before .before .past2 .ensures) (c .before .until .ensures) (c .past3 .ensures)
 
 pub attribute-spec : {M : Type 1} → statement M
 attribute-spec =

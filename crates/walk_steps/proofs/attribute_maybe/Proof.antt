@@ -15,10 +15,15 @@ attribute-requires : tie.Need-attribute-requires
 attribute-requires c κs = search needs
 
 returns : tie.Need-returns
-returns c = attribute-present (now (c .before .before .before .before .before .before .before .args .name)) (c .before .before .before .before .blanks .ensures) (c .before .before .if1 .taken) (c .before .before .before .there .ensures) (c .before .attribute .ensures)
+returns c =
+    let args = c .before .before .before .before .before .before .before .args in
+    attribute-present (now (args .name)) (c .before .before .before .before .blanks .ensures) (c .before .before .if1 .taken)
+    (c .before .before .before .there .ensures) (c .before .attribute .ensures)
 
 returns-2 : tie.Need-returns-2
-returns-2 c = attribute-absent (now (c .before .before .before .before .before .args .name)) (c .before .before .blanks .ensures) (c .if1 .left) (c .before .there .ensures)
+returns-2 c =
+    let args = c .before .before .before .before .before .args in
+    attribute-absent (now (args .name)) (c .before .before .blanks .ensures) (c .if1 .left) (c .before .there .ensures)
 
 pub attribute-maybe-spec : {M : Type 1} → statement M
 attribute-maybe-spec =

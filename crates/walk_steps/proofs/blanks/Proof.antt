@@ -33,7 +33,8 @@ loop-less c = search needs
 
 loop-again : tie.Need-loop-again Inv-loop μ-loop
 loop-again c =
-    (omega (arith, c .before .before .before .before .loop .inv .0), upto-more isBlank (c .before .before .before .before .before .before .args .s .now) (c .before .before .before .before .before .before .args .at) (c .before .before .before .before .loop .i) (c .before .before .before .before .loop .inv .1) (omega arith) (sym (c .before .is-blank .ensures) ∙ c .if1 .taken))
+    let args = c .before .before .before .before .before .before .args in
+    (omega (arith, c .before .before .before .before .loop .inv .0), upto-more isBlank (args .s .now) (args .at) (c .before .before .before .before .loop .i) (c .before .before .before .before .loop .inv .1) (omega arith) (sym (c .before .is-blank .ensures) ∙ c .if1 .taken))
 
 returns : tie.Need-returns Inv-loop μ-loop
 returns c = record { onward = c .before .before .before .before .loop .inv .0; each = c .before .before .before .before .loop .inv .1; ends = λ h. sym (c .before .is-blank .ensures) ∙ c .if1 .left }

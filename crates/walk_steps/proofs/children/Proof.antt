@@ -24,7 +24,11 @@ blanks-requires-2 c κs = search needs
 
 returns : tie.Need-returns
 returns c =
-    opens-empty (c .before .before .before .before .before .before .if1 .taken) (c .before .before .before .before .before .before .before .opens .ensures) (c .before .before .before .before .before .tag .ensures) (c .before .before .before .before .blanks .ensures) (c .before .before .before .peek .ensures) (c .before .before .if2 .taken) (c .before .past .ensures) (c .blanks2 .ensures)
+    let opens = c .before .before .before .before .before .before .before .opens in
+    let if1 = c .before .before .before .before .before .before .if1 in
+    let tag = c .before .before .before .before .before .tag in
+    opens-empty (if1 .taken) (opens .ensures) (tag .ensures) (c .before .before .before .before .blanks .ensures)
+    (c .before .before .before .peek .ensures) (c .before .before .if2 .taken) (c .before .past .ensures) (c .blanks2 .ensures)
 
 past-requires-2 : tie.Need-past-requires-2
 past-requires-2 c κs = search needs
@@ -34,7 +38,11 @@ blanks-requires-3 c κs = search needs
 
 returns-2 : tie.Need-returns-2
 returns-2 c =
-    opens-holds (c .before .before .before .before .before .before .if1 .taken) (c .before .before .before .before .before .before .before .opens .ensures) (c .before .before .before .before .before .tag .ensures) (c .before .before .before .before .blanks .ensures) (c .before .before .before .peek .ensures) (c .before .before .if2 .left) (c .before .past2 .ensures) (c .blanks3 .ensures)
+    let opens = c .before .before .before .before .before .before .before .opens in
+    let if1 = c .before .before .before .before .before .before .if1 in
+    let tag = c .before .before .before .before .before .tag in
+    opens-holds (if1 .taken) (opens .ensures) (tag .ensures) (c .before .before .before .before .blanks .ensures)
+    (c .before .before .before .peek .ensures) (c .before .before .if2 .left) (c .before .past2 .ensures) (c .blanks3 .ensures)
 
 returns-3 : tie.Need-returns-3
 returns-3 c = opens-missing (c .if1 .left) (c .before .opens .ensures)

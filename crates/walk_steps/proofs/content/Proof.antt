@@ -30,8 +30,9 @@ close-requires c κs = search needs
 
 returns-2 : tie.Need-returns-2
 returns-2 c =
+    let blanks = c .before .before .before .before .before .blanks in
     let a = c .before .before .before .before .before .before .before .before .args in
-    record { says = λ i. long-found (now (a .name)) (a .high) (c .before .before .before .before .before .blanks .ensures) (c .before .before .before .before .peek .ensures) (c .before .before .before .if1 .left) (c .before .before .past2 .ensures) (c .before .until .ensures) (c .close .ensures) }
+    record { says = λ i. long-found (now (a .name)) (a .high) (blanks .ensures) (c .before .before .before .before .peek .ensures) (c .before .before .before .if1 .left) (c .before .before .past2 .ensures) (c .before .until .ensures) (c .close .ensures) }
 
 pub content-spec : {M : Type 1} → statement M
 content-spec =

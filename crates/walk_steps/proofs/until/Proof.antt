@@ -44,6 +44,7 @@ seek-requires-3 c κs = search needs
 
 returns-4 : tie.Need-returns-4
 returns-4 c =
+    let pre' = c .before .before .before .before .before .before .before .pre in
     let a = c .before .before .before .before .before .before .before .args in
     let m = c .before .before .before .seek2 in
     let b = c .before .blocks2 in
@@ -54,7 +55,7 @@ returns-4 c =
       onward = omega (arith, m .ensures .onward, b .ensures .onward, e .onward);
       each =
           upto-join f s (a .at) (b .result) (c .seek3 .result)
-          (upto-join f s (a .at) (m .result) (b .result) (m .ensures .each) (upto-others (a .stop) s (m .result) (b .result) (c .before .before .before .before .before .before .before .pre) (b .ensures .each)))
+          (upto-join f s (a .at) (m .result) (b .result) (m .ensures .each) (upto-others (a .stop) s (m .result) (b .result) (pre') (b .ensures .each)))
           (e .each);
       ends = e .ends;
     }

@@ -23,15 +23,21 @@ is-wrong-requires c κs = search needs
 
 returns-2 : tie.Need-returns-2
 returns-2 c =
-    leaf-read (c .before .before .before .before .before .before .before .args .far)
-    (pieces-are (c .before .before .before .before .before .piece .ensures) (c .before .before .before .n .given .1))
-    (c .before .before .before .before .before .before .before .fits .top .fits) (c .before .is-wrong .ensures)
+    let args = c .before .before .before .before .before .before .before .args in
+    let fits = c .before .before .before .before .before .before .before .fits in
+    let piece = c .before .before .before .before .before .piece in
+    leaf-read (args .far)
+    (pieces-are (piece .ensures) (c .before .before .before .n .given .1))
+    (fits .top .fits) (c .before .is-wrong .ensures)
     (⊎-elim (λ w. rw (w .taken)) (λ w. rw (w .2 .taken, or-true)) (c .if1 .came))
 
 returns-3 : tie.Need-returns-3
 returns-3 c =
-    leaf-site (c .before .before .before .before .before .before .before .before .before .args .far)
-    (pieces-are (c .before .before .before .before .before .before .before .piece .ensures) (c .before .before .before .before .before .n .given .1))
+    let args = c .before .before .before .before .before .before .before .before .before .args in
+    let piece = c .before .before .before .before .before .before .before .piece in
+    let n = c .before .before .before .before .before .n in
+    leaf-site (args .far)
+    (pieces-are (piece .ensures) (n .given .1))
     (rw (c .before .before .if1 .left) (c .if2 .left))
 
 pub leaf-spec : {M : Type 1} → statement M

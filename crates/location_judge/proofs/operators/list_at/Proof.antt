@@ -35,7 +35,8 @@ returns-2 c =
 
 returns-3 : tie.Need-returns-3
 returns-3 c =
-    list-no (c .before .before .before .before .begins .ensures) (c .before .before .before .if1 .left) (c .before .begins2 .ensures) (c .if2 .left)
+    list-no (c .before .before .before .before .begins .ensures) (c .before .before .before .if1 .left) (c .before .begins2 .ensures)
+    (c .if2 .left)
 
 pub list-at-spec : {M : Type 1} → statement M
 list-at-spec =

@@ -12,8 +12,9 @@ returns-2 c = rw (le-ltb _ _ (c .before .before .if1 .left), lt-ltb _ _ (c .if2 
 
 returns-3 : tie.Need-returns-3
 returns-3 c =
+    let if1 = c .before .before .before .before .before .before .if1 in
     rw (
-      le-ltb _ _ (c .before .before .before .before .before .before .if1 .left),
+      le-ltb _ _ (if1 .left),
       le-ltb _ _ (c .before .before .before .before .if2 .left),
       lt-ltb _ _
           (c .before .before .if3 .taken),
@@ -22,8 +23,9 @@ returns-3 c =
 
 returns-4 : tie.Need-returns-4
 returns-4 c =
+    let if1 = c .before .before .before .before .before .before .if1 in
     rw (
-      le-ltb _ _ (c .before .before .before .before .before .before .if1 .left),
+      le-ltb _ _ (if1 .left),
       le-ltb _ _ (c .before .before .before .before .if2 .left),
       lt-ltb _ _
           (c .before .before .if3 .taken),
@@ -35,21 +37,26 @@ add-if5 c = search needs
 
 returns-5 : tie.Need-returns-5
 returns-5 c =
+    let if1 = c .before .before .before .before .before .before .before .if1 in
+    let if2 = c .before .before .before .before .before .if2 in
     rw (
-      le-ltb _ _ (c .before .before .before .before .before .before .before .if1 .left),
+      le-ltb _ _ (if1 .left),
       le-ltb _ _
-          (c .before .before .before .before .before .if2 .left),
+          (if2 .left),
       le-ltb _ _ (c .before .before .before .if3 .left),
       eq-eqb _ _ (c .if5 .taken),
     )
 
 returns-6 : tie.Need-returns-6
 returns-6 c =
+    let if1 = c .before .before .before .before .before .before .before .before .before .if1 in
+    let if2 = c .before .before .before .before .before .before .before .if2 in
+    let if3 = c .before .before .before .before .before .if3 in
     rw (
-      le-ltb _ _ (c .before .before .before .before .before .before .before .before .before .if1 .left),
+      le-ltb _ _ (if1 .left),
       le-ltb _ _
-          (c .before .before .before .before .before .before .before .if2 .left),
-      le-ltb _ _ (c .before .before .before .before .before .if3 .left),
+          (if2 .left),
+      le-ltb _ _ (if3 .left),
       ne-eqb
           _ _ (c .before .before .if5 .left),
       ne-eqb _ _ (c .if6 .taken),
@@ -57,12 +64,15 @@ returns-6 c =
 
 returns-7 : tie.Need-returns-7
 returns-7 c =
+    let if1 = c .before .before .before .before .before .before .before .before .before .before .before .if1 in
+    let if2 = c .before .before .before .before .before .before .before .before .before .if2 in
+    let if3 = c .before .before .before .before .before .before .before .if3 in
     rw (
-      le-ltb _ _ (c .before .before .before .before .before .before .before .before .before .before .before .if1 .left),
+      le-ltb _ _ (if1 .left),
       le-ltb _ _
-          (c .before .before .before .before .before .before .before .before .before .if2 .left),
+          (if2 .left),
       le-ltb _ _
-          (c .before .before .before .before .before .before .before .if3 .left),
+          (if3 .left),
       ne-eqb _ _ (c .before .before .before .before .if5 .left),
       eq-eqb _ _
           (c .before .before .if6 .left),
@@ -71,12 +81,15 @@ returns-7 c =
 
 returns-8 : tie.Need-returns-8
 returns-8 c =
+    let if1 = c .before .before .before .before .before .before .before .before .before .before .before .if1 in
+    let if2 = c .before .before .before .before .before .before .before .before .before .if2 in
+    let if3 = c .before .before .before .before .before .before .before .if3 in
     rw (
-      le-ltb _ _ (c .before .before .before .before .before .before .before .before .before .before .before .if1 .left),
+      le-ltb _ _ (if1 .left),
       le-ltb _ _
-          (c .before .before .before .before .before .before .before .before .before .if2 .left),
+          (if2 .left),
       le-ltb _ _
-          (c .before .before .before .before .before .before .before .if3 .left),
+          (if3 .left),
       ne-eqb _ _ (c .before .before .before .before .if5 .left),
       eq-eqb _ _
           (c .before .before .if6 .left),

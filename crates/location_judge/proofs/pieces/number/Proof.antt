@@ -68,10 +68,14 @@ returns-5 c =
     (c .before .before .wide2 .ensures) (λ j k. omega arith)
 
 mul-keep : tie.Need-mul-keep Inv-loop μ-loop
-mul-keep c = omega (arith, c .before .before .before .before .before .loop .inv .most)
+mul-keep c =
+    let loop' = c .before .before .before .before .before .loop in
+    omega (arith, loop' .inv .most)
 
 add-keep : tie.Need-add-keep Inv-loop μ-loop
-add-keep c = omega (arith, c .before .before .before .before .before .loop .inv .most)
+add-keep c =
+    let loop' = c .before .before .before .before .before .loop in
+    omega (arith, loop' .inv .most)
 
 keep-requires : tie.Need-keep-requires Inv-loop μ-loop
 keep-requires c κs = search needs
@@ -84,10 +88,11 @@ loop-less c = search needs
 
 loop-again : tie.Need-loop-again Inv-loop μ-loop
 loop-again c =
+    let loop-test = c .before .before .before .before .before .loop-test in
     let a = c .before .before .before .before .before .before .before .before .before .before .before .before .before .args in
     let l = c .before .before .before .before .before .before .loop in
     counted-next (a .s .now) (a .at) (l .i) (l .v) (c .before .before .before .wide2 .result) (c .keep .result) (l .inv)
-    (c .before .before .before .before .before .loop-test .taken) (c .before .before .before .wide2 .ensures) (c .before .before .if4 .left)
+    (loop-test .taken) (c .before .before .before .wide2 .ensures) (c .before .before .if4 .left)
     (c .before .if5 .left) (c .keep .ensures)
 
 returns-6 : tie.Need-returns-6 Inv-loop μ-loop

@@ -18,7 +18,8 @@ enum-known-n c = search needs
 
 returns-2 : tie.Need-returns-2
 returns-2 c =
-    pair-at (c .before .before .before .before .before .pre) (number-is (c .before .before .before .number .ensures) (c .before .n .given .1))
+    let pre' = c .before .before .before .before .before .pre in
+    pair-at (pre') (number-is (c .before .before .before .number .ensures) (c .before .n .given .1))
 
 pub pair-spec : {M : Type 1} → statement M
 pair-spec = tie.close (tie.spec number-requires enum-told returns enum-known-n returns-2)

@@ -28,8 +28,9 @@ enum-told c = search needs
 
 returns : tie.Need-returns
 returns c =
+    let args = c .before .before .before .before .before .before .before .before .args in
     piece-no (way-after (c .before .before .before .before .begins .ensures) (c .before .before .before .if1 .taken))
-    (c .before .before .before .before .before .before .before .before .args .complemented)
+    (args .complemented)
     (number-is (c .before .before .number .ensures) (c .enum-told .given .1))
 
 enum-known-n : tie.Need-enum-known-n
@@ -37,18 +38,22 @@ enum-known-n c = search needs
 
 add-t18 : tie.Need-add-t18
 add-t18 c =
+    let args = c .before .before .before .before .before .before .before .before .before .args in
+    let mark-if = c .before .before .before .before .before .before .before .mark-if in
     omega (
       arith,
-      c .before .before .before .before .before .before .before .mark-if .ensures,
+      mark-if .ensures,
       mark-most
-          (c .before .before .before .before .before .before .before .before .before .args .complemented) 1,
+          (args .complemented) 1,
     )
 
 returns-2 : tie.Need-returns-2
 returns-2 c =
-    piece-after (c .before .before .before .before .before .before .before .mark-if .ensures)
+    let mark-if = c .before .before .before .before .before .before .before .mark-if in
+    let begins = c .before .before .before .before .before .begins in
+    piece-after (mark-if .ensures)
     (number-is (c .before .before .before .number .ensures) (c .before .n .given .1))
-    (way-after (c .before .before .before .before .before .begins .ensures) (c .before .before .before .before .if1 .taken))
+    (way-after (begins .ensures) (c .before .before .before .before .if1 .taken))
 
 slice-aggregate-begins-2 : tie.Need-slice-aggregate-begins-2
 slice-aggregate-begins-2 c = search needs
@@ -67,11 +72,14 @@ enum-told-2 c = search needs
 
 returns-3 : tie.Need-returns-3
 returns-3 c =
+    let args = c .before .before .before .before .before .before .before .before .before .before .before .args in
+    let begins = c .before .before .before .before .before .before .before .begins in
+    let if1 = c .before .before .before .before .before .before .if1 in
     piece-no
-    (way-before (c .before .before .before .before .before .before .before .begins .ensures)
-    (c .before .before .before .before .before .before .if1 .left) (c .before .before .before .before .begins2 .ensures)
+    (way-before (begins .ensures)
+    (if1 .left) (c .before .before .before .before .begins2 .ensures)
     (c .before .before .before .if2 .taken))
-    (c .before .before .before .before .before .before .before .before .before .before .before .args .complemented)
+    (args .complemented)
     (number-is (c .before .before .number2 .ensures) (c .enum-told2 .given .1))
 
 enum-known-n-2 : tie.Need-enum-known-n-2
@@ -79,33 +87,42 @@ enum-known-n-2 c = search needs
 
 add-tail : tie.Need-add-tail
 add-tail c =
+    let args = c .before .before .before .before .before .before .before .before .before .before .before .before .args in
+    let mark-if = c .before .before .before .before .before .before .before .before .before .before .mark-if in
     omega (
       arith,
-      c .before .before .before .before .before .before .before .before .before .before .mark-if .ensures,
+      mark-if .ensures,
       mark-most
-          (c .before .before .before .before .before .before .before .before .before .before .before .before .args .complemented) 1,
+          (args .complemented) 1,
     )
 
 tail-requires : tie.Need-tail-requires
 tail-requires c κs =
+    let args = c .before .before .before .before .before .before .before .before .before .before .before .before .args in
+    let mark-if = c .before .before .before .before .before .before .before .before .before .before .mark-if in
     let h = number-is (c .before .before .before .number2 .ensures) (c .before .n2 .given .1) .within in (
       h .1,
       h .0 .inside,
       omega (
         arith,
-        c .before .before .before .before .before .before .before .before .before .before .mark-if .ensures,
+        mark-if .ensures,
         mark-most
-            (c .before .before .before .before .before .before .before .before .before .before .before .before .args .complemented) 1,
+            (args .complemented) 1,
       ),
     )
 
 returns-4 : tie.Need-returns-4
 returns-4 c =
-    piece-before (c .before .before .before .before .before .before .before .before .before .before .before .mark-if .ensures)
+    let mark-if = c .before .before .before .before .before .before .before .before .before .before .before .mark-if in
+    let begins = c .before .before .before .before .before .before .before .before .before .begins in
+    let if1 = c .before .before .before .before .before .before .before .before .if1 in
+    let begins2 = c .before .before .before .before .before .before .begins2 in
+    let if2 = c .before .before .before .before .before .if2 in
+    piece-before (mark-if .ensures)
     (number-is (c .before .before .before .before .number2 .ensures) (c .before .before .n2 .given .1))
-    (way-before (c .before .before .before .before .before .before .before .before .before .begins .ensures)
-    (c .before .before .before .before .before .before .before .before .if1 .left)
-    (c .before .before .before .before .before .before .begins2 .ensures) (c .before .before .before .before .before .if2 .taken))
+    (way-before (begins .ensures)
+    (if1 .left)
+    (begins2 .ensures) (if2 .taken))
     (c .tail .result) (c .tail .ensures)
 
 number-requires-3 : tie.Need-number-requires-3
@@ -116,11 +133,14 @@ enum-told-3 c = search needs
 
 returns-5 : tie.Need-returns-5
 returns-5 c =
+    let args = c .before .before .before .before .before .before .before .before .before .before .before .args in
+    let begins = c .before .before .before .before .before .before .before .begins in
+    let if1 = c .before .before .before .before .before .before .if1 in
     piece-no
-    (way-digit (c .before .before .before .before .before .before .before .begins .ensures)
-    (c .before .before .before .before .before .before .if1 .left) (c .before .before .before .before .begins2 .ensures)
+    (way-digit (begins .ensures)
+    (if1 .left) (c .before .before .before .before .begins2 .ensures)
     (c .before .before .before .if2 .left))
-    (c .before .before .before .before .before .before .before .before .before .before .before .args .complemented)
+    (args .complemented)
     (number-is (c .before .before .number3 .ensures) (c .enum-told3 .given .1))
 
 enum-known-n-3 : tie.Need-enum-known-n-3
@@ -134,47 +154,66 @@ add-pair c = omega (arith, room (bytes "^") (c .before .byte-is .ensures) (c .if
 
 add-pair-2 : tie.Need-add-pair-2
 add-pair-2 c =
+    let args = c .before .before .before .before .before .before .before .before .before .before .before .before .before .before .args in
+    let mark-if = c .before .before .before .before .before .before .before .before .before .before .before .before .mark-if in
     omega (
       arith,
-      c .before .before .before .before .before .before .before .before .before .before .before .before .mark-if .ensures,
+      mark-if .ensures,
       mark-most
-          (c .before .before .before .before .before .before .before .before .before .before .before .before .before .before .args .complemented) 1,
+          (args .complemented) 1,
     )
 
 pair-requires : tie.Need-pair-requires
-pair-requires c κs = number-is (c .before .before .before .before .before .number3 .ensures) (c .before .before .before .n3 .given .1) .within .1
+pair-requires c κs =
+    let number3 = c .before .before .before .before .before .number3 in
+    number-is (number3 .ensures) (c .before .before .before .n3 .given .1) .within .1
 
 returns-6 : tie.Need-returns-6
 returns-6 c =
-    piece-site (c .before .before .before .before .before .before .before .before .before .before .before .before .before .mark-if .ensures)
-    (number-is (c .before .before .before .before .before .before .number3 .ensures) (c .before .before .before .before .n3 .given .1))
-    (way-digit (c .before .before .before .before .before .before .before .before .before .before .before .begins .ensures)
-    (c .before .before .before .before .before .before .before .before .before .before .if1 .left)
-    (c .before .before .before .before .before .before .before .before .begins2 .ensures)
-    (c .before .before .before .before .before .before .before .if2 .left))
+    let mark-if = c .before .before .before .before .before .before .before .before .before .before .before .before .before .mark-if in
+    let begins = c .before .before .before .before .before .before .before .before .before .before .before .begins in
+    let if1 = c .before .before .before .before .before .before .before .before .before .before .if1 in
+    let begins2 = c .before .before .before .before .before .before .before .before .begins2 in
+    let if2 = c .before .before .before .before .before .before .before .if2 in
+    let number3 = c .before .before .before .before .before .before .number3 in
+    piece-site (mark-if .ensures)
+    (number-is (number3 .ensures) (c .before .before .before .before .n3 .given .1))
+    (way-digit (begins .ensures)
+    (if1 .left)
+    (begins2 .ensures)
+    (if2 .left))
     (c .before .before .byte-is .ensures) (c .before .if3 .taken) (c .pair .result) (c .pair .ensures)
 
 tail-requires-2 : tie.Need-tail-requires-2
 tail-requires-2 c κs =
-    let h = number-is (c .before .before .before .before .before .number3 .ensures) (c .before .before .before .n3 .given .1) .within in (
+    let args = c .before .before .before .before .before .before .before .before .before .before .before .before .before .before .args in
+    let mark-if = c .before .before .before .before .before .before .before .before .before .before .before .before .mark-if in
+    let number3 = c .before .before .before .before .before .number3 in
+    let h = number-is (number3 .ensures) (c .before .before .before .n3 .given .1) .within in (
       h .1,
       h .0 .inside,
       omega (
         arith,
-        c .before .before .before .before .before .before .before .before .before .before .before .before .mark-if .ensures,
+        mark-if .ensures,
         mark-most
-            (c .before .before .before .before .before .before .before .before .before .before .before .before .before .before .args .complemented) 1,
+            (args .complemented) 1,
       ),
     )
 
 returns-7 : tie.Need-returns-7
 returns-7 c =
-    piece-tail (c .before .before .before .before .before .before .before .before .before .before .before .before .before .mark-if .ensures)
-    (number-is (c .before .before .before .before .before .before .number3 .ensures) (c .before .before .before .before .n3 .given .1))
-    (way-digit (c .before .before .before .before .before .before .before .before .before .before .before .begins .ensures)
-    (c .before .before .before .before .before .before .before .before .before .before .if1 .left)
-    (c .before .before .before .before .before .before .before .before .begins2 .ensures)
-    (c .before .before .before .before .before .before .before .if2 .left))
+    let mark-if = c .before .before .before .before .before .before .before .before .before .before .before .before .before .mark-if in
+    let begins = c .before .before .before .before .before .before .before .before .before .before .before .begins in
+    let if1 = c .before .before .before .before .before .before .before .before .before .before .if1 in
+    let begins2 = c .before .before .before .before .before .before .before .before .begins2 in
+    let if2 = c .before .before .before .before .before .before .before .if2 in
+    let number3 = c .before .before .before .before .before .before .number3 in
+    piece-tail (mark-if .ensures)
+    (number-is (number3 .ensures) (c .before .before .before .before .n3 .given .1))
+    (way-digit (begins .ensures)
+    (if1 .left)
+    (begins2 .ensures)
+    (if2 .left))
     (c .before .before .byte-is .ensures) (c .before .if3 .left) (c .tail2 .result) (c .tail2 .ensures)
 
 pub piece-spec : {M : Type 1} → statement M

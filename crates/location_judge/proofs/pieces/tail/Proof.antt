@@ -33,7 +33,8 @@ pair-requires c κs = search needs
 
 returns : tie.Need-returns
 returns c =
-    tail-high (c .before .before .before .before .before .begins .ensures) (c .before .before .before .before .if1 .taken)
+    let begins = c .before .before .before .before .before .begins in
+    tail-high (begins .ensures) (c .before .before .before .before .if1 .taken)
     (c .before .before .begins2 .ensures) (c .before .if2 .taken) (c .pair .result) (c .pair .ensures)
 
 pair-requires-2 : tie.Need-pair-requires-2
@@ -41,7 +42,8 @@ pair-requires-2 c κs = search needs
 
 returns-2 : tie.Need-returns-2
 returns-2 c =
-    tail-low (c .before .before .before .before .before .begins .ensures) (c .before .before .before .before .if1 .taken)
+    let begins = c .before .before .before .before .before .begins in
+    tail-low (begins .ensures) (c .before .before .before .before .if1 .taken)
     (c .before .before .begins2 .ensures) (c .before .if2 .left) (c .pair2 .result) (c .pair2 .ensures)
 
 returns-3 : tie.Need-returns-3

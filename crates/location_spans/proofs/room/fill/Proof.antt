@@ -28,9 +28,10 @@ returns-2 c =
 
 returns-3 : tie.Need-returns-3
 returns-3 c =
+    let judge = c .before .before .before .before .before .judge in
     let a = c .before .before .before .before .before .before .before .before .args in
     spans-short
-    (subst (Judges (a .s .now) (a .top)) (c .before .before .before .f .given .1) (c .before .before .before .before .before .judge .ensures))
+    (subst (Judges (a .s .now) (a .top)) (c .before .before .before .f .given .1) (judge .ensures))
     (c .before .if1 .left) (a .out .now) (c .if2 .taken)
 
 start-requires : tie.Need-start-requires
@@ -44,12 +45,16 @@ same-length c = search needs
 
 returns-4 : tie.Need-returns-4
 returns-4 c =
+    let judge = c .before .before .before .before .before .before .before .before .before .before .judge in
+    let f = c .before .before .before .before .before .before .before .before .f in
+    let if1 = c .before .before .before .before .before .before .if1 in
+    let if2 = c .before .before .before .before .before .if2 in
     let a = c .before .before .before .before .before .before .before .before .before .before .before .before .before .args in
     spans-are
-    (subst (Judges (a .s .now) (a .top)) (c .before .before .before .before .before .before .before .before .f .given .1)
-    (c .before .before .before .before .before .before .before .before .before .before .judge .ensures))
-    (c .before .before .before .before .before .before .if1 .left) (a .out .now) (c .before .before .before .before .start .result)
-    (c .before .before .before .before .before .if2 .left) (c .before .before .before .before .start .ensures)
+    (subst (Judges (a .s .now) (a .top)) (f .given .1)
+    (judge .ensures))
+    (if1 .left) (a .out .now) (c .before .before .before .before .start .result)
+    (if2 .left) (c .before .before .before .before .start .ensures)
     (c .before .before .put-spans .ensures)
 
 pub fill-spec : {M : Type 1} → statement M

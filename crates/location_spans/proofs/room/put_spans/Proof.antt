@@ -42,7 +42,8 @@ mul-out c = search needs
 
 slice-write-out : tie.Need-slice-write-out Inv-loop μ-loop
 slice-write-out c =
-    omega (arith, c .before .before .before .before .before .loop .inv .size, c .before .before .before .before .before .loop .inv .room)
+    let loop' = c .before .before .before .before .before .loop in
+    omega (arith, loop' .inv .size, loop' .inv .room)
 
 add-out : tie.Need-add-out Inv-loop μ-loop
 add-out c = search needs
@@ -52,8 +53,9 @@ mul-out-2 c = search needs
 
 slice-write-out-2 : tie.Need-slice-write-out-2 Inv-loop μ-loop
 slice-write-out-2 c =
+    let loop' = c .before .before .before .before .before .loop in
     simp length-set
-    (omega (arith, c .before .before .before .before .before .loop .inv .size, c .before .before .before .before .before .loop .inv .room))
+    (omega (arith, loop' .inv .size, loop' .inv .room))
 
 add-out-2 : tie.Need-add-out-2 Inv-loop μ-loop
 add-out-2 c = search needs
@@ -63,8 +65,9 @@ mul-out-3 c = search needs
 
 slice-write-out-3 : tie.Need-slice-write-out-3 Inv-loop μ-loop
 slice-write-out-3 c =
+    let loop' = c .before .before .before .before .before .loop in
     simp length-set
-    (omega (arith, c .before .before .before .before .before .loop .inv .size, c .before .before .before .before .before .loop .inv .room))
+    (omega (arith, loop' .inv .size, loop' .inv .room))
 
 add-k : tie.Need-add-k Inv-loop μ-loop
 add-k c = search needs
@@ -74,8 +77,9 @@ loop-less c = search needs
 
 loop-again : tie.Need-loop-again Inv-loop μ-loop
 loop-again c =
+    let loop' = c .before .before .before .before .before .loop in
     let g = c .before .x .given in
-    laying-next (c .before .before .before .before .before .loop .inv) (g .0 .0) (g .0 .1 .0) (c .before .before .before .before .loop-test .taken)
+    laying-next (loop' .inv) (g .0 .0) (g .0 .1 .0) (c .before .before .before .before .loop-test .taken)
     (steps-are (c .before .before .before .step .ensures) (g .1))
 
 same-length-2 : tie.Need-same-length-2 Inv-loop μ-loop

@@ -30,8 +30,10 @@ give-requires c κs = search needs
 
 returns-2 : tie.Need-returns-2
 returns-2 c =
-    ahead-next (c .before .before .before .before .before .before .before .before .fits .top .fits)
-    (members-are (c .before .before .before .before .before .before .member .ensures) (c .before .before .before .before .n .given .1))
+    let fits = c .before .before .before .before .before .before .before .before .fits in
+    let member = c .before .before .before .before .before .before .member in
+    ahead-next (fits .top .fits)
+    (members-are (member .ensures) (c .before .before .before .before .n .given .1))
     (c .before .before .byte-is .ensures) (c .before .if1 .taken) (c .give .result) (c .give .ensures)
 
 give-requires-2 : tie.Need-give-requires-2
@@ -39,8 +41,10 @@ give-requires-2 c κs = search needs
 
 returns-3 : tie.Need-returns-3
 returns-3 c =
-    ahead-last (c .before .before .before .before .before .before .before .before .fits .top .fits)
-    (members-are (c .before .before .before .before .before .before .member .ensures) (c .before .before .before .before .n .given .1))
+    let fits = c .before .before .before .before .before .before .before .before .fits in
+    let member = c .before .before .before .before .before .before .member in
+    ahead-last (fits .top .fits)
+    (members-are (member .ensures) (c .before .before .before .before .n .given .1))
     (c .before .before .byte-is .ensures) (c .before .if1 .left) (c .give2 .result) (c .give2 .ensures)
 
 pub ahead-spec : {M : Type 1} → statement M

@@ -32,9 +32,12 @@ give-requires c κs = search needs
 
 returns-4 : tie.Need-returns-4
 returns-4 c =
-    behind-last (c .before .before .before .before .before .before .last-start .ensures)
-    (c .before .before .before .before .before .before .before .before .before .before .fits .top .fits)
-    (pieces-are (c .before .before .before .before .before .piece .ensures) (c .before .before .before .a .given .1)) (c .before .if3 .taken)
+    let fits = c .before .before .before .before .before .before .before .before .before .before .fits in
+    let last-start = c .before .before .before .before .before .before .last-start in
+    let piece = c .before .before .before .before .before .piece in
+    behind-last (last-start .ensures)
+    (fits .top .fits)
+    (pieces-are (piece .ensures) (c .before .before .before .a .given .1)) (c .before .if3 .taken)
     (c .give .result) (c .give .ensures)
 
 sub-t12 : tie.Need-sub-t12
@@ -45,9 +48,12 @@ give-requires-2 c κs = search needs
 
 returns-5 : tie.Need-returns-5
 returns-5 c =
-    behind-more (c .before .before .before .before .before .before .last-start .ensures)
-    (c .before .before .before .before .before .before .before .before .before .before .fits .top .fits)
-    (pieces-are (c .before .before .before .before .before .piece .ensures) (c .before .before .before .a .given .1)) (c .before .if3 .left)
+    let fits = c .before .before .before .before .before .before .before .before .before .before .fits in
+    let last-start = c .before .before .before .before .before .before .last-start in
+    let piece = c .before .before .before .before .before .piece in
+    behind-more (last-start .ensures)
+    (fits .top .fits)
+    (pieces-are (piece .ensures) (c .before .before .before .a .given .1)) (c .before .if3 .left)
     (c .give2 .result) (c .give2 .ensures)
 
 pub behind-spec : {M : Type 1} → statement M

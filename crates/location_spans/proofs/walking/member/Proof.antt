@@ -36,16 +36,22 @@ add-t10 c = omega (arith, room (bytes ")") (c .before .byte-is .ensures) (c .if2
 
 returns-2 : tie.Need-returns-2
 returns-2 c =
-    member-closed (c .before .before .before .before .before .before .before .complement-at .ensures)
-    (c .before .before .before .before .before .before .if1 .taken)
-    (pieces-are (c .before .before .before .before .before .piece .ensures) (c .before .before .before .n .given .1)) (c .before .byte-is .ensures)
+    let complement-at = c .before .before .before .before .before .before .before .complement-at in
+    let if1 = c .before .before .before .before .before .before .if1 in
+    let piece = c .before .before .before .before .before .piece in
+    member-closed (complement-at .ensures)
+    (if1 .taken)
+    (pieces-are (piece .ensures) (c .before .before .before .n .given .1)) (c .before .byte-is .ensures)
     (c .if2 .taken)
 
 returns-3 : tie.Need-returns-3
 returns-3 c =
-    member-open (c .before .before .before .before .before .before .before .complement-at .ensures)
-    (c .before .before .before .before .before .before .if1 .taken)
-    (pieces-are (c .before .before .before .before .before .piece .ensures) (c .before .before .before .n .given .1)) (c .before .byte-is .ensures)
+    let complement-at = c .before .before .before .before .before .before .before .complement-at in
+    let if1 = c .before .before .before .before .before .before .if1 in
+    let piece = c .before .before .before .before .before .piece in
+    member-open (complement-at .ensures)
+    (if1 .taken)
+    (pieces-are (piece .ensures) (c .before .before .before .n .given .1)) (c .before .byte-is .ensures)
     (c .if2 .left)
 
 piece-requires-2 : tie.Need-piece-requires-2

@@ -28,7 +28,8 @@ sub-end c = let h = lists-are (c .before .before .before .list-at .ensures) (c .
 
 returns-2 : tie.Need-returns-2
 returns-2 c =
-    start-back (c .before .before .before .before .before .complement-at .ensures) (c .before .before .before .before .if1 .taken)
+    let complement-at = c .before .before .before .before .before .complement-at in
+    start-back (complement-at .ensures) (c .before .before .before .before .if1 .taken)
     (lists-are (c .before .before .before .list-at .ensures) (c .before .from .given .1))
 
 list-at-requires-2 : tie.Need-list-at-requires-2
@@ -47,7 +48,8 @@ enum-known-from-2 c = search needs
 
 returns-4 : tie.Need-returns-4
 returns-4 c =
-    start-list (c .before .before .before .before .before .complement-at .ensures) (c .before .before .before .before .if1 .left)
+    let complement-at = c .before .before .before .before .before .complement-at in
+    start-list (complement-at .ensures) (c .before .before .before .before .if1 .left)
     (lists-are (c .before .before .before .list-at2 .ensures) (c .before .from2 .given .1))
 
 pub start-spec : {M : Type 1} → statement M
