@@ -35,10 +35,11 @@ same-length c =
 
 returns : tie.Need-returns
 returns c =
-    let least = c .before .before .before .before .before .before .before .before .least in
-    let lay-blocks = c .before .before .before .before .before .before .lay-blocks in
-    let w = least .ensures in
-    lays-all (lays-join (lay-blocks .ensures .1) (c .before .before .lay-each .ensures)) (omega (arith, w)) (omega (arith, w))
+    let w = c .before .before .before .before .before .before .before .before .least .ensures in
+    lays-all
+    (lays-join (c .before .before .before .before .before .before .lay-blocks .ensures .1) (c .before .before .lay-each .ensures))
+    (omega (arith, w))
+    (omega (arith, w))
 
 pub lay-spec : {M : Type 1} → statement M
 lay-spec =
