@@ -12,9 +12,7 @@ fn judge(listing: &[u8]) -> Total
     ensures { λ r. ⌜ JudgesListing (now (listing .entry)) r ⌝ }
 {
     let symbols = value_residues::symbol_table();
-    let sets = protein_code::set_table();
-    let turns = protein_code::turn_table();
-    let letters = protein_code::letter_table();
+    let code = protein_code::code_table();
     let Headed {
         fault: a,
         total: part,
@@ -27,7 +25,7 @@ fn judge(listing: &[u8]) -> Total
         features,
         judged,
         unjudged,
-    } = judge_sequences::judge_sequences(listing, first, &symbols, &sets, &turns, &letters);
+    } = judge_sequences::judge_sequences(listing, first, &symbols, &code);
     let ok = value_words::is_number(read_steps::bytes_of(listing, part.from, part.to), total);
     let c = judge_faults::unless(ok, 14, part.from);
     let d = judge_faults::earlier(c, b);

@@ -227,16 +227,12 @@ pub fn translation(listing: &[u8], k: usize, j: usize, out: &mut [u8]) -> Transl
         },
         FeatureAt::Found { sequence, feature } => {
             let known = known_of(listing, sequence);
-            let sets = protein_code::set_table();
-            let turns = protein_code::turn_table();
-            let letters = protein_code::letter_table();
+            let code = protein_code::code_table();
             let Written { number, size } = ask_translation::translate(
                 listing,
                 known,
                 feature,
-                &sets,
-                &turns,
-                &letters,
+                &code,
                 out,
             );
             TranslationAnswer {
@@ -261,16 +257,12 @@ pub fn translations(listing: &[u8], k: usize, out: &mut [u8]) -> TranslationAnsw
         SequenceAt::Found(sequence) => {
             let known = known_of(listing, sequence);
             let table = sequence.table;
-            let sets = protein_code::set_table();
-            let turns = protein_code::turn_table();
-            let letters = protein_code::letter_table();
+            let code = protein_code::code_table();
             let Written { number, size } = ask_translations::translate_all(
                 listing,
                 known,
                 table,
-                &sets,
-                &turns,
-                &letters,
+                &code,
                 out,
             );
             TranslationAnswer {

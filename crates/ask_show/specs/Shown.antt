@@ -1,4 +1,5 @@
--- What is shown of what the walk found: the stretch of a text, the number of a kind, and the bytes of a stretch in the lent listing itself.
+-- What is shown of what the walk found: the stretch of a text, the number of a kind, and the bytes of a stretch in the lent listing
+-- itself.
 use Prim.Native.Nat.{ℕ, _+_}
 use mathlib.Core.Path.{_≡_}
 use mathlib.Core.Bool.{Bool}

@@ -5,7 +5,7 @@ use mathlib.Core.List.{List}
 use lib.ListN.{length}
 use native.Mathlib.Omega.{arith}
 use Rattle.paper.specs.Tree.{Sequence, Feature}
-use Rattle.paper.specs.Translation.{dropStop}
+use Rattle.paper.specs.Translation.{Code, code1, dropStop}
 use Rattle.paper.specs.Answers.{refuse, give, Translates, Lent}
 use Rattle.read_steps.specs.Parts.{Shows}
 use Rattle.walk_items.specs.declared.FoundFeature.{FoundFeature}
@@ -21,7 +21,7 @@ use Rattle.ask_translation.specs.declared.Written.{Written}
 use Rattle.ask_translation.specs.declared.Plan.{Plan}
 use Rattle.ask_translation.specs.declared.Plan.the-variants.{NoCds, From}
 use Rattle.ask_translation.specs.declared.Plan.the-variants as plan
-use Rattle.ask_translation.proofs.Planned.{Coded, coded}
+use Rattle.ask_translation.proofs.Planned.{FoundCds, found-cds}
 
 -- the refusal that was answered
 pub answered : {s out after : List ℕ} {known : Known} {g : FoundFeature} {x : Written} {n : ℕ} → x ≡ refusal n → TranslatesOne s known g out (refusal n) after
@@ -46,20 +46,20 @@ module _ {s out : List ℕ} {known : Known} {g : FoundFeature} {p : Plan} (plans
             record { outcome = refuse 36 0; translates = Translates.unjudged (x .0) (x .1); lent = Lent.refused };
       }
 
-  module _ {r loc after : List ℕ} {start : ℕ} {y : Size} (z : p ≡ From start) (shr : Shows s (known .residues .from) (known .residues .to) r)
-      (shl : Shows s (g .location .from) (g .location .to) loc) (w : Writes r loc (known .top) start out y after) where
-    wrote : {x : Size} → y ≡ x → (q : Sequence ℕ) (f : Feature ℕ) (d : Coded r loc (known .top) start q f)
-        → Measured (lettersOf r start (d .location)) (length out) x × (after ≡ afterOf (lettersOf r start (d .location)) out x)
-    wrote e q f d = subst (λ (x : Size). Writes r loc (known .top) start out x after) e w .says (d .location) (d .codes)
+  module _ {gc : Code} {r loc after : List ℕ} {start : ℕ} {y : Size} (code : gc ≡ code1) (z : p ≡ From start) (shr : Shows s (known .residues .from) (known .residues .to) r)
+      (shl : Shows s (g .location .from) (g .location .to) loc) (w : Writes gc r loc (known .top) start out y after) where
+    wrote : {x : Size} → y ≡ x → (q : Sequence ℕ) (f : Feature ℕ) (d : FoundCds r loc (known .top) start q f)
+        → Measured (lettersOf code1 r start (d .location)) (length out) x × (after ≡ afterOf (lettersOf code1 r start (d .location)) out x)
+    wrote e q f d = subst₂ (λ (c : Code) (x : Size). Writes c r loc (known .top) start out x after) code e w .says (d .location) (d .codes)
 
     pub one-is : {n : ℕ} → y ≡ size.Is n → TranslatesOne s known g out (record { number = 0; size = n }) after
     one-is v =
         record {
           says =
               λ q f e k i keeps.
-              let d = coded plans z shr shl q f e k i keeps in
+              let d = found-cds plans z shr shl q f e k i keeps in
               let m = wrote v q f d in
-              let x = dropStop (lettersOf r start (d .location)) in
+              let x = dropStop (lettersOf code1 r start (d .location)) in
               record {
                 outcome = give x;
                 translates = Translates.translation (d .judged) (m .0 .0);
@@ -72,9 +72,9 @@ module _ {s out : List ℕ} {known : Known} {g : FoundFeature} {p : Plan} (plans
         record {
           says =
               λ q f e k i keeps.
-              let d = coded plans z shr shl q f e k i keeps in
+              let d = found-cds plans z shr shl q f e k i keeps in
               let m = wrote v q f d in
-              let x = dropStop (lettersOf r start (d .location)) in
+              let x = dropStop (lettersOf code1 r start (d .location)) in
               record {
                 outcome = give x;
                 translates = Translates.translation (d .judged) (m .0 .0);
@@ -87,7 +87,7 @@ module _ {s out : List ℕ} {known : Known} {g : FoundFeature} {p : Plan} (plans
         record {
           says =
               λ q f e k i keeps.
-              let d = coded plans z shr shl q f e k i keeps in
+              let d = found-cds plans z shr shl q f e k i keeps in
               let m = wrote v q f d in
               record { outcome = refuse 37 0; translates = Translates.stop-inside (d .judged) (m .0); lent = subst (Lent out (refuse 37 0) 37 0 0) (sym (m .1)) Lent.refused };
         }

@@ -6,6 +6,7 @@ use mathlib.Core.Logic.{inl, inr}
 use mathlib.Core.List.{List}
 use Rattle.paper.specs.Bytes.{raw, all}
 use Rattle.paper.specs.Tree.{Sequence, Feature}
+use Rattle.paper.specs.Translation.{code1}
 use Rattle.paper.specs.Locations.{Location, Locates, breaks25}
 use Rattle.paper.specs.Rules.{L, isSymbol, Coding, Judged, residues, rule-18, rule-24, rule-25, rule-27}
 use Rattle.read_steps.specs.Parts.{Shows}
@@ -90,19 +91,19 @@ module _ {s wk : List ℕ} {known : Known} {g : FoundFeature} {named : Bool} (sk
 -- ---- the coding text of a judged CDS
 
 -- of the residues and the location as they were found
-pub record Coded (r loc : List ℕ) (top start : ℕ) (q : Sequence ℕ) (f : Feature ℕ) : Type 0 where
+pub record FoundCds (r loc : List ℕ) (top start : ℕ) (q : Sequence ℕ) (f : Feature ℕ) : Type 0 where
   pub location : Location
   pub codes : Codes r loc top location
-  pub judged : Judged q f (lettersOf r start location)
+  pub judged : Judged q f (lettersOf code1 r start location)
 
-pub coded : {s r loc : List ℕ} {known : Known} {g : FoundFeature} {p : Plan} {start : ℕ} → Plans s known g p → p ≡ From start
+pub found-cds : {s r loc : List ℕ} {known : Known} {g : FoundFeature} {p : Plan} {start : ℕ} → Plans s known g p → p ≡ From start
     → Shows s (known .residues .from) (known .residues .to) r → Shows s (g .location .from) (g .location .to) loc
-    → (q : Sequence ℕ) (f : Feature ℕ) (e : ℕ) → Knows s q known → IsFeature s f e g → Keeps q f → Coded r loc (known .top) start q f
-coded {start = start} plans z shr shl q f e k i keeps =
+    → (q : Sequence ℕ) (f : Feature ℕ) (e : ℕ) → Knows s q known → IsFeature s f e g → Keeps q f → FoundCds r loc (known .top) start q f
+found-cds {start = start} plans z shr shl q f e k i keeps =
     let p : PlannedFrom q f start = subst (PlanIs q f) z (plans .says q f e k i keeps) in
     let er = residues-read k shr (p .judged .coding .kind) (p .judged .symbols) in
     record {
       location = p .location;
       codes = found-codes k (part-shows (i .location) shl) er (p .located) (p .inside);
-      judged = subst (λ (y : List ℕ). Judged q f (lettersOf y start (p .location))) (sym er) (p .judged);
+      judged = subst (λ (y : List ℕ). Judged q f (lettersOf code1 y start (p .location))) (sym er) (p .judged);
     }

@@ -4,6 +4,7 @@ use mathlib.Core.Path.{_≡_}
 use mathlib.Core.Bool.{false}
 use mathlib.Core.List.{List}
 use Rattle.paper.specs.Tree.{Sequence, Feature}
+use Rattle.paper.specs.Translation.{code1}
 use Rattle.paper.specs.Locations.{Location, Locates, breaks25}
 use Rattle.paper.specs.Rules.{L, Coding, Unjudged, Judged, InTexts, InFeature}
 use Rattle.walk_items.specs.Items.{IsFeature}
@@ -25,7 +26,7 @@ pub record PlannedFrom (q : Sequence ℕ) (f : Feature ℕ) (start : ℕ) : Type
   pub location : Location
   pub located : Locates location (f .location .read)
   pub inside : breaks25 (L q) location ≡ false
-  pub judged : Judged q f (lettersOf (q .residues .read) start location)
+  pub judged : Judged q f (lettersOf code1 (q .residues .read) start location)
 
 abbrev pub PlanIs : Sequence ℕ → Feature ℕ → Plan → Type 0
 PlanIs q f NoCds = ¬ Coding q f

@@ -10,7 +10,8 @@ use protein_write::write;
 use read_steps::bytes_of;
 use walk_items::FoundFeature;
 ghost use mathlib.Core.Path.{_≡_};
-ghost use Rattle.protein_code.specs.Tables.{SetTable, TurnTable, LetterTable};
+ghost use Rattle.paper.specs.Translation.{code1};
+ghost use Rattle.protein_code.specs.Tables.{CodeTable};
 ghost use Rattle.ask_translation.specs.Plans.{Plans};
 ghost use Rattle.ask_translation.specs.Ones.{refusal, TranslatesOne};
 
@@ -57,14 +58,10 @@ pub fn translate(
     s: &[u8],
     known: Known,
     feature: FoundFeature,
-    sets: &[u8; 256],
-    turns: &[u8; 256],
-    table: &[u8; 4096],
+    code: &[u8; 5128],
     out: &mut [u8],
 ) -> Written
-    requires { ⌜ SetTable (now sets) ⌝ }
-    requires { ⌜ TurnTable (now turns) ⌝ }
-    requires { ⌜ LetterTable (now table) ⌝ }
+    requires { ⌜ CodeTable code1 (now code) ⌝ }
     ensures { λ r. ⌜ TranslatesOne (now (s .entry)) known feature (now (out .entry)) r (now (out .exit)) ⌝ }
 {
     match plan_of(s, known, feature) {
@@ -73,7 +70,7 @@ pub fn translate(
         Plan::From(start) => {
             let r = bytes_of(s, known.residues.from, known.residues.to);
             let loc = bytes_of(s, feature.location.from, feature.location.to);
-            match write(r, loc, known.top, start, sets, turns, table, out) {
+            match write(r, loc, known.top, start, code, out) {
                 Size::Is(n) => Written { number: 0, size: n },
                 Size::Short => refused(34),
                 Size::Stop => refused(37),

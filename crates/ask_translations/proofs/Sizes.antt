@@ -7,7 +7,7 @@ use mathlib.Core.List.{List, [], _++_}
 use lib.ListN.{length-append}
 use Rattle.paper.specs.Bytes.{bytes}
 use Rattle.paper.specs.Tree.{Sequence, Feature}
-use Rattle.paper.specs.Translation.{dropStop, hasStopInside}
+use Rattle.paper.specs.Translation.{Code, code1, dropStop, hasStopInside}
 use Rattle.paper.specs.Answers.{Translates}
 use Rattle.paper.specs.Answers as paper
 use Rattle.read_steps.specs.Parts.{Shows}
@@ -29,7 +29,7 @@ use Rattle.ask_translation.specs.declared.Plan.the-variants.{NoCds, From}
 use Rattle.ask_translation.specs.declared.Plan.the-variants as plan
 use Rattle.ask_translations.specs.declared.Lined.{Lined}
 use Rattle.ask_translations.specs.declared.Lined.the-variants.{Is, Short}
-use Rattle.ask_translation.proofs.Planned.{coded}
+use Rattle.ask_translation.proofs.Planned.{found-cds}
 use Rattle.ask_translations.proofs.Laid.{lines-more}
 use Rattle.ask_translations.proofs.Walks.{SeenFeatures, none-seen, one-more, stuck, all-seen, keep-front}
 
@@ -55,8 +55,11 @@ module _ {s : List ℕ} {known : Known} {g : FoundFeature} {p : Plan} {room : �
             record { line = bytes "-\n"; is = Line.unjudged (Translates.unjudged (y .0) (y .1)); size = d .is };
       }
 
-  module _ {r loc : List ℕ} {start : ℕ} {y : Size} (z : p ≡ From start) (shr : Shows s (known .residues .from) (known .residues .to) r)
-      (shl : Shows s (g .location .from) (g .location .to) loc) (w : Measures r loc (known .top) start room y) where
+  module _ {gc : Code} {r loc : List ℕ} {start : ℕ} {y : Size} (code : gc ≡ code1) (z : p ≡ From start) (shr : Shows s (known .residues .from) (known .residues .to) r)
+      (shl : Shows s (g .location .from) (g .location .to) loc) (w : Measures gc r loc (known .top) start room y) where
+    measured : Measures code1 r loc (known .top) start room y
+    measured = subst (λ (c : Code). Measures c r loc (known .top) start room y) code w
+
     -- by its letters
     size-by : {x : Lined} (v : Size) → y ≡ v → Within room x
         → ((l : List ℕ) → Measured l room v → (hasStopInside l ≡ false) × SizeIs (dropStop l ++ bytes "\n") room x) → MeasuresLine s known g room x
@@ -65,9 +68,9 @@ module _ {s : List ℕ} {known : Known} {g : FoundFeature} {p : Plan} {room : �
           within = within;
           says =
               λ q f e k i keeps.
-              let d = coded plans z shr shl q f e k i keeps in
-              let l = lettersOf r start (d .location) in
-              let m = by l (measures-are w u .says (d .location) (d .codes)) in
+              let d = found-cds plans z shr shl q f e k i keeps in
+              let l = lettersOf code1 r start (d .location) in
+              let m = by l (measures-are measured u .says (d .location) (d .codes)) in
               record { line = dropStop l ++ bytes "\n"; is = Line.translation (Translates.translation (d .judged) (m .0)); size = m .1 };
         }
 
@@ -86,8 +89,8 @@ module _ {s : List ℕ} {known : Known} {g : FoundFeature} {p : Plan} {room : �
           within = dash .within;
           says =
               λ q f e k i keeps.
-              let d = coded plans z shr shl q f e k i keeps in
-              record { line = bytes "-\n"; is = Line.stop-inside (Translates.stop-inside (d .judged) (measures-are w v .says (d .location) (d .codes))); size = dash .is };
+              let d = found-cds plans z shr shl q f e k i keeps in
+              record { line = bytes "-\n"; is = Line.stop-inside (Translates.stop-inside (d .judged) (measures-are measured v .says (d .location) (d .codes))); size = dash .is };
         }
 
 -- ---- two texts

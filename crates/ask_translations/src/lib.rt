@@ -11,7 +11,8 @@ use protein_measure::measure;
 use read_steps::bytes_of;
 use walk_items::FoundFeature;
 use walk_items::FoundTable;
-ghost use Rattle.protein_code.specs.Tables.{SetTable, TurnTable, LetterTable};
+ghost use Rattle.paper.specs.Translation.{code1};
+ghost use Rattle.protein_code.specs.Tables.{CodeTable};
 ghost use Rattle.ask_translations.specs.Lines.{Dashes, MeasuresLine, PassesFeature, Adds, MeasuresLines, PutsDash, PutsLine, PutsLines, TranslatesAll};
 
 // The length of some lines, or that they are longer than the room.
@@ -31,18 +32,8 @@ fn dash_size(room: usize) -> Lined
 }
 
 // The length of a feature's line.
-fn line_size(
-    s: &[u8],
-    known: Known,
-    feature: FoundFeature,
-    room: usize,
-    sets: &[u8; 256],
-    turns: &[u8; 256],
-    table: &[u8; 4096],
-) -> Lined
-    requires { ⌜ SetTable (now sets) ⌝ }
-    requires { ⌜ TurnTable (now turns) ⌝ }
-    requires { ⌜ LetterTable (now table) ⌝ }
+fn line_size(s: &[u8], known: Known, feature: FoundFeature, room: usize, code: &[u8; 5128]) -> Lined
+    requires { ⌜ CodeTable code1 (now code) ⌝ }
     ensures { λ r. ⌜ MeasuresLine (now (s .entry)) known feature room r ⌝ }
 {
     match plan_of(s, known, feature) {
@@ -51,7 +42,7 @@ fn line_size(
         Plan::From(start) => {
             let r = bytes_of(s, known.residues.from, known.residues.to);
             let loc = bytes_of(s, feature.location.from, feature.location.to);
-            match measure(r, loc, known.top, start, room, sets, turns, table) {
+            match measure(r, loc, known.top, start, room, code) {
                 Size::Is(n) => {
                     if n < room {
                         return Lined::Is(n + 1);
@@ -93,18 +84,8 @@ fn both(a: Lined, b: Lined, room: usize) -> Lined
 }
 
 // The length of the lines of all features that stand from here on.
-fn lines_size(
-    s: &[u8],
-    first: usize,
-    known: Known,
-    room: usize,
-    sets: &[u8; 256],
-    turns: &[u8; 256],
-    table: &[u8; 4096],
-) -> Lined
-    requires { ⌜ SetTable (now sets) ⌝ }
-    requires { ⌜ TurnTable (now turns) ⌝ }
-    requires { ⌜ LetterTable (now table) ⌝ }
+fn lines_size(s: &[u8], first: usize, known: Known, room: usize, code: &[u8; 5128]) -> Lined
+    requires { ⌜ CodeTable code1 (now code) ⌝ }
     ensures { λ r. ⌜ MeasuresLines (now (s .entry)) first known room r ⌝ }
 {
     let mut at = first;
@@ -116,7 +97,7 @@ fn lines_size(
             if next <= at {
                 return Lined::Short;
             }
-            let line = line_size(s, known, feature, room, sets, turns, table);
+            let line = line_size(s, known, feature, room, code);
             size = both(size, line, room);
             at = next;
         } else {
@@ -142,17 +123,13 @@ fn put_line(
     s: &[u8],
     known: Known,
     feature: FoundFeature,
-    sets: &[u8; 256],
-    turns: &[u8; 256],
-    table: &[u8; 4096],
+    code: &[u8; 5128],
     out: &mut [u8],
 ) -> usize
-    requires { ⌜ SetTable (now sets) ⌝ }
-    requires { ⌜ TurnTable (now turns) ⌝ }
-    requires { ⌜ LetterTable (now table) ⌝ }
+    requires { ⌜ CodeTable code1 (now code) ⌝ }
     ensures { λ r. ⌜ PutsLine (now (s .entry)) known feature (now (out .entry)) r (now (out .exit)) ⌝ }
 {
-    let text = translate(s, known, feature, sets, turns, table, out);
+    let text = translate(s, known, feature, code, out);
     if text.number == 35 {
         return 0;
     }
@@ -168,18 +145,8 @@ fn put_line(
 }
 
 // The lines of all features that stand from here on.
-fn put_lines(
-    s: &[u8],
-    first: usize,
-    known: Known,
-    sets: &[u8; 256],
-    turns: &[u8; 256],
-    table: &[u8; 4096],
-    out: &mut [u8],
-)
-    requires { ⌜ SetTable (now sets) ⌝ }
-    requires { ⌜ TurnTable (now turns) ⌝ }
-    requires { ⌜ LetterTable (now table) ⌝ }
+fn put_lines(s: &[u8], first: usize, known: Known, code: &[u8; 5128], out: &mut [u8])
+    requires { ⌜ CodeTable code1 (now code) ⌝ }
     ensures { λ _. ⌜ PutsLines (now (s .entry)) first known (now (out .entry)) (now (out .exit)) ⌝ }
 {
     let mut at = first;
@@ -191,7 +158,7 @@ fn put_lines(
             if next <= at {
                 return;
             }
-            let n = put_line(s, known, feature, sets, turns, table, &mut out[end..]);
+            let n = put_line(s, known, feature, code, &mut out[end..]);
             end += n;
             at = next;
         } else {
@@ -205,23 +172,19 @@ pub fn translate_all(
     s: &[u8],
     known: Known,
     found: FoundTable,
-    sets: &[u8; 256],
-    turns: &[u8; 256],
-    table: &[u8; 4096],
+    code: &[u8; 5128],
     out: &mut [u8],
 ) -> Written
-    requires { ⌜ SetTable (now sets) ⌝ }
-    requires { ⌜ TurnTable (now turns) ⌝ }
-    requires { ⌜ LetterTable (now table) ⌝ }
+    requires { ⌜ CodeTable code1 (now code) ⌝ }
     ensures { λ r. ⌜ TranslatesAll (now (s .entry)) known found (now (out .entry)) r (now (out .exit)) ⌝ }
 {
     if !found.present {
         return Written { number: 0, size: 0 };
     }
-    match lines_size(s, found.first, known, out.len(), sets, turns, table) {
+    match lines_size(s, found.first, known, out.len(), code) {
         Lined::Short => refused(34),
         Lined::Is(size) => {
-            put_lines(s, found.first, known, sets, turns, table, &mut out[..size]);
+            put_lines(s, found.first, known, code, &mut out[..size]);
             Written { number: 0, size }
         }
     }

@@ -1,4 +1,5 @@
--- One answer only: two results that the C functions' own relations allow are equal. The other functions cite the paper's relations, for which crates/lookups says so.
+-- One answer only: two results that the C functions' own relations allow are equal. The other functions cite the paper's relations, for
+-- which crates/ask_lookups says so.
 use Prim.Native.Nat.{ℕ}
 use mathlib.Core.Path.{_≡_, ap, sym, _∙_}
 use mathlib.Core.List.{List}

@@ -11,7 +11,7 @@ use Rattle.paper.specs.Bytes.{raw, all}
 use Rattle.paper.specs.Lists.{_∈_}
 use Rattle.paper.specs.Tree.{Qualifier, Feature, Sequence, qualifiersOf}
 use Rattle.paper.specs.Locations.{Location, Locates, breaks25}
-use Rattle.paper.specs.Translation.{dropStop, hasStopInside}
+use Rattle.paper.specs.Translation.{Code, code1, dropStop, hasStopInside}
 use Rattle.paper.specs.Rules.{L, Kind, isSymbol, valuePlace, Before, CodonStart, Judged, InCoding, rule-27, rule-28}
 use Rattle.paper.specs.Answers.{Translates}
 use Rattle.paper.specs.declared.Fault.{Fault}
@@ -123,10 +123,11 @@ module _ {s : List ℕ} {location : Part} {rest : ℕ} {known : Known} {verdict 
               true≢false (sym w ∙ k .2 .wrong ∙ ap (breaks25 (L q)) o ∙ j .codons .inside));
         }
 
-    pub region-judged : {r loc : List ℕ} {y : Fault} → u ≡ false → known .clean ≡ true → x .wrong ≡ false
+    pub region-judged : {gc : Code} {r loc : List ℕ} {y : Fault} → gc ≡ code1 → u ≡ false → known .clean ≡ true → x .wrong ≡ false
         → Shows s (known .residues .from) (known .residues .to) r → Shows s (location .from) (location .to) loc
-        → Rights s r loc (known .top) start rest y → JudgesRegion s location rest known verdict start u y
-    region-judged d g w shr shl rights =
+        → Rights gc s r loc (known .top) start rest y → JudgesRegion s location rest known verdict start u y
+    region-judged {r = r} {loc = loc} {y = y} code d g w shr shl right =
+        let rights = subst (λ (c : Code). Rights c s r loc (known .top) start rest y) code right in
         record {
           says =
               λ key q f stop a l c t.
@@ -140,7 +141,7 @@ module _ {s : List ℕ} {location : Part} {rest : ℕ} {known : Known} {verdict 
                 symbols = sy;
                 judged = tells-false u d t;
                 codons =
-                    record { location = k .0; located = k .1; inside = b; start = start; starts = c; are = ap (λ (z : List ℕ). lettersOf z start (k .0)) er };
+                    record { location = k .0; located = k .1; inside = b; start = start; starts = c; are = ap (λ (z : List ℕ). lettersOf code1 z start (k .0)) er };
               })
               l (rights .says (k .0) (found-codes (a .knows) (part-shows (a .located) shl) er (k .1) b) (l .back) stop (l .stands) (a .closes));
         }

@@ -11,7 +11,7 @@ use Rattle.paper.specs.Bytes.{bytes, raw}
 use Rattle.paper.specs.Tree.{Text, Qualifier, opt}
 use Rattle.paper.specs.Layout.{child, qualifier}
 use Rattle.paper.specs.Locations.{Location}
-use Rattle.paper.specs.Translation.{dropStop, hasStopInside}
+use Rattle.paper.specs.Translation.{Code, dropStop, hasStopInside}
 use Rattle.paper.specs.Rules.{Named, valueRead, valuePlace, Earlier}
 use Rattle.paper.specs.declared.Fault.{Fault}
 use Rattle.paper.specs.declared.Fault.the-variants.{Clean, At}
@@ -40,14 +40,14 @@ use Rattle.judge_qualifiers.proofs.Loops.{SeenSo, one-more, stuck, all-seen}
 
 -- ---- one value
 
-module _ {s r loc : List ℕ} {top start : ℕ} {value : Part} {right : Maybe} {v : List ℕ} (shown : Shows s (value .from) (value .to) v) where
-  pub right-codes : {y : Bool} → right ≡ Absent → Compares r loc top start v y → SaysRight s r loc top start value right y
+module _ {gc : Code} {s r loc : List ℕ} {top start : ℕ} {value : Part} {right : Maybe} {v : List ℕ} (shown : Shows s (value .from) (value .to) v) where
+  pub right-codes : {y : Bool} → right ≡ Absent → Compares gc r loc top start v y → SaysRight gc s r loc top start value right y
   right-codes e c = record { says = λ t k a u i. c .says t k (u .read) (part-shows i shown) }
 
   -- a value is right exactly when it equals a right one
-  pub right-same : {p : Part} {w : List ℕ} (y : Bool) → right ≡ Present p → Shows s (p .from) (p .to) w → Tells y (v ≡ w) → SaysRight s r loc top start value right y
+  pub right-same : {p : Part} {w : List ℕ} (y : Bool) → right ≡ Present p → Shows s (p .from) (p .to) w → Tells y (v ≡ w) → SaysRight gc s r loc top start value right y
   right-same {p} {w} y e h z =
-      record { says = λ t k a u i. let b = subst (RightAt s (lettersOf r start t)) e a in same (lettersOf r start t) (u .read) (b .0 .read) (part-shows i shown) (part-shows (b .1) h) (b .2) y z }
+      record { says = λ t k a u i. let b = subst (RightAt s (lettersOf gc r start t)) e a in same (lettersOf gc r start t) (u .read) (b .0 .read) (part-shows i shown) (part-shows (b .1) h) (b .2) y z }
     where
       same : (x a b : List ℕ) → v ≡ raw a → w ≡ raw b → RightValue x b → (y : Bool) → Tells y (v ≡ w) → RightIf x a y
       same x a b f g q true z = subst (RightValue x) (raw-once b a (sym g ∙ sym z ∙ f)) q
@@ -96,9 +96,9 @@ module _ {s x : List ℕ} {fault : Fault} {right : Maybe} (l : List (Qualifier �
       later Clean f h = absurd h
       later (At n d) f h = some-later (Breaks28 x) l q f (λ m j b. inl (omega (arith, h, e, b .1)))
 
-module _ {s r loc : List ℕ} {top start : ℕ} {name : Part} {value right : Maybe} {fault : Fault} {w : List ℕ} {t : Bool}
+module _ {gc : Code} {s r loc : List ℕ} {top start : ℕ} {name : Part} {value right : Maybe} {fault : Fault} {w : List ℕ} {t : Bool}
     (shown : Shows s (name .from) (name .to) w) (tells : Tells t (w ≡ bytes "translation")) where
-  pub checks-other : t ≡ false → Checks s r loc top start name value fault right (record { fault = fault; right = right })
+  pub checks-other : t ≡ false → Checks gc s r loc top start name value fault right (record { fault = fault; right = right })
   checks-other e =
       record {
         says =
@@ -108,18 +108,18 @@ module _ {s r loc : List ℕ} {top start : ℕ} {name : Part} {value right : May
       }
 
   pub checks-absent : {y : Fault} → t ≡ true → value ≡ Absent → Earlier fault (At 28 (name .from)) y
-      → Checks s r loc top start name value fault right (record { fault = y; right = right })
+      → Checks gc s r loc top start name value fault right (record { fault = y; right = right })
   checks-absent e v g =
       record {
         says =
             λ z c l so q i m.
             let o = value-none s (q .value) (subst (MaybeIs s (q .value)) v m) in
             checked-broken l q so (i .first ∙ sym (ap (λ (y : Option (Text ℕ)). valuePlace y (q .name)) o)) (name-is shown i e tells)
-            (λ h. Option·none-ne-some (dropStop (lettersOf r start z)) (sym (ap (opt (λ (y : Text ℕ). y .read)) o) ∙ h .0)) g;
+            (λ h. Option·none-ne-some (dropStop (lettersOf gc r start z)) (sym (ap (opt (λ (y : Text ℕ). y .read)) o) ∙ h .0)) g;
       }
 
   module _ {p : Part} (e : t ≡ true) (v : value ≡ Present p) where
-    pub checks-settled : {y : Bool} → y ≡ true → Tells y (Settled fault (p .from)) → Checks s r loc top start name value fault right (record { fault = fault; right = right })
+    pub checks-settled : {y : Bool} → y ≡ true → Tells y (Settled fault (p .from)) → Checks gc s r loc top start name value fault right (record { fault = fault; right = right })
     checks-settled {y} h k =
         record {
           says =
@@ -128,58 +128,58 @@ module _ {s r loc : List ℕ} {top start : ℕ} {name : Part} {value right : May
               checked-settled l q so (o .2 .first ∙ sym (ap (λ (y : Option (Text ℕ)). valuePlace y (q .name)) (o .1))) (tells-true y h k);
         }
 
-    module _ {y : Bool} (says : SaysRight s r loc top start p right y) where
-      pub checks-right : y ≡ true → Checks s r loc top start name value fault right (record { fault = fault; right = Present p })
+    module _ {y : Bool} (says : SaysRight gc s r loc top start p right y) where
+      pub checks-right : y ≡ true → Checks gc s r loc top start name value fault right (record { fault = fault; right = Present p })
       checks-right h =
           record {
             says =
                 λ z c l so q i m.
                 let o = value-some s p (q .value) (subst (MaybeIs s (q .value)) v m) in
-                let k = subst (RightIf (lettersOf r start z) (o .0 .read)) h (says .says z c (so .known) (o .0) (o .2)) in
+                let k = subst (RightIf (lettersOf gc r start z) (o .0 .read)) h (says .says z c (so .known) (o .0) (o .2)) in
                 checked-clean l q so (λ n d b. b .3 (ap (opt (λ (y : Text ℕ). y .read)) (o .1) ∙ ap some (k .same), k .clear)) (o .0, o .2, k);
           }
 
       pub checks-wrong : {b : Fault} → y ≡ false → Earlier fault (At 28 (p .from)) b
-          → Checks s r loc top start name value fault right (record { fault = b; right = right })
+          → Checks gc s r loc top start name value fault right (record { fault = b; right = right })
       checks-wrong h g =
           record {
             says =
                 λ z c l so q i m.
                 let o = value-some s p (q .value) (subst (MaybeIs s (q .value)) v m) in
-                let k = subst (RightIf (lettersOf r start z) (o .0 .read)) h (says .says z c (so .known) (o .0) (o .2)) in
+                let k = subst (RightIf (lettersOf gc r start z) (o .0 .read)) h (says .says z c (so .known) (o .0) (o .2)) in
                 checked-broken l q so (o .2 .first ∙ sym (ap (λ (y : Option (Text ℕ)). valuePlace y (q .name)) (o .1))) (name-is shown i e tells)
-                (λ d. k (record { clear = d .1; same = Option·some-injective (o .0 .read) (dropStop (lettersOf r start z)) (sym (ap (opt (λ (y : Text ℕ). y .read)) (o .1)) ∙ d .0) })) g;
+                (λ d. k (record { clear = d .1; same = Option·some-injective (o .0 .read) (dropStop (lettersOf gc r start z)) (sym (ap (opt (λ (y : Text ℕ). y .read)) (o .1)) ∙ d .0) })) g;
           }
 
 -- ---- all of them
 
 -- of the qualifiers passed
-pub record Checking (s r loc : List ℕ) (top start first at : ℕ) (fault : Fault) (right : Maybe) : Type 0 where
-  pub is : (t : Location) → Codes r loc top t → SeenSo s first at (CheckedOf s (lettersOf r start t) fault right)
+pub record Checking (gc : Code) (s r loc : List ℕ) (top start first at : ℕ) (fault : Fault) (right : Maybe) : Type 0 where
+  pub is : (t : Location) → Codes r loc top t → SeenSo s first at (CheckedOf s (lettersOf gc r start t) fault right)
 
-module _ {s r loc : List ℕ} {top start first : ℕ} where
-  pub checking-none : Checking s r loc top start first first Clean Absent
+module _ {gc : Code} {s r loc : List ℕ} {top start first : ℕ} where
+  pub checking-none : Checking gc s r loc top start first first Clean Absent
   checking-none =
       record {
         is =
             λ t c.
-            seen-none (child qualifier) closing first (CheckedOf s (lettersOf r start t) Clean Absent)
-            (record { first = some-none (Breaks28 (lettersOf r start t)); known = tt });
+            seen-none (child qualifier) closing first (CheckedOf s (lettersOf gc r start t) Clean Absent)
+            (record { first = some-none (Breaks28 (lettersOf gc r start t)); known = tt });
       }
 
-  module _ {at : ℕ} {fault : Fault} {right : Maybe} {h : Bool} (here : There (bytes "<INSDQualifier") s at h) (w : Checking s r loc top start first at fault right) where
-    pub checking-next : {x : FoundQualifier} {y : Checked} → h ≡ true → FindsQualifier s at x → Checks s r loc top start (x .name) (x .value) fault right y
-        → Checking s r loc top start first (x .next) (y .fault) (y .right)
+  module _ {at : ℕ} {fault : Fault} {right : Maybe} {h : Bool} (here : There (bytes "<INSDQualifier") s at h) (w : Checking gc s r loc top start first at fault right) where
+    pub checking-next : {x : FoundQualifier} {y : Checked} → h ≡ true → FindsQualifier s at x → Checks gc s r loc top start (x .name) (x .value) fault right y
+        → Checking gc s r loc top start first (x .next) (y .fault) (y .right)
     checking-next {y = y} e f k =
         record {
           is =
               λ t c.
-              one-more (CheckedOf s (lettersOf r start t) fault right) (CheckedOf s (lettersOf r start t) (y .fault) (y .right)) e here (w .is t c) f
+              one-more (CheckedOf s (lettersOf gc r start t) fault right) (CheckedOf s (lettersOf gc r start t) (y .fault) (y .right)) e here (w .is t c) f
               (λ l q i m z. k .says t c l z q i m);
         }
 
-    pub checking-stuck : {x : FoundQualifier} → h ≡ true → FindsQualifier s at x → x .next ≤ at → Rights s r loc top start first fault
-    checking-stuck e f n = record { says = λ t c l j d fol. absurd (stuck (CheckedOf s (lettersOf r start t) fault right) e here (w .is t c) f n l j d fol) }
+    pub checking-stuck : {x : FoundQualifier} → h ≡ true → FindsQualifier s at x → x .next ≤ at → Rights gc s r loc top start first fault
+    checking-stuck e f n = record { says = λ t c l j d fol. absurd (stuck (CheckedOf s (lettersOf gc r start t) fault right) e here (w .is t c) f n l j d fol) }
 
-    pub checking-done : h ≡ false → Rights s r loc top start first fault
-    checking-done e = record { says = λ t c l j d fol. all-seen (CheckedOf s (lettersOf r start t) fault right) e here (w .is t c) l j d fol .0 .first }
+    pub checking-done : h ≡ false → Rights gc s r loc top start first fault
+    checking-done e = record { says = λ t c l j d fol. all-seen (CheckedOf s (lettersOf gc r start t) fault right) e here (w .is t c) l j d fol .0 .first }

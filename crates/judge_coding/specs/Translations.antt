@@ -9,7 +9,7 @@ use Rattle.paper.specs.Tree.{Text, Qualifier}
 use Rattle.paper.specs.Form.{each}
 use Rattle.paper.specs.Layout.{child, qualifier}
 use Rattle.paper.specs.Locations.{Location}
-use Rattle.paper.specs.Translation.{dropStop, hasStopInside}
+use Rattle.paper.specs.Translation.{Code, dropStop, hasStopInside}
 use Rattle.paper.specs.Rules.{Named, valueRead, valuePlace}
 use Rattle.read_steps.specs.Follow.{Starts, closing}
 use Rattle.walk_steps.specs.Stands.{Stands, IsPart, MaybeIs}
@@ -34,9 +34,9 @@ abbrev pub RightAt : List ℕ → List ℕ → Maybe → Type 0
 RightAt s x Absent = Unit {0}
 RightAt s x (Present p) = (u : Text ℕ) × IsPart s u p × RightValue x (u .read)
 
-pub record SaysRight (s r loc : List ℕ) (top start : ℕ) (value : Part) (right : Maybe) (y : Bool) : Type 0 where
-  pub says : (t : Location) → Codes r loc top t → RightAt s (lettersOf r start t) right → (u : Text ℕ) → IsPart s u value
-      → RightIf (lettersOf r start t) (u .read) y
+pub record SaysRight (gc : Code) (s r loc : List ℕ) (top start : ℕ) (value : Part) (right : Maybe) (y : Bool) : Type 0 where
+  pub says : (t : Location) → Codes r loc top t → RightAt s (lettersOf gc r start t) right → (u : Text ℕ) → IsPart s u value
+      → RightIf (lettersOf gc r start t) (u .read) y
 
 -- a fault that comes before the place
 abbrev pub Settled : Fault → ℕ → Type 0
@@ -48,11 +48,12 @@ pub record CheckedOf (s x : List ℕ) (fault : Fault) (right : Maybe) (l : List 
   pub first : Firsts (Some (Breaks28 x) l) fault
   pub known : RightAt s x right
 
-pub record Checks (s r loc : List ℕ) (top start : ℕ) (name : Part) (value : Maybe) (fault : Fault) (right : Maybe) (y : Checked) : Type 0 where
-  pub says : (t : Location) → Codes r loc top t → (l : List (Qualifier ℕ)) → CheckedOf s (lettersOf r start t) fault right l
-      → (q : Qualifier ℕ) → IsPart s (q .name) name → MaybeIs s (q .value) value → CheckedOf s (lettersOf r start t) (y .fault) (y .right) (l ++ (q ∷ []))
+pub record Checks (gc : Code) (s r loc : List ℕ) (top start : ℕ) (name : Part) (value : Maybe) (fault : Fault) (right : Maybe) (y : Checked) : Type 0 where
+  pub says : (t : Location) → Codes r loc top t → (l : List (Qualifier ℕ)) → CheckedOf s (lettersOf gc r start t) fault right l
+      → (q : Qualifier ℕ) → IsPart s (q .name) name → MaybeIs s (q .value) value
+      → CheckedOf s (lettersOf gc r start t) (y .fault) (y .right) (l ++ (q ∷ []))
 
 -- of whichever qualifiers stand from `first` on
-pub record Rights (s r loc : List ℕ) (top start first : ℕ) (y : Fault) : Type 0 where
+pub record Rights (gc : Code) (s r loc : List ℕ) (top start first : ℕ) (y : Fault) : Type 0 where
   pub says : (t : Location) → Codes r loc top t → (l : List (Qualifier ℕ)) (e : ℕ) → Stands (each (child qualifier) l) s first e → Starts closing (drop e s)
-      → Firsts (Some (Breaks28 (lettersOf r start t)) l) y
+      → Firsts (Some (Breaks28 (lettersOf gc r start t)) l) y

@@ -1,5 +1,5 @@
-// One coding region of DNA or RNA: rules 27 and 28, and whether it is judged.
-// Relies on what is noted of its qualifiers, the walk along its translations, the values, the judged location and the comparison with the translation.
+// One coding region of DNA or RNA: rules 27 and 28, and whether it is judged. Relies on what is noted of its qualifiers, the walk along
+// its translations, the values, the judged location and the comparison with the translation.
 use judge_faults::Known;
 use judge_faults::earlier;
 use judge_qualifiers::Frame;
@@ -13,7 +13,8 @@ use value_words::same;
 use walk_items::FoundQualifier;
 use walk_steps::Maybe;
 use walk_steps::Part;
-ghost use Rattle.protein_code.specs.Tables.{SetTable, TurnTable, LetterTable};
+ghost use Rattle.paper.specs.Translation.{code1};
+ghost use Rattle.protein_code.specs.Tables.{CodeTable, Coded, codeOf};
 ghost use Rattle.value_words.specs.Reading.{Tells};
 ghost use Rattle.judge_coding.specs.Translations.{Settled, SaysRight, Checks, Rights};
 ghost use Rattle.judge_coding.specs.Coding.{JudgesCoding, JudgesRegion};
@@ -35,19 +36,15 @@ fn value_right(
     start: usize,
     value: Part,
     right: Maybe,
-    sets: &[u8; 256],
-    turns: &[u8; 256],
-    table: &[u8; 4096],
+    code: &[u8; 5128],
 ) -> bool
-    requires { ⌜ SetTable (now sets) ⌝ }
-    requires { ⌜ TurnTable (now turns) ⌝ }
-    requires { ⌜ LetterTable (now table) ⌝ }
-    ensures { λ y. ⌜ SaysRight (now (s .entry)) (now (r .entry)) (now (loc .entry)) top start value right y ⌝ }
+    requires { ⌜ Coded (now code) ⌝ }
+    ensures { λ y. ⌜ SaysRight (codeOf (now (code .entry))) (now (s .entry)) (now (r .entry)) (now (loc .entry)) top start value right y ⌝ }
 {
     let v = bytes_of(s, value.from, value.to);
     match right {
         Maybe::Absent => {
-            return is_right(r, loc, top, start, v, sets, turns, table);
+            return is_right(r, loc, top, start, v, code);
         }
         Maybe::Present(k) => {
             let u = bytes_of(s, k.from, k.to);
@@ -90,14 +87,10 @@ fn check(
     value: Maybe,
     fault: Fault,
     right: Maybe,
-    sets: &[u8; 256],
-    turns: &[u8; 256],
-    table: &[u8; 4096],
+    code: &[u8; 5128],
 ) -> Checked
-    requires { ⌜ SetTable (now sets) ⌝ }
-    requires { ⌜ TurnTable (now turns) ⌝ }
-    requires { ⌜ LetterTable (now table) ⌝ }
-    ensures { λ y. ⌜ Checks (now (s .entry)) (now (r .entry)) (now (loc .entry)) top start name value fault right y ⌝ }
+    requires { ⌜ Coded (now code) ⌝ }
+    ensures { λ y. ⌜ Checks (codeOf (now (code .entry))) (now (s .entry)) (now (r .entry)) (now (loc .entry)) top start name value fault right y ⌝ }
 {
     let w = bytes_of(s, name.from, name.to);
     if !same(w, b"translation") {
@@ -118,7 +111,7 @@ fn check(
             if is_settled(fault, p.from) {
                 return Checked { fault, right };
             }
-            if value_right(s, r, loc, top, start, p, right, sets, turns, table) {
+            if value_right(s, r, loc, top, start, p, right, code) {
                 return Checked {
                     fault,
                     right: Maybe::Present(p),
@@ -144,14 +137,10 @@ fn translations(
     top: u32,
     start: usize,
     first: usize,
-    sets: &[u8; 256],
-    turns: &[u8; 256],
-    table: &[u8; 4096],
+    code: &[u8; 5128],
 ) -> Fault
-    requires { ⌜ SetTable (now sets) ⌝ }
-    requires { ⌜ TurnTable (now turns) ⌝ }
-    requires { ⌜ LetterTable (now table) ⌝ }
-    ensures { λ y. ⌜ Rights (now (s .entry)) (now (r .entry)) (now (loc .entry)) top start first y ⌝ }
+    requires { ⌜ Coded (now code) ⌝ }
+    ensures { λ y. ⌜ Rights (codeOf (now (code .entry))) (now (s .entry)) (now (r .entry)) (now (loc .entry)) top start first y ⌝ }
 {
     let mut at = first;
     let mut fault = Fault::Clean;
@@ -165,20 +154,7 @@ fn translations(
             let Checked {
                 fault: least,
                 right: known,
-            } = check(
-                s,
-                r,
-                loc,
-                top,
-                start,
-                name,
-                value,
-                fault,
-                right,
-                sets,
-                turns,
-                table,
-            );
+            } = check(s, r, loc, top, start, name, value, fault, right, code);
             fault = least;
             right = known;
             at = next;
@@ -199,13 +175,9 @@ fn region_fault(
     verdict: Verdict,
     start: usize,
     unjudged: bool,
-    sets: &[u8; 256],
-    turns: &[u8; 256],
-    table: &[u8; 4096],
+    code: &[u8; 5128],
 ) -> Fault
-    requires { ⌜ SetTable (now sets) ⌝ }
-    requires { ⌜ TurnTable (now turns) ⌝ }
-    requires { ⌜ LetterTable (now table) ⌝ }
+    requires { ⌜ CodeTable code1 (now code) ⌝ }
     ensures { λ y. ⌜ JudgesRegion (now (s .entry)) location rest known verdict start unjudged y ⌝ }
 {
     if unjudged {
@@ -224,7 +196,7 @@ fn region_fault(
             }
             let r = bytes_of(s, known.residues.from, known.residues.to);
             let loc = bytes_of(s, location.from, location.to);
-            return translations(s, r, loc, known.top, start, rest, sets, turns, table);
+            return translations(s, r, loc, known.top, start, rest, code);
         }
     }
 }
@@ -237,13 +209,9 @@ pub fn judge_coding(
     noted: Noted,
     known: Known,
     verdict: Verdict,
-    sets: &[u8; 256],
-    turns: &[u8; 256],
-    table: &[u8; 4096],
+    code: &[u8; 5128],
 ) -> Region
-    requires { ⌜ SetTable (now sets) ⌝ }
-    requires { ⌜ TurnTable (now turns) ⌝ }
-    requires { ⌜ LetterTable (now table) ⌝ }
+    requires { ⌜ CodeTable code1 (now code) ⌝ }
     ensures { λ r. ⌜ JudgesCoding (now (s .entry)) key location noted known verdict r ⌝ }
 {
     let Noted {
@@ -257,33 +225,11 @@ pub fn judge_coding(
     let unjudged = is_unjudged(excepted, verdict);
     match frame {
         Frame::Unstated => {
-            let fault = region_fault(
-                s,
-                location,
-                rest,
-                known,
-                verdict,
-                1,
-                unjudged,
-                sets,
-                turns,
-                table,
-            );
+            let fault = region_fault(s, location, rest, known, verdict, 1, unjudged, code);
             return Region { fault, unjudged };
         }
         Frame::Stated(n) => {
-            let fault = region_fault(
-                s,
-                location,
-                rest,
-                known,
-                verdict,
-                n,
-                unjudged,
-                sets,
-                turns,
-                table,
-            );
+            let fault = region_fault(s, location, rest, known, verdict, n, unjudged, code);
             return Region { fault, unjudged };
         }
         Frame::Wrong => {

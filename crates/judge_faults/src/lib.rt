@@ -1,5 +1,5 @@
-// What the parts of the judge share: the earlier of two faults, the fault of a test, counters with a cap, and what is known of a sequence while
-// its features are judged. Relies on the paper, the walk and the values.
+// What the parts of the judge share: the earlier of two faults, the fault of a test, counters with a cap, and what is known of a sequence
+// while its features are judged. Relies on the paper, the walk and the values.
 use paper::Fault;
 use value_words::Kind;
 use walk_steps::Part;

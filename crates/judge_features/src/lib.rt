@@ -9,7 +9,8 @@ use value_words::Kind;
 use walk_items::FoundFeature;
 use walk_items::FoundTable;
 ghost use mathlib.Core.Path.{_≡_};
-ghost use Rattle.protein_code.specs.Tables.{SetTable, TurnTable, LetterTable};
+ghost use Rattle.paper.specs.Translation.{code1};
+ghost use Rattle.protein_code.specs.Tables.{CodeTable};
 ghost use Rattle.judge_features.specs.Featured.{placeFault, NamesSource, roleOf, nothingYet, Adds, Finishes, WithSource, Tables, JudgesFeature, JudgesFeatures, JudgesTable};
 
 // What a feature is, for a count.
@@ -203,17 +204,8 @@ fn sum_up(a: Tally, kind: Kind, place: usize) -> Tabled
 }
 
 // A feature, judged.
-fn judge_feature(
-    s: &[u8],
-    at: usize,
-    known: Known,
-    sets: &[u8; 256],
-    turns: &[u8; 256],
-    table: &[u8; 4096],
-) -> Featured
-    requires { ⌜ SetTable (now sets) ⌝ }
-    requires { ⌜ TurnTable (now turns) ⌝ }
-    requires { ⌜ LetterTable (now table) ⌝ }
+fn judge_feature(s: &[u8], at: usize, known: Known, code: &[u8; 5128]) -> Featured
+    requires { ⌜ CodeTable code1 (now code) ⌝ }
     ensures { λ r. ⌜ JudgesFeature (now (s .entry)) at known r ⌝ }
 {
     let FoundFeature {
@@ -244,9 +236,7 @@ fn judge_feature(
             noted,
             known,
             verdict,
-            sets,
-            turns,
-            table,
+            code,
         );
         return Featured {
             fault: judge_faults::earlier(place, fault),
@@ -264,24 +254,15 @@ fn judge_feature(
 }
 
 // The features that stand here.
-fn judge_features(
-    s: &[u8],
-    first: usize,
-    known: Known,
-    sets: &[u8; 256],
-    turns: &[u8; 256],
-    table: &[u8; 4096],
-) -> Tally
-    requires { ⌜ SetTable (now sets) ⌝ }
-    requires { ⌜ TurnTable (now turns) ⌝ }
-    requires { ⌜ LetterTable (now table) ⌝ }
+fn judge_features(s: &[u8], first: usize, known: Known, code: &[u8; 5128]) -> Tally
+    requires { ⌜ CodeTable code1 (now code) ⌝ }
     ensures { λ r. ⌜ JudgesFeatures (now (s .entry)) first known r ⌝ }
 {
     let mut at = first;
     let mut tally = no_features();
     loop {
         if walk_items::feature_here(s, at) {
-            let x = judge_feature(s, at, known, sets, turns, table);
+            let x = judge_feature(s, at, known, code);
             let next = x.next;
             if next <= at {
                 return tally;
@@ -295,22 +276,13 @@ fn judge_features(
 }
 
 // Rules 21 to 28.
-pub fn judge_table(
-    s: &[u8],
-    found: FoundTable,
-    known: Known,
-    sets: &[u8; 256],
-    turns: &[u8; 256],
-    table: &[u8; 4096],
-) -> Tabled
-    requires { ⌜ SetTable (now sets) ⌝ }
-    requires { ⌜ TurnTable (now turns) ⌝ }
-    requires { ⌜ LetterTable (now table) ⌝ }
+pub fn judge_table(s: &[u8], found: FoundTable, known: Known, code: &[u8; 5128]) -> Tabled
+    requires { ⌜ CodeTable code1 (now code) ⌝ }
     ensures { λ r. ⌜ JudgesTable (now (s .entry)) found known r ⌝ }
 {
     let kind = known.kind;
     if found.present {
-        let a = judge_features(s, found.first, known, sets, turns, table);
+        let a = judge_features(s, found.first, known, code);
         return sum_up(a, kind, found.place);
     }
     let residues = known.residues;

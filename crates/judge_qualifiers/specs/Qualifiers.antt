@@ -1,5 +1,5 @@
--- What the qualifiers of a feature say: of its frame, whether they leave it unjudged, how many organisms and mol_types there are, and from where
--- on its translations stand.
+-- What the qualifiers of a feature say: of its frame, whether they leave it unjudged, how many organisms and mol_types there are, and
+-- from where on its translations stand.
 use Prim.Native.Nat.{ℕ}
 use Prim.Native.String.{String}
 use mathlib.Core.Path.{_≡_}

@@ -1,6 +1,6 @@
-// What the qualifiers of a feature say, in one pass for every feature: how many organisms and mol_types there are (rule 22), with which residue
-// its codons start (rule 27), whether it is left unjudged, and from where on its translations stand (rule 28).
-// Relies on the walk along the qualifiers, the values and the judged location; it reads no residue.
+// What the qualifiers of a feature say, in one pass for every feature: how many organisms and mol_types there are (rule 22), with which
+// residue its codons start (rule 27), whether it is left unjudged, and from where on its translations stand (rule 28). Relies on the walk
+// along the qualifiers, the values and the judged location; it reads no residue.
 use judge_faults::more_of_two;
 use location_judge::judging::Verdict;
 use read_steps::bytes_of;

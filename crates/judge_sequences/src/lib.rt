@@ -1,9 +1,11 @@
-// The sequences of a listing: rules 15 to 29, and the counts. Relies on the walk along them, and on the judges of their texts and features.
+// The sequences of a listing: rules 15 to 29, and the counts. Relies on the walk along them, and on the judges of their texts and
+// features.
 use judge_features::Tabled;
 use paper::Fault;
 use walk_items::FoundSequence;
 ghost use mathlib.Core.Path.{_≡_};
-ghost use Rattle.protein_code.specs.Tables.{SetTable, TurnTable, LetterTable};
+ghost use Rattle.paper.specs.Translation.{code1};
+ghost use Rattle.protein_code.specs.Tables.{CodeTable};
 ghost use Rattle.value_residues.specs.Residues.{SymbolTable};
 ghost use Rattle.judge_sequences.specs.Sequences.{nothingYet, Plus, oneIf, Adds, JudgesSequence, JudgesSequences};
 
@@ -90,19 +92,9 @@ fn add(a: Total, x: One) -> Total
 }
 
 // The sequence number k.
-fn judge_sequence(
-    s: &[u8],
-    at: usize,
-    k: usize,
-    symbols: &[u8; 256],
-    sets: &[u8; 256],
-    turns: &[u8; 256],
-    table: &[u8; 4096],
-) -> One
+fn judge_sequence(s: &[u8], at: usize, k: usize, symbols: &[u8; 256], code: &[u8; 5128]) -> One
     requires { ⌜ SymbolTable (now symbols) ⌝ }
-    requires { ⌜ SetTable (now sets) ⌝ }
-    requires { ⌜ TurnTable (now turns) ⌝ }
-    requires { ⌜ LetterTable (now table) ⌝ }
+    requires { ⌜ CodeTable code1 (now code) ⌝ }
     ensures { λ r. ⌜ JudgesSequence (now (s .entry)) at k r ⌝ }
 {
     let FoundSequence {
@@ -135,7 +127,7 @@ fn judge_sequence(
         features,
         judged,
         unjudged,
-    } = judge_features::judge_table(s, found, known, sets, turns, table);
+    } = judge_features::judge_table(s, found, known, code);
     let d = judge_faults::earlier(a, b);
     One {
         fault: judge_faults::earlier(d, c),
@@ -148,18 +140,9 @@ fn judge_sequence(
 }
 
 // All that stand from here on.
-pub fn judge_sequences(
-    s: &[u8],
-    first: usize,
-    symbols: &[u8; 256],
-    sets: &[u8; 256],
-    turns: &[u8; 256],
-    table: &[u8; 4096],
-) -> Total
+pub fn judge_sequences(s: &[u8], first: usize, symbols: &[u8; 256], code: &[u8; 5128]) -> Total
     requires { ⌜ SymbolTable (now symbols) ⌝ }
-    requires { ⌜ SetTable (now sets) ⌝ }
-    requires { ⌜ TurnTable (now turns) ⌝ }
-    requires { ⌜ LetterTable (now table) ⌝ }
+    requires { ⌜ CodeTable code1 (now code) ⌝ }
     ensures { λ r. ⌜ JudgesSequences (now (s .entry)) first r ⌝ }
 {
     let mut at = first;
@@ -167,7 +150,7 @@ pub fn judge_sequences(
     loop {
         if walk_items::sequence_here(s, at) {
             let k = plus(total.total, 1);
-            let x = judge_sequence(s, at, k, symbols, sets, turns, table);
+            let x = judge_sequence(s, at, k, symbols, code);
             let next = x.next;
             if next <= at {
                 return total;

@@ -1,4 +1,5 @@
--- What inner functions promise: they read what the paper's model reads, and pass over nothing but text, whatever the bytes of the part are.
+-- What inner functions promise: they read what the paper's model reads, and pass over nothing but text, whatever the bytes of the part
+-- are.
 use Prim.Native.Nat.{ℕ, _+_, _≤_, _<_, min}
 use mathlib.Core.Path.{_≡_}
 use mathlib.Core.Bool.{Bool, false, _&&_, _||_, not, cond}

@@ -7,7 +7,8 @@ ghost use lib.ListN.{length};
 ghost use Rattle.paper.specs.Locations.{mark};
 ghost use Rattle.location_judge.specs.Readings.{kept, wrongOf, Numbers, Pairs, Tails, Pieces};
 
-// A number: the place past it, and its value, or 2^32 where that is less: so it fits, and is above every L of 32 bits exactly if the value is.
+// A number: the place past it, and its value, or 2^32 where that is less: so it fits, and is above every L of 32 bits exactly if the
+// value is.
 pub enum Num {
     No,
     At(usize, u64),

@@ -13,7 +13,7 @@ use Rattle.paper.specs.Tree.{Qualifier, Feature, Sequence, Listing, feat
 use Rattle.paper.specs.Layout.{LaidOut}
 use Rattle.paper.specs.Values.{Number}
 use Rattle.paper.specs.Locations.{Location, Locates, spans, operatorNumber}
-use Rattle.paper.specs.Translation.{codonsFrom, codingText, dropStop, hasStopInside}
+use Rattle.paper.specs.Translation.{code1, codonsFrom, codingText, dropStop, hasStopInside}
 use Rattle.paper.specs.Rules.{Skipped, Kind, dna, rna, aa, IsKind, kindName, valueRead, CodonStart, absent, stated, Codons, Broken, First}
 use Rattle.paper.specs.Answers.{partOf, isPresent, valuePart, triples, front, Outcome, refuse, give, Strays, Checked, too-long, strays, breaks, accepted, Counts, CheckSays, FindsSequence, FindsFeature, FindsQualifier, FindsLocation, Translates, FindsTranslation, FindsTranslations, Lines, Lent, Part, kindNumber, SequenceSays, FeatureSays, QualifierSays, SpansSays, TranslationSays, TranslationsSays}
 use Rattle.paper.specs.declared.Verdict.{Verdict}
@@ -53,7 +53,7 @@ start-once (stated q c i h w v o k) (stated {n = m} r d j e x u a b) =
 codons-once : {P : Type 0} {s : Sequence P} {f : Feature P} {x y : List ℕ} → Codons s f x → Codons s f y → x ≡ y
 codons-once {s = s} a b =
     let t : a .location ≡ b .location = locates-once (a .location) (b .location) (a .located) (b .located) in
-    a .are ∙ (λ i. codonsFrom (start-once (a .starts) (b .starts) i) (codingText (s .residues .read) (spans (t i)))) ∙ sym (b .are)
+    a .are ∙ (λ i. codonsFrom code1 (start-once (a .starts) (b .starts) i) (codingText (s .residues .read) (spans (t i)))) ∙ sym (b .are)
 
 true-or-false : {b : Bool} → b ≡ true → b ≡ false → ⊥
 true-or-false p q = let z : _≡_ {A = ℕ} 0 1 = cc in omega arith

@@ -11,7 +11,7 @@ use lib.Dec.{eqb}
 use borrow.Author.Tests.{eqb-true, not-true}
 use Rattle.paper.specs.Bytes.{bytes}
 use Rattle.paper.specs.Locations.{Location, Locates, spans, breaks25}
-use Rattle.paper.specs.Translation.{codingText, codonsFrom, letters, dropStop, hasStopInside}
+use Rattle.paper.specs.Translation.{code1, codingText, codonsFrom, letters, dropStop, hasStopInside}
 use Rattle.paper.proofs.Locate.{locate-sound, locate-complete}
 use Rattle.paper.proofs.Locate.Model.{locate}
 
@@ -48,7 +48,7 @@ samples =
 
 -- the letters of a location's codons
 abbrev lettersOf : String → ℕ → Location → List ℕ
-lettersOf residues start t = codonsFrom start (codingText (bytes residues) (spans t))
+lettersOf residues start t = codonsFrom code1 start (codingText (bytes residues) (spans t))
 
 -- a location is written so that keeps rule 25 and has the property
 abbrev Located : String → ℕ → (Location → Type 0) → Type 0
@@ -58,7 +58,7 @@ abbrev pub Holds : Sample → Type 0
 Holds (gives r l n p) =
     Located l (length (bytes r)) (λ (t : Location). (hasStopInside (lettersOf r n t) ≡ false) × (dropStop (lettersOf r n t) ≡ bytes p))
 Holds (stops r l n) = Located l (length (bytes r)) (λ (t : Location). hasStopInside (lettersOf r n t) ≡ true)
-Holds (codon r x) = letters (bytes r) ≡ bytes x
+Holds (codon r x) = letters code1 (bytes r) ≡ bytes x
 Holds (fits l) = Located l 12 (λ t. Unit {0})
 Holds (breaks-25 l) = (t : Location) × Locates t (bytes l) × (breaks25 12 t ≡ true)
 Holds (breaks-24 l) = (t : Location) → ¬ Locates t (bytes l)
@@ -94,7 +94,7 @@ test (gives r l n p) =
     found (locate (bytes l))
     (λ t. not (breaks25 (length (bytes r)) t) && (not (hasStopInside (lettersOf r n t)) && same (dropStop (lettersOf r n t)) (bytes p)))
 test (stops r l n) = found (locate (bytes l)) (λ t. not (breaks25 (length (bytes r)) t) && hasStopInside (lettersOf r n t))
-test (codon r x) = same (letters (bytes r)) (bytes x)
+test (codon r x) = same (letters code1 (bytes r)) (bytes x)
 test (fits l) = found (locate (bytes l)) (λ t. not (breaks25 12 t))
 test (breaks-25 l) = found (locate (bytes l)) (λ t. breaks25 12 t)
 test (breaks-24 l) = not (found (locate (bytes l)) (λ t. true))

@@ -151,7 +151,8 @@ attributes l =
     · attribute? (bytes "softwareVersion") (l .softwareVersion)
     · attribute? (bytes "productionDate") (l .productionDate)
 
--- what comes before the titles: "either ..; EarliestPriorityApplicationIdentification?; optionally ApplicantName ..; optionally InventorName .."
+-- what comes before the titles: "either ..; EarliestPriorityApplicationIdentification?; optionally ApplicantName ..; optionally
+-- InventorName .."
 abbrev pub parties : Listing ℕ → Form
 parties l =
     heading (l .heading)

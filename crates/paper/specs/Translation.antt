@@ -59,8 +59,12 @@ codingText s (x ∷ l) = residuesOf s x ++ codingText s l
 
 -- ---- codons
 
--- "Code 1 for bases in order t, c, a, g, first base slowest"
-abbrev pub code1 : List ℕ
+-- a genetic code: the letters of its plain codons, "for bases in order t, c, a, g, first base slowest"
+abbrev pub Code : Type 0
+Code = List ℕ
+
+-- "Code 1"
+abbrev pub code1 : Code
 code1 = bytes "FFLLSSSSYY**CC*WLLLLPPPPHHQQRRRRIIIMTTTTNNKKSSRRVVVVAAAADDEEGGGG"
 
 abbrev pub indexIn : List ℕ → ℕ → ℕ
@@ -72,12 +76,12 @@ abbrev pub baseIndex : ℕ → ℕ
 baseIndex = indexIn (bytes "tcag")
 
 -- the letter of a plain codon
-abbrev pub plainLetter : ℕ → ℕ → ℕ → ℕ
-plainLetter a b c = getD code1 (16 * baseIndex a + 4 * baseIndex b + baseIndex c) 0
+abbrev pub plainLetter : Code → ℕ → ℕ → ℕ → ℕ
+plainLetter g a b c = getD g (16 * baseIndex a + 4 * baseIndex b + baseIndex c) 0
 
 -- the letters of all plain codons that three base sets allow
-abbrev pub plainLetters : List ℕ → List ℕ → List ℕ → List ℕ
-plainLetters x y z = gather (λ (a : ℕ). gather (λ (b : ℕ). map (plainLetter a b) z) y) x
+abbrev pub plainLetters : Code → List ℕ → List ℕ → List ℕ → List ℕ
+plainLetters g x y z = gather (λ (a : ℕ). gather (λ (b : ℕ). map (plainLetter g a b) z) y) x
 
 abbrev pub allSame : ℕ → List ℕ → Bool
 allSame x [] = true
@@ -88,15 +92,15 @@ abbrev pub shared : List ℕ → ℕ
 shared [] = code "X"
 shared (x ∷ l) = cond (allSame x l) x (code "X")
 
-abbrev pub codonLetter : ℕ → ℕ → ℕ → ℕ
-codonLetter a b c = shared (plainLetters (basesOf a) (basesOf b) (basesOf c))
+abbrev pub codonLetter : Code → ℕ → ℕ → ℕ → ℕ
+codonLetter g a b c = shared (plainLetters g (basesOf a) (basesOf b) (basesOf c))
 
 -- "take whole codons, ignoring one or two left over"
-abbrev pub letters : List ℕ → List ℕ
-letters [] = []
-letters (a ∷ []) = []
-letters (a ∷ b ∷ []) = []
-letters (a ∷ b ∷ c ∷ w) = codonLetter a b c ∷ letters w
+abbrev pub letters : Code → List ℕ → List ℕ
+letters g [] = []
+letters g (a ∷ []) = []
+letters g (a ∷ b ∷ []) = []
+letters g (a ∷ b ∷ c ∷ w) = codonLetter g a b c ∷ letters g w
 
 -- ---- stops
 
@@ -113,5 +117,5 @@ hasStopInside l = among (dropStop l) (code "*")
 -- ---- the whole: "drop codon_start minus 1 residues"
 
 -- the letters of every whole codon, a last stop too
-abbrev pub codonsFrom : ℕ → List ℕ → List ℕ
-codonsFrom start coding = letters (drop (start - 1) coding)
+abbrev pub codonsFrom : Code → ℕ → List ℕ → List ℕ
+codonsFrom g start coding = letters g (drop (start - 1) coding)

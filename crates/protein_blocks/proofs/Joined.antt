@@ -10,6 +10,7 @@ use lib.ListN.{getD}
 use borrow.Author.Count.{below-more}
 use borrow.Author.Tests.{ltb-true, ltb-false}
 use Rattle.paper.proofs.Bits.{or-none}
+use Rattle.paper.specs.Translation.{Code}
 use Rattle.protein_code.specs.Stops.{isStop}
 use Rattle.protein_code.specs.Plain.{Plain}
 use Rattle.protein_blocks.specs.Blocks.{Marks, letterFrom, NoStop, AllPlain}
@@ -20,19 +21,19 @@ kept m h e = let f = and-mask m 8 in omega arith
 
 -- ---- stops
 
-module _ (s : List ℕ) (turned : Bool) (at : ℕ) where
-  pub no-stop-start : NoStop s turned at 0
+module _ (gc : Code) (s : List ℕ) (turned : Bool) (at : ℕ) where
+  pub no-stop-start : NoStop gc s turned at 0
   no-stop-start = record { none = λ i h. absurd (omega arith) }
 
   -- the codon from the residue j on was tried, and counts by its mark
-  pub no-stop-more : {any m j : ℕ} {marks : List ℕ} → (any ≡ 0 → NoStop s turned at j) → Marks marks → j < 192 → m < 256
-      → (m ≡ 0 → isStop (letterFrom s turned (at + j)) ≡ false) → bitOr any (bitAnd m (getD marks j 0)) ≡ 0 → NoStop s turned at (j + 1)
+  pub no-stop-more : {any m j : ℕ} {marks : List ℕ} → (any ≡ 0 → NoStop gc s turned at j) → Marks marks → j < 192 → m < 256
+      → (m ≡ 0 → isStop (letterFrom gc s turned (at + j)) ≡ false) → bitOr any (bitAnd m (getD marks j 0)) ≡ 0 → NoStop gc s turned at (j + 1)
   no-stop-more {any} {m} {j} {marks} before right below small test h = record { none = λ i k. side i k (ltb (3 * i) j) refl }
     where
       none : (any ≡ 0) × (bitAnd m (getD marks j 0) ≡ 0)
       none = or-none any (bitAnd m (getD marks j 0)) h
 
-      side : (i : ℕ) → 3 * i < j + 1 → (b : Bool) → ltb (3 * i) j ≡ b → isStop (letterFrom s turned (at + 3 * i)) ≡ false
+      side : (i : ℕ) → 3 * i < j + 1 → (b : Bool) → ltb (3 * i) j ≡ b → isStop (letterFrom gc s turned (at + 3 * i)) ≡ false
       side i k true e = before (none .0) .none i (ltb-true (3 * i) j e)
       side i k false e =
           let here : 3 * i ≡ j = let f = ltb-false (3 * i) j e in omega arith in

@@ -1,10 +1,11 @@
-// Blocks: 64 codons at a time, in the 192 residues from a place on. A test of each residue or codon is a number, and all are joined with no branch,
-// so that each loop is compiled to vector code. It relies on the paper and on the tests of protein_code.
+// Blocks: 64 codons at a time, in the 192 residues from a place on. A test of each residue or codon is a number, and all are joined with
+// no branch, so that each loop is compiled to vector code. It relies on the paper and on the tests of protein_code.
 use protein_code::may_stop;
 use protein_code::no_plain;
 ghost use mathlib.Core.Path.{_≡_};
 ghost use Prim.Native.Nat.{_+_, _≤_};
 ghost use lib.ListN.{length};
+ghost use Rattle.protein_code.specs.Tables.{Coded, codeOf};
 ghost use Rattle.protein_blocks.specs.Blocks.{Marks, NoStop, AllPlain};
 
 // All bits where a codon of a block starts, else none.
@@ -21,18 +22,20 @@ pub fn mark_table() -> [u8; 192]
     MARKS
 }
 
-// 0 only where none of the codons from `at` on is a stop on the strand. Each residue is tried as the start of a codon, and the marks say which
-// are: so the residues are read one after another, as vector code reads them on any machine. Two residues behind the block are read too.
-pub fn stops(r: &[u8], at: usize, turned: bool, marks: &[u8; 192]) -> u8
+// 0 only where none of the codons from `at` on is a stop on the strand. Each residue is tried as the start of a codon, and the marks say
+// which are: so the residues are read one after another, as vector code reads them on any machine. Two residues behind the block are read
+// too.
+pub fn stops(r: &[u8], at: usize, turned: bool, marks: &[u8; 192], code: &[u8; 5128]) -> u8
     requires { ⌜ at + 194 ≤ length (now r) ⌝ }
     requires { ⌜ Marks (now marks) ⌝ }
-    ensures { λ y. ⌜ (y ≡ 0 → NoStop (now (r .entry)) turned at 192) ⌝ }
+    requires { ⌜ Coded (now code) ⌝ }
+    ensures { λ y. ⌜ (y ≡ 0 → NoStop (codeOf (now (code .entry))) (now (r .entry)) turned at 192) ⌝ }
 {
     let mut any: u8 = 0;
     let mut j: usize = 0;
     while j < 192 {
         let p = at + j;
-        any = any | may_stop(r[p], r[p + 1], r[p + 2], turned) & marks[j];
+        any = any | may_stop(r[p], r[p + 1], r[p + 2], turned, code) & marks[j];
         j += 1;
     }
     any

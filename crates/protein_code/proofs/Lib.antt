@@ -1,4 +1,5 @@
 -- The laws behind the proofs.
-pub mod Rules
+pub mod Sets
 pub mod Stopping
 pub mod Plain
+pub mod Codes

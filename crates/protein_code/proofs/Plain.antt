@@ -10,8 +10,10 @@ use lib.Dec.{eqb}
 use lib.ListN.{getD}
 use borrow.Author.Tests.{eqb-true}
 use Rattle.paper.proofs.Tables.{listed, each-same}
+use Rattle.paper.specs.Translation.{Code}
 use Rattle.protein_code.specs.Stops.{flag, letterHere}
-use Rattle.protein_code.specs.Plain.{base, Plain, plainNumber, PlainTable}
+use Rattle.protein_code.specs.Plain.{base, Plain, plainNumber}
+use Rattle.protein_code.specs.Tables.{plainFrom}
 use Rattle.protein_code.proofs.Stopping.{or-flags, flag-none}
 
 -- ---- one of four letters
@@ -51,23 +53,24 @@ behind x y z w =
 abbrev codonOf : (ℕ → ℕ → ℕ → ℕ) → ℕ → ℕ
 codonOf f i = f (base (i / 16)) (base (i / 4 % 4)) (base (i % 4))
 
-module _ (turned : Bool) (t : List ℕ) where
+module _ (g : Code) (t : List ℕ) (turned : Bool) where
   abbrev here : ℕ → ℕ → ℕ → ℕ
-  here x y z = getD t (plainNumber x y z 0) 0
+  here x y z = getD t (plainFrom turned + plainNumber x y z 0) 0
 
-  module _ (same : listed (codonOf here) 0 64 ≡ listed (codonOf (letterHere turned)) 0 64) where
+  -- the test: at its number each of the 64 has its letter
+  abbrev pub PlainTest : Type 0
+  PlainTest = listed (codonOf here) 0 64 ≡ listed (codonOf (letterHere g turned)) 0 64
+
+  module _ (same : PlainTest) where
     at-number : (i a b c : ℕ) → i < 64 → i / 16 ≡ a → i / 4 % 4 ≡ b → i % 4 ≡ c
-        → here (base a) (base b) (base c) ≡ letterHere turned (base a) (base b) (base c)
-    at-number i a b c h e f g = rw (← e, ← f, ← g) (each-same (codonOf here) (codonOf (letterHere turned)) 64 same i h)
+        → here (base a) (base b) (base c) ≡ letterHere g turned (base a) (base b) (base c)
+    at-number i a b c h e f k = rw (← e, ← f, ← k) (each-same (codonOf here) (codonOf (letterHere g turned)) 64 same i h)
 
-    pub plain-right : PlainTable turned t
-    plain-right =
-        record {
-          letter = λ x y z w p q r.
-              let a = p .number in
-              let b = q .number in
-              let c = r .number in
-              let small : (a < 4) × (b < 4) × (c < 4) = (p .small, q .small, r .small) in
-              rw (behind x y z w, p .is, q .is, r .is)
-              (at-number (a * 16 + b * 4 + c) a b c (omega (arith, small)) (omega (arith, small)) (omega (arith, small)) (omega (arith, small)));
-        }
+    pub plain-right : (x y z w : ℕ) → Plain x → Plain y → Plain z → getD t (plainFrom turned + plainNumber x y z w) 0 ≡ letterHere g turned x y z
+    plain-right x y z w p q r =
+        let a = p .number in
+        let b = q .number in
+        let c = r .number in
+        let small : (a < 4) × (b < 4) × (c < 4) = (p .small, q .small, r .small) in
+        rw (behind x y z w, p .is, q .is, r .is)
+        (at-number (a * 16 + b * 4 + c) a b c (omega (arith, small)) (omega (arith, small)) (omega (arith, small)) (omega (arith, small)))

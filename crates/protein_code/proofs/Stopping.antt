@@ -1,18 +1,18 @@
--- Stops told by comparing letters are the paper's, by tests over all bytes and over all three sets; and where no sums of letters are those of a stop there is none.
+-- Stops told by comparing letters: where a table's letters aren't those of three residues they are no stop, by a test over all three sets.
 use Prim.Native.Nat.{ℕ, _+_, _*_, _/_, _%_, _^_, _<_}
-use Prim.Native.Char.{code}
-use native.Mathlib.Nat.{add-comm}
 use native.Mathlib.Omega.{arith}
-use mathlib.Core.Path.{_≡_, refl, sym, _∙_}
-use mathlib.Core.Bool.{Bool, true, false, true≢false, _&&_, _||_, cond}
-use mathlib.Core.List.{List, [], _∷_}
+use mathlib.Core.Path.{_≡_, refl, sym, ap, _∙_}
+use mathlib.Core.Bool.{Bool, true, false, true≢false, _&&_, _||_, not, cond, and-eq-true-iff}
+use mathlib.Core.List.{List}
 use lib.Bits.{bitAnd, bitOr}
 use lib.Dec.{eqb}
-use borrow.Author.Tests.{eqb-true, eqb-false, ne-eqb}
-use Rattle.paper.specs.Translation.{basesOf, complementOf, codonLetter}
+use lib.ListN.{getD}
+use borrow.Author.Tests.{eq-eqb}
+use Rattle.paper.specs.Translation.{Code, complementOf, codonLetter}
 use Rattle.paper.proofs.Tables.{listed, each-same}
-use Rattle.protein_code.specs.Tables.{setBases, setsLetter, answerAt}
-use Rattle.protein_code.specs.Stops.{flag, isStop, stopOf}
+use Rattle.protein_code.specs.Tables.{setsLetter, answerAt, stopsFrom}
+use Rattle.protein_code.specs.Stops.{flag, isStop, letterHere, hasSum, isTold}
+use Rattle.protein_code.proofs.Sets.{setOf, letterOf, set-small, set-bases, set-letter, turned-small, turned-twice}
 
 -- ---- tests as numbers
 
@@ -39,108 +39,63 @@ module _ (p u v w : Bool) where
   none-of e f g h k =
       flag-none (p && (u || v || w)) (sym (rw (e, f, g, h, or-flags u v, or-flags (u || v) w) (and-flags p (u || v || w))) ∙ k)
 
--- ---- sums of letters
+-- ---- a table's letters of stops
 
--- where two letters have another sum than a and b they aren't these, in either order
-module _ (y z a b : ℕ) (h : eqb ((y + z) % 2 ^ 8) ((a + b) % 2 ^ 8) ≡ false) where
-  apart : eqb y a ≡ true → eqb z b ≡ false
-  apart e = ne-eqb z b (λ f. eqb-false ((y + z) % 2 ^ 8) ((a + b) % 2 ^ 8) h (rw (eqb-true y a e, f)))
+module _ (g : Code) (t : List ℕ) (turned : Bool) where
+  abbrev told : ℕ → ℕ → ℕ → Bool
+  told = isTold turned (λ (i : ℕ). getD t (stopsFrom turned + i) 0)
 
-  apart-back : eqb z a ≡ true → eqb y b ≡ false
-  apart-back e = ne-eqb y b (λ f. eqb-false ((y + z) % 2 ^ 8) ((a + b) % 2 ^ 8) h (rw (eqb-true z a e, f, add-comm b a)))
+  -- the letters of three sets, as they stand on the strand, are told
+  abbrev setsTold : Bool → ℕ → ℕ → ℕ → Bool
+  setsTold true a b c = told (complementOf (letterOf c)) (complementOf (letterOf b)) (complementOf (letterOf a))
+  setsTold false a b c = told (letterOf a) (letterOf b) (letterOf c)
 
-never : (b : Bool) → b && false ≡ false
-never true = refl
-never false = refl
+  -- where three sets give a stop each has a base, and their letters are told
+  abbrev stopTold : ℕ → ℕ → ℕ → Bool
+  stopTold a b c = cond (isStop (setsLetter g a b c)) (not (eqb a 0) && (not (eqb b 0) && (not (eqb c 0) && setsTold turned a b c))) true
 
-neither : (u v w : Bool) → u || v || w ≡ false → (u ≡ false) × (v ≡ false) × (w ≡ false)
-neither false false false h = (refl, refl, refl)
-neither false false true h = absurd (true≢false h)
-neither false true w h = absurd (true≢false h)
-neither true v w h = absurd (true≢false h)
+  -- the test: it holds of all three sets
+  abbrev pub StopTest : Type 0
+  StopTest = listed (λ (i : ℕ). stopTold (i / 256) (i / 16 % 16) (i % 16)) 0 4096 ≡ listed (λ (i : ℕ). true) 0 4096
 
--- the tests of `stopOf` behind its first letter
-last-none : (q₁ q₂ q₃ s₁ s₂ s₃ : Bool) → (q₁ ≡ true → (s₁ ≡ false) × (s₂ ≡ false) × (s₃ ≡ false)) → (s₁ ≡ true → (q₂ ≡ false) × (q₃ ≡ false))
-    → q₁ && (s₁ || s₂ || s₃) || (q₂ || q₃) && s₁ ≡ false
-last-none true q₂ q₃ s₁ s₂ s₃ f g = let h = f refl in rw (h .0, h .1, h .2) (never (q₂ || q₃))
-last-none false q₂ q₃ true s₂ s₃ f g = let h = g refl in rw (h .0, h .1)
-last-none false q₂ q₃ false s₂ s₃ f g = never (q₂ || q₃)
+  module _ (test : StopTest) where
+    at-index : (n a b c : ℕ) → n < 4096 → n / 256 ≡ a → n / 16 % 16 ≡ b → n % 16 ≡ c → stopTold a b c ≡ true
+    at-index n a b c h e f k =
+        rw (← e, ← f, ← k) (each-same (λ (i : ℕ). stopTold (i / 256) (i / 16 % 16) (i % 16)) (λ (i : ℕ). true) 4096 test n h)
 
--- the sum of two letters is that of a and a, of a and g, or of a and r
-abbrev hasSum : (a g r y z : ℕ) → Bool
-hasSum a g r y z = eqb ((y + z) % 2 ^ 8) ((a + a) % 2 ^ 8) || eqb ((y + z) % 2 ^ 8) ((a + g) % 2 ^ 8) || eqb ((y + z) % 2 ^ 8) ((a + r) % 2 ^ 8)
+    at-sets : (a b c : ℕ) → a < 16 → b < 16 → c < 16 → stopTold a b c ≡ true
+    at-sets a b c h i j = at-index (a * 256 + b * 16 + c) a b c (omega arith) (omega arith) (omega arith) (omega arith)
 
-pub sums-none : (t a g r x y z : ℕ) → eqb x t && hasSum a g r y z ≡ false → stopOf t a g r x y z ≡ false
-sums-none t a g r x y z = side (eqb x t)
-  where
-    side : (p : Bool) → p && hasSum a g r y z ≡ false → p && (eqb y a && (eqb z a || eqb z g || eqb z r) || (eqb y g || eqb y r) && eqb z a) ≡ false
-    side false h = refl
-    side true h =
-        let n = neither _ _ _ h in
-        last-none (eqb y a) (eqb y g) (eqb y r) (eqb z a) (eqb z g) (eqb z r)
-        (λ e. (apart y z a a (n .0) e, apart y z a g (n .1) e, apart y z a r (n .2) e))
-        (λ e. (apart-back y z a g (n .1) e, apart-back y z a r (n .2) e))
+    -- a stop's letters are told, each from its set
+    module _ (x y z : ℕ) (h : x < 256) (i : y < 256) (j : z < 256) where
+      letters-told : isStop (codonLetter g x y z) ≡ true
+          → (letterOf (setOf x) ≡ x) × (letterOf (setOf y) ≡ y) × (letterOf (setOf z) ≡ z) × (setsTold turned (setOf x) (setOf y) (setOf z) ≡ true)
+      letters-told s =
+          let stop : isStop (setsLetter g (setOf x) (setOf y) (setOf z)) ≡ true = rw (set-bases x h, set-bases y i, set-bases z j) s in
+          let all = rw stop at (at-sets (setOf x) (setOf y) (setOf z) (set-small x h) (set-small y i) (set-small z j)) in
+          let a = and-eq-true-iff _ _ .0 all in
+          let b = and-eq-true-iff _ _ .0 (a .1) in
+          let c = and-eq-true-iff _ _ .0 (b .1) in
+          (set-letter x h (based x (a .0)), set-letter y i (based y (b .0)), set-letter z j (based z (c .0)), c .1)
+        where
+          based : (b : ℕ) → not (eqb (setOf b) 0) ≡ true → setOf b ≡ 0 → ⊥
+          based b e z = true≢false (sym e ∙ ap not (eq-eqb (setOf b) 0 z))
 
--- ---- the set of a letter
-
-abbrev bitsOf : List ℕ → ℕ
-bitsOf [] = 0
-bitsOf (x ∷ l) = cond (eqb x (code "a")) 1 (cond (eqb x (code "c")) 2 (cond (eqb x (code "g")) 4 8)) + bitsOf l
-
-abbrev setOf : ℕ → ℕ
-setOf b = bitsOf (basesOf b)
-
-module _ (b : ℕ) (h : b < 256) where
-  set-small : setOf b < 16
-  set-small = omega (arith, each-same (λ (b : ℕ). setOf b / 16) (λ (b : ℕ). 0) 256 refl b h)
-
-  set-bases : setBases (setOf b) ≡ basesOf b
-  set-bases = each-same (λ (b : ℕ). setBases (setOf b)) basesOf 256 refl b h
-
-  -- where a set is one of these the letter is one of those
-  set-named : (v c : ℕ) → listed (λ (b : ℕ). eqb (setOf b) v) 0 256 ≡ listed (λ (b : ℕ). eqb b c) 0 256 → eqb (setOf b) v ≡ eqb b c
-  set-named v c same = each-same (λ (b : ℕ). eqb (setOf b) v) (λ (b : ℕ). eqb b c) 256 same b h
-
-  turned-small : complementOf b < 256
-  turned-small = omega (arith, each-same (λ (b : ℕ). complementOf b / 256) (λ (b : ℕ). 0) 256 refl b h)
-
-  turned-named : (c d : ℕ) → listed (λ (b : ℕ). eqb (complementOf b) c) 0 256 ≡ listed (λ (b : ℕ). eqb b d) 0 256 → eqb (complementOf b) c ≡ eqb b d
-  turned-named c d same = each-same (λ (b : ℕ). eqb (complementOf b) c) (λ (b : ℕ). eqb b d) 256 same b h
-
--- ---- stops
-
--- at the index n of three sets
-index-stop : (n x y z : ℕ) → n < 4096 → n / 256 ≡ x → n / 16 % 16 ≡ y → n % 16 ≡ z → isStop (setsLetter x y z) ≡ stopOf 8 1 4 5 x y z
-index-stop n x y z h e f g =
-    rw (← e, ← f, ← g) (each-same (λ (i : ℕ). isStop (answerAt i)) (λ (i : ℕ). stopOf 8 1 4 5 (i / 256) (i / 16 % 16) (i % 16)) 4096 refl n h)
-
-sets-stop : (x y z : ℕ) → x < 16 → y < 16 → z < 16 → isStop (setsLetter x y z) ≡ stopOf 8 1 4 5 x y z
-sets-stop x y z h i j = index-stop (x * 256 + y * 16 + z) x y z (omega arith) (omega arith) (omega arith) (omega arith)
-
-pub stops-ahead : (x y z : ℕ) → x < 256 → y < 256 → z < 256 → isStop (codonLetter x y z) ≡ stopOf (code "t") (code "a") (code "g") (code "r") x y z
-stops-ahead x y z h i j =
-    rw (sym (set-bases x h), sym (set-bases y i), sym (set-bases z j))
-    (sets-stop (setOf x) (setOf y) (setOf z) (set-small x h) (set-small y i) (set-small z j)
-    ∙ rw (
-      set-named x h 8 (code "t") refl,
-      set-named y i 1 (code "a") refl,
-      set-named y i 4 (code "g") refl,
-      set-named y i 5 (code "r") refl,
-      set-named z j 1 (code "a") refl,
-      set-named z j 4 (code "g") refl,
-      set-named z j 5 (code "r") refl,
-    ))
-
-pub stops-behind : (x y z : ℕ) → x < 256 → y < 256 → z < 256
-    → isStop (codonLetter (complementOf x) (complementOf y) (complementOf z)) ≡ stopOf (code "a") (code "t") (code "c") (code "y") x y z
-stops-behind x y z h i j =
-    stops-ahead (complementOf x) (complementOf y) (complementOf z) (turned-small x h) (turned-small y i) (turned-small z j)
-    ∙ rw (
-      turned-named x h (code "t") (code "a") refl,
-      turned-named y i (code "a") (code "t") refl,
-      turned-named y i (code "g") (code "c") refl,
-      turned-named y i (code "r") (code "y") refl,
-      turned-named z j (code "a") (code "t") refl,
-      turned-named z j (code "g") (code "c") refl,
-      turned-named z j (code "r") (code "y") refl,
-    )
+-- what the sets' letters tell, told of the residues
+module _ (g : Code) (t : List ℕ) where
+  pub stops-right : (turned : Bool) → StopTest g t turned → (x y z : ℕ) → x < 256 → y < 256 → z < 256
+      → isTold turned (λ (i : ℕ). getD t (stopsFrom turned + i) 0) x y z ≡ false → isStop (letterHere g turned x y z) ≡ false
+  stops-right true test x y z h i j n = by (isStop (letterHere g true x y z)) refl
+    where
+      by : (s : Bool) → isStop (letterHere g true x y z) ≡ s → isStop (letterHere g true x y z) ≡ false
+      by false e = e
+      by true e =
+          let d = letters-told g t true test (complementOf z) (complementOf y) (complementOf x) (turned-small z j) (turned-small y i) (turned-small x h) e in
+          absurd (true≢false (sym (rw (d .0, d .1, d .2, turned-twice x h, turned-twice y i, turned-twice z j) at (d .3)) ∙ n))
+  stops-right false test x y z h i j n = by (isStop (letterHere g false x y z)) refl
+    where
+      by : (s : Bool) → isStop (letterHere g false x y z) ≡ s → isStop (letterHere g false x y z) ≡ false
+      by false e = e
+      by true e =
+          let d = letters-told g t false test x y z h i j e in
+          absurd (true≢false (sym (rw (d .0, d .1, d .2) at (d .3)) ∙ n))

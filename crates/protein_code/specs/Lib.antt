@@ -1,4 +1,4 @@
 -- What the contracts cite.
-pub mod Tables
 pub mod Stops
 pub mod Plain
+pub mod Tables

@@ -1,11 +1,8 @@
--- Plain codons: a number for each, and what a table of their letters holds.
+-- Plain codons: a number for each.
 use Prim.Native.Nat.{ℕ, _+_, _*_, _/_, _%_, _<_}
 use mathlib.Core.Path.{_≡_}
-use mathlib.Core.Bool.{Bool}
-use mathlib.Core.List.{List}
 use lib.ListN.{getD}
 use Rattle.paper.specs.Bytes.{bytes}
-use Rattle.protein_code.specs.Stops.{letterHere}
 
 -- the plain bases, by number
 abbrev pub base : ℕ → ℕ
@@ -19,7 +16,3 @@ pub record Plain (b : ℕ) : Type 0 where
 -- bits 24 to 31 of a product: another number for each plain codon, whatever w is
 abbrev pub plainNumber : (x y z w : ℕ) → ℕ
 plainNumber x y z w = (x + 256 * y + 65536 * (z + 256 * w)) * 4002048 / 16777216 % 256
-
--- at each plain codon's number stands its letter on a strand
-pub record PlainTable (turned : Bool) (t : List ℕ) : Type 0 where
-  pub letter : (x y z w : ℕ) → Plain x → Plain y → Plain z → getD t (plainNumber x y z w) 0 ≡ letterHere turned x y z

@@ -1,12 +1,18 @@
--- What the lent tables hold: the base set of each letter, and "the 4,096 answers for three four-bit base sets".
-use Prim.Native.Nat.{ℕ, _/_, _%_, _<_}
+-- What the lent table of a genetic code holds: the base set of each letter, "the 4,096 answers for three four-bit base sets", the letters
+-- of plain codons, and the letters of its stops.
+use Prim.Native.Nat.{ℕ, _+_, _*_, _/_, _%_, _<_}
 use mathlib.Core.Path.{_≡_}
-use mathlib.Core.Bool.{cond}
-use mathlib.Core.List.{List, [], _++_}
+use mathlib.Core.Bool.{Bool, true, false, cond}
+use mathlib.Core.List.{List, [], _∷_, _++_, map}
 use lib.ListN.{getD}
 use lib.Dec.{eqb}
-use Rattle.paper.specs.Bytes.{bytes}
-use Rattle.paper.specs.Translation.{basesOf, complementOf, plainLetters, shared}
+use Rattle.paper.specs.Bytes.{bytes, spell}
+use Rattle.paper.specs.Lists.{gather}
+use Rattle.paper.specs.Translation.{Code, basesOf, complementOf, plainLetters, shared}
+use Rattle.protein_code.specs.Stops.{isStop, letterHere, isTold}
+use Rattle.protein_code.specs.Plain.{Plain, plainNumber}
+
+-- ---- base sets
 
 -- a base, where its bit is in the set x
 abbrev pub withBit : ℕ → ℕ → List ℕ → List ℕ
@@ -17,35 +23,65 @@ abbrev pub setBases : ℕ → List ℕ
 setBases x = withBit 1 x (bytes "a") ++ withBit 2 x (bytes "c") ++ withBit 4 x (bytes "g") ++ withBit 8 x (bytes "t")
 
 -- "the letter all its plain codons share, else `X`", of three sets; "an empty set gives `X`"
-abbrev pub setsLetter : ℕ → ℕ → ℕ → ℕ
-setsLetter x y z = shared (plainLetters (setBases x) (setBases y) (setBases z))
-
--- every entry of a table of 256 is a four-bit set
-abbrev pub FourBits : List ℕ → Type 0
-FourBits t = (b : ℕ) → b < 256 → getD t b 0 < 16
-
--- at each byte b stands the set of the letter f b
-pub record SetsOf (f : ℕ → ℕ) (t : List ℕ) : Type 0 where
-  pub small : FourBits t
-  pub bases : (b : ℕ) → b < 256 → setBases (getD t b 0) ≡ basesOf (f b)
-
--- the sets of the letters themselves
-abbrev pub SetTable : List ℕ → Type 0
-SetTable = SetsOf (λ (b : ℕ). b)
-
--- the sets of their complements, for "complemented spans"
-abbrev pub TurnTable : List ℕ → Type 0
-TurnTable = SetsOf complementOf
+abbrev pub setsLetter : Code → ℕ → ℕ → ℕ → ℕ
+setsLetter g x y z = shared (plainLetters g (setBases x) (setBases y) (setBases z))
 
 -- the answer at an index, which has the first set slowest
-abbrev pub answerAt : ℕ → ℕ
-answerAt i = setsLetter (i / 256) (i / 16 % 16) (i % 16)
+abbrev pub answerAt : Code → ℕ → ℕ
+answerAt g i = setsLetter g (i / 256) (i / 16 % 16) (i % 16)
 
--- "the 4,096 answers"
-pub record LetterTable (t : List ℕ) : Type 0 where
-  pub answer : (i : ℕ) → i < 4096 → getD t i 0 ≡ answerAt i
+-- a residue as it is read on a strand
+abbrev pub onStrand : Bool → ℕ → ℕ
+onStrand true b = complementOf b
+onStrand false b = b
 
--- r is the set at the byte b of a table t, whatever letters t is of
-pub record SetAt (t : List ℕ) (b r : ℕ) : Type 0 where
+-- r is the base set of the residue b on a strand
+pub record SetAt (turned : Bool) (b r : ℕ) : Type 0 where
   pub small : r < 16
-  pub bases : (f : ℕ → ℕ) → SetsOf f t → setBases r ≡ basesOf (f b)
+  pub bases : setBases r ≡ basesOf (onStrand turned b)
+
+-- ---- the table
+
+-- the set of a residue on a strand
+abbrev pub setIn : List ℕ → Bool → ℕ → ℕ
+setIn t true b = getD t (256 + b) 0
+setIn t false b = getD t b 0
+
+-- where the letters of a strand's plain codons start, and its stops; the answers start at 1024
+abbrev pub plainFrom : Bool → ℕ
+plainFrom true = 768
+plainFrom false = 512
+
+abbrev pub stopsFrom : Bool → ℕ
+stopsFrom true = 5124
+stopsFrom false = 5120
+
+-- the letters of a code are written as they are read
+abbrev pub SelfSpelt : Code → Type 0
+SelfSpelt g = map spell g ≡ map (λ (b : ℕ). b ∷ []) g
+
+-- t is the table of the code g
+pub record CodeTable (g : Code) (t : List ℕ) : Type 0 where
+  pub spelt : SelfSpelt g
+  pub sets : (turned : Bool) (b : ℕ) → b < 256 → SetAt turned b (setIn t turned b)
+  pub answer : (i : ℕ) → i < 4096 → getD t (1024 + i) 0 ≡ answerAt g i
+  pub plain : (turned : Bool) (x y z w : ℕ) → Plain x → Plain y → Plain z
+      → getD t (plainFrom turned + plainNumber x y z w) 0 ≡ letterHere g turned x y z
+  pub stops : (turned : Bool) (x y z : ℕ) → x < 256 → y < 256 → z < 256
+      → isTold turned (λ (i : ℕ). getD t (stopsFrom turned + i) 0) x y z ≡ false → isStop (letterHere g turned x y z) ≡ false
+
+-- ---- the code of a table
+
+-- the places of the plain codons, "for bases in order t, c, a, g, first base slowest"
+abbrev pub plainPlaces : List ℕ
+plainPlaces =
+    let bases : List ℕ = 8 ∷ 2 ∷ 1 ∷ 4 ∷ [] in
+    gather (λ (a : ℕ). gather (λ (b : ℕ). map (λ (c : ℕ). 1024 + (a * 256 + b * 16 + c)) bases) bases) bases
+
+-- a table has the letters of its code
+unfoldable pub codeOf : List ℕ → Code
+codeOf t = map (λ (i : ℕ). getD t i 0) plainPlaces
+
+-- t is the table of some code
+abbrev pub Coded : List ℕ → Type 0
+Coded t = CodeTable (codeOf t) t

@@ -6,17 +6,19 @@ use mathlib.Core.Bool.{Bool, true, false}
 use mathlib.Core.List.{List}
 use lib.ListN.{length, getD}
 use borrow.Author.Tests.{eqb-false}
-use Rattle.protein_code.specs.Plain.{Plain, plainNumber, PlainTable}
+use Rattle.paper.specs.Translation.{Code}
+use Rattle.protein_code.specs.Plain.{Plain, plainNumber}
+use Rattle.protein_code.specs.Tables.{plainFrom, CodeTable}
 use Rattle.protein_blocks.specs.Blocks.{letterFrom, NoStop, AllPlain}
 use Rattle.protein_codons.specs.Reading.{spanLetters, placeOf, blockOf, PlainBlock}
 use Rattle.protein_codons.specs.Letters.{NoStops}
 use Rattle.protein_codons.proofs.Readings.{letter-stands}
 
 -- the letter of plain residues, by the table of the strand
-pub plain-here : (s : List ℕ) (turned : Bool) (at w : ℕ) {t : List ℕ} {p : ℕ} → at ≡ p → AllPlain s p 3 → PlainTable turned t
-    → getD t (plainNumber (getD s at 0) (getD s (at + 1) 0) (getD s (at + 2) 0) w) 0 ≡ letterFrom s turned at
-plain-here s turned at w {t} {p} e plain right =
-    right .letter _ _ _ w (here at 0 (omega arith) (omega arith)) (here (at + 1) 1 (omega arith) (omega arith))
+pub plain-here : (gc : Code) (s : List ℕ) (turned : Bool) (at w : ℕ) {t : List ℕ} {p : ℕ} → at ≡ p → AllPlain s p 3 → CodeTable gc t
+    → getD t (plainFrom turned + plainNumber (getD s at 0) (getD s (at + 1) 0) (getD s (at + 2) 0) w) 0 ≡ letterFrom gc s turned at
+plain-here gc s turned at w {t} {p} e plain right =
+    right .plain turned _ _ _ w (here at 0 (omega arith) (omega arith)) (here (at + 1) 1 (omega arith) (omega arith))
     (here (at + 2) 2 (omega arith) (omega arith))
   where
     here : (i j : ℕ) → j < 3 → i ≡ p + j → Plain (getD s i 0)
@@ -33,12 +35,12 @@ module _ (s : List ℕ) (low high : ℕ) (turned : Bool) (k : ℕ) (h : low + 3 
   nth true m a b = record { i = k + 63 - m; below = omega arith; is = omega arith }
   nth false m a b = record { i = m - k; below = omega arith; is = omega arith }
 
-  pub block-none : high ≤ length s → NoStop s turned (blockOf low high turned k) 192 → NoStops (spanLetters s low high turned) k (k + 64)
-  block-none inside g =
+  pub block-none : (gc : Code) → high ≤ length s → NoStop gc s turned (blockOf low high turned k) 192 → NoStops (spanLetters gc s low high turned) k (k + 64)
+  block-none gc inside g =
       record {
         none = λ m b a e.
             let n = nth turned m a b in
-            let letter = ap (letterFrom s turned) (sym (n .is)) ∙ letter-stands s low high turned m (omega arith) inside in
+            let letter = ap (letterFrom gc s turned) (sym (n .is)) ∙ letter-stands gc s low high turned m (omega arith) inside in
             eqb-false _ _ (g .none (n .i) (let below = n .below in omega arith)) (letter ∙ e);
       }
 

@@ -9,7 +9,7 @@ use lib.ListN.{length, take, drop, getD}
 use lib.Seq.{slice, slice-empty, take-suc, drop-drop, drop-nil}
 use Rattle.paper.specs.Locations.{Location}
 use Rattle.paper.specs.Locations as paper
-use Rattle.paper.specs.Translation.{basesOf, complementOf, codingText, codonLetter, letters}
+use Rattle.paper.specs.Translation.{Code, basesOf, complementOf, codingText, codonLetter, letters}
 use Rattle.protein_code.specs.Tables.{setBases, setsLetter}
 use Rattle.protein_blocks.specs.Blocks.{letterFrom}
 use Rattle.location_spans.specs.Walking.{Left, stepsLeft, Starts, Steps}
@@ -162,43 +162,43 @@ module _ (x : Reading) (k : ℕ) (h : x .low + 3 * k ≤ x .high) where
 span-fits : (s : List ℕ) (low high : ℕ) (turned : Bool) (k : ℕ) → low + 3 * k ≤ high → high ≤ length s → 3 * k ≤ length (strand turned (slice low high s))
 span-fits s low high turned k h i = omega (arith, strand-length s turned low high i)
 
-pub span-within : (s : List ℕ) (low high : ℕ) (turned : Bool) (k : ℕ) → low + 3 * k ≤ high → high ≤ length s → k ≤ length (spanLetters s low high turned)
+pub span-within : (gc : Code) (s : List ℕ) (low high : ℕ) (turned : Bool) (k : ℕ) → low + 3 * k ≤ high → high ≤ length s → k ≤ length (spanLetters gc s low high turned)
 unfolding spanLetters
-span-within s low high turned k h i = letters-within (strand turned (slice low high s)) k (span-fits s low high turned k h i)
+span-within gc s low high turned k h i = letters-within gc (strand turned (slice low high s)) k (span-fits s low high turned k h i)
 
-module _ (s : List ℕ) (low high k : ℕ) (h : low + 3 * k + 3 ≤ high) (i : high ≤ length s) where
+module _ (gc : Code) (s : List ℕ) (low high k : ℕ) (h : low + 3 * k + 3 ≤ high) (i : high ≤ length s) where
   letter-ahead : {turned : Bool} → turned ≡ false
-      → codonLetter (getD s (low + 3 * k) 0) (getD s (low + 3 * k + 1) 0) (getD s (low + 3 * k + 2) 0) ≡ getD (spanLetters s low high turned) k 0
+      → codonLetter gc (getD s (low + 3 * k) 0) (getD s (low + 3 * k + 1) 0) (getD s (low + 3 * k + 2) 0) ≡ getD (spanLetters gc s low high turned) k 0
   unfolding spanLetters
   letter-ahead t =
       rw t
       (sym
-      (letters-at (slice low high s) k (span-fits s low high false k (omega arith) i)
+      (letters-at gc (slice low high s) k (span-fits s low high false k (omega arith) i)
       (sym (drop-ahead s low high (3 * k)) ∙ three-ahead s (low + 3 * k) high (omega arith) i)))
 
   letter-behind : {turned : Bool} → turned ≡ true
-      → codonLetter (complementOf (getD s (high - 3 * k - 1) 0)) (complementOf (getD s (high - 3 * k - 2) 0)) (complementOf (getD s (high - 3 * k - 3) 0))
-      ≡ getD (spanLetters s low high turned) k 0
+      → codonLetter gc (complementOf (getD s (high - 3 * k - 1) 0)) (complementOf (getD s (high - 3 * k - 2) 0)) (complementOf (getD s (high - 3 * k - 3) 0))
+      ≡ getD (spanLetters gc s low high turned) k 0
   unfolding spanLetters
   letter-behind t =
       rw t
       (sym
-      (letters-at (reverse (map complementOf (slice low high s))) k (span-fits s low high true k (omega arith) i)
+      (letters-at gc (reverse (map complementOf (slice low high s))) k (span-fits s low high true k (omega arith) i)
       (sym (drop-behind s low high (3 * k) (omega arith) i) ∙ three-behind s low (high - 3 * k) (omega arith) (omega arith))))
 
 -- the codon that stands there on either strand
-pub letter-stands : (s : List ℕ) (low high : ℕ) (turned : Bool) (k : ℕ) → low + 3 * k + 3 ≤ high → high ≤ length s
-    → letterFrom s turned (placeOf low high turned k) ≡ getD (spanLetters s low high turned) k 0
-letter-stands s low high false k h i = letter-ahead s low high k h i refl
-letter-stands s low high true k h i =
+pub letter-stands : (gc : Code) (s : List ℕ) (low high : ℕ) (turned : Bool) (k : ℕ) → low + 3 * k + 3 ≤ high → high ≤ length s
+    → letterFrom gc s turned (placeOf low high turned k) ≡ getD (spanLetters gc s low high turned) k 0
+letter-stands gc s low high false k h i = letter-ahead gc s low high k h i refl
+letter-stands gc s low high true k h i =
     let first : high - (3 * k + 3) + 2 ≡ high - 3 * k - 1 = omega arith in
     let second : high - (3 * k + 3) + 1 ≡ high - 3 * k - 2 = omega arith in
     let third : high - (3 * k + 3) ≡ high - 3 * k - 3 = omega arith in
-    rw (first, second, third) (letter-behind s low high k h i refl)
+    rw (first, second, third) (letter-behind gc s low high k h i refl)
 
-pub at-place : (s : List ℕ) (low high : ℕ) (turned : Bool) (k : ℕ) {at : ℕ} → at ≡ placeOf low high turned k → (t : Bool) → turned ≡ t
-    → low + 3 * k + 3 ≤ high → high ≤ length s → letterFrom s t at ≡ getD (spanLetters s low high turned) k 0
-at-place s low high turned k e t f h i = rw (e, ← f) (letter-stands s low high turned k h i)
+pub at-place : (gc : Code) (s : List ℕ) (low high : ℕ) (turned : Bool) (k : ℕ) {at : ℕ} → at ≡ placeOf low high turned k → (t : Bool) → turned ≡ t
+    → low + 3 * k + 3 ≤ high → high ≤ length s → letterFrom gc s t at ≡ getD (spanLetters gc s low high turned) k 0
+at-place gc s low high turned k e t f h i = rw (e, ← f) (letter-stands gc s low high turned k h i)
 
 -- k codons of it passed
 module _ (s : List ℕ) {x y : Reading} {k : ℕ} (r : Ready (length s) x) (o : Onward x k y) where
@@ -206,9 +206,9 @@ module _ (s : List ℕ) {x y : Reading} {k : ℕ} (r : Ready (length s) x) (o : 
   unfolding residuesLeft
   run-falls m = rw (o .walk) (omega (arith, o .size))
 
-  pub run-gives : {loc : List ℕ} {L : ℕ} → Gives s loc L x (take k (spanLetters s (x .low) (x .high) (x .turned))) y
+  pub run-gives : (gc : Code) {loc : List ℕ} {L : ℕ} → Gives gc s loc L x (take k (spanLetters gc s (x .low) (x .high) (x .turned))) y
   unfolding spanLetters
-  run-gives {loc} {L} =
+  run-gives gc {loc} {L} =
       record {
         ready = record { order = o .order; inside = omega (arith, o .inside, r .inside) };
         gives = λ text h.
@@ -217,9 +217,9 @@ module _ (s : List ℕ) {x y : Reading} {k : ℕ} (r : Ready (length s) x) (o : 
             let n = span-fits s (x .low) (x .high) (x .turned) k (omega (arith, o .size, o .order)) (r .inside) in
             record {
               others = current s y ++ c;
-              is = ap letters (h .is)
-                  ∙ letters-split w k n c
-                  ∙ ap (λ (l : List ℕ). take k (letters w) ++ letters (l ++ c)) (sym (o .is s (r .inside)));
+              is = ap (letters gc) (h .is)
+                  ∙ letters-split gc w k n c
+                  ∙ ap (λ (l : List ℕ). take k (letters gc w) ++ letters gc (l ++ c)) (sym (o .is s (r .inside)));
               left = left-on h (o .walk);
             };
       }
@@ -263,18 +263,18 @@ module _ {s loc : List ℕ} {L : ℕ} where
       }
 
   module _ {x x1 : Reading} {a : ℕ} (g1 : BaseIs s loc L x a x1) where
-    pub one-left : ((text : List ℕ) → TextLeft s loc L x1 text → text ≡ []) → (text : List ℕ) → TextLeft s loc L x text → letters text ≡ []
-    one-left h text t = let u = g1 .gives text t in ap letters (u .is ∙ ap (λ (l : List ℕ). u .first ∷ l) (h (u .others) (u .left)))
+    pub one-left : (gc : Code) → ((text : List ℕ) → TextLeft s loc L x1 text → text ≡ []) → (text : List ℕ) → TextLeft s loc L x text → letters gc text ≡ []
+    one-left gc h text t = let u = g1 .gives text t in ap (letters gc) (u .is ∙ ap (λ (l : List ℕ). u .first ∷ l) (h (u .others) (u .left)))
 
     module _ {x2 : Reading} {b : ℕ} (g2 : BaseIs s loc L x1 b x2) where
-      pub two-left : ((text : List ℕ) → TextLeft s loc L x2 text → text ≡ []) → (text : List ℕ) → TextLeft s loc L x text → letters text ≡ []
-      two-left h text t =
+      pub two-left : (gc : Code) → ((text : List ℕ) → TextLeft s loc L x2 text → text ≡ []) → (text : List ℕ) → TextLeft s loc L x text → letters gc text ≡ []
+      two-left gc h text t =
           let u = g1 .gives text t in
           let v = g2 .gives (u .others) (u .left) in
-          ap letters (u .is ∙ ap (λ (l : List ℕ). u .first ∷ l) (v .is ∙ ap (λ (l : List ℕ). v .first ∷ l) (h (v .others) (v .left))))
+          ap (letters gc) (u .is ∙ ap (λ (l : List ℕ). u .first ∷ l) (v .is ∙ ap (λ (l : List ℕ). v .first ∷ l) (h (v .others) (v .left))))
 
-      pub three-bases : {x3 : Reading} {c r : ℕ} → BaseIs s loc L x2 c x3 → r ≡ setsLetter a b c → LetterIs s loc L x r x3
-      three-bases {x3} {c} g3 e =
+      pub three-bases : {gc : Code} {x3 : Reading} {c r : ℕ} → BaseIs s loc L x2 c x3 → r ≡ setsLetter gc a b c → LetterIs gc s loc L x r x3
+      three-bases {gc} {x3} {c} g3 e =
           record {
             falls = omega (arith, g1 .falls, g2 .falls, g3 .falls);
             one = record {
@@ -285,20 +285,20 @@ module _ {s loc : List ℕ} {L : ℕ} where
                   let w = g3 .gives (v .others) (v .left) in
                   record {
                     others = w .others;
-                    is = ap letters (u .is ∙ ap (λ (l : List ℕ). u .first ∷ l) (v .is ∙ ap (λ (l : List ℕ). v .first ∷ l) (w .is)))
-                        ∙ ap (λ (n : ℕ). n ∷ letters (w .others)) (rw (← u .set, ← v .set, ← w .set) (sym e));
+                    is = ap (letters gc) (u .is ∙ ap (λ (l : List ℕ). u .first ∷ l) (v .is ∙ ap (λ (l : List ℕ). v .first ∷ l) (w .is)))
+                        ∙ ap (λ (n : ℕ). n ∷ letters gc (w .others)) (rw (← u .set, ← v .set, ← w .set) (sym e));
                     left = w .left;
                   };
             };
           }
 
 -- one codon of the current span
-pub next-letter : {s loc : List ℕ} {L : ℕ} {x y : Reading} {c : ℕ} → Ready (length s) x → Onward x 1 y
-    → c ≡ getD (spanLetters s (x .low) (x .high) (x .turned)) 0 0 → LetterIs s loc L x c y
-next-letter {s} {loc} {L} {x} {y} {c} r o e =
-    let l = spanLetters s (x .low) (x .high) (x .turned) in
+pub next-letter : (gc : Code) {s loc : List ℕ} {L : ℕ} {x y : Reading} {c : ℕ} → Ready (length s) x → Onward x 1 y
+    → c ≡ getD (spanLetters gc s (x .low) (x .high) (x .turned)) 0 0 → LetterIs gc s loc L x c y
+next-letter gc {s} {loc} {L} {x} {y} {c} r o e =
+    let l = spanLetters gc s (x .low) (x .high) (x .turned) in
     record {
-      one = subst (λ (d : List ℕ). Gives s loc L x d y) (take-suc l 0 0 (span-within s (x .low) (x .high) (x .turned) 1 (omega (arith, o .size)) (r .inside)) ∙ ap (λ (a : ℕ). a ∷ []) (sym e)) (run-gives s r o);
+      one = subst (λ (d : List ℕ). Gives gc s loc L x d y) (take-suc l 0 0 (span-within gc s (x .low) (x .high) (x .turned) 1 (omega (arith, o .size)) (r .inside)) ∙ ap (λ (a : ℕ). a ∷ []) (sym e)) (run-gives s r o gc);
       falls = omega (arith, run-falls s r o (length loc));
     }
 
@@ -307,8 +307,8 @@ next-letter {s} {loc} {L} {x} {y} {c} r o e =
 pub bases-are : {s loc : List ℕ} {L : ℕ} {x : Reading} {r q : Base} → Bases s loc L x r → r ≡ q → BaseSays s loc L x q
 bases-are {s} {loc} {L} {x} h e = subst (BaseSays s loc L x) e (h .says)
 
-pub letters-are : {s loc : List ℕ} {L : ℕ} {x : Reading} {r q : Letter} → Letters s loc L x r → r ≡ q → LetterSays s loc L x q
-letters-are {s} {loc} {L} {x} h e = subst (LetterSays s loc L x) e (h .says)
+pub letters-are : {gc : Code} {s loc : List ℕ} {L : ℕ} {x : Reading} {r q : Letter} → Letters gc s loc L x r → r ≡ q → LetterSays gc s loc L x q
+letters-are {gc} {s} {loc} {L} {x} h e = subst (LetterSays gc s loc L x) e (h .says)
 
 -- ---- the start
 
@@ -334,8 +334,8 @@ module _ (s loc : List ℕ) (L : ℕ) (w : Walk) (st : Starts loc w) where
 -- ---- whether a letter is left
 
 module _ {s loc : List ℕ} {L : ℕ} {x : Reading} where
-  pub no-letter : ((text : List ℕ) → TextLeft s loc L x text → letters text ≡ []) → Ends s loc L x true
+  pub no-letter : {gc : Code} → ((text : List ℕ) → TextLeft s loc L x text → letters gc text ≡ []) → Ends gc s loc L x true
   no-letter g = record { says = g }
 
-  pub some-letter : {c : ℕ} {y : Reading} → LetterIs s loc L x c y → Ends s loc L x false
-  some-letter {c} g = record { says = λ text h. let u = g .one .gives text h in (c, letters (u .others), u .is) }
+  pub some-letter : {gc : Code} {c : ℕ} {y : Reading} → LetterIs gc s loc L x c y → Ends gc s loc L x false
+  some-letter {gc} {c} g = record { says = λ text h. let u = g .one .gives text h in (c, letters gc (u .others), u .is) }

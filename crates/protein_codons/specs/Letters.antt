@@ -5,11 +5,11 @@ use mathlib.Core.Path.{_≡_}
 use mathlib.Core.List.{List}
 use lib.ListN.{getD}
 use Rattle.paper.specs.Locations.{Location, spans}
-use Rattle.paper.specs.Translation.{codingText, codonsFrom}
+use Rattle.paper.specs.Translation.{Code, codingText, codonsFrom}
 
 -- the letters of every whole codon, a last stop too
-abbrev pub lettersOf : List ℕ → ℕ → Location → List ℕ
-lettersOf s start t = codonsFrom start (codingText s (spans t))
+abbrev pub lettersOf : Code → List ℕ → ℕ → Location → List ℕ
+lettersOf gc s start t = codonsFrom gc start (codingText s (spans t))
 
 -- ---- the codons that stand whole in a span between two places, with the letters l
 

@@ -8,7 +8,7 @@ use lib.Seq.{slice}
 use Rattle.paper.specs.Bytes.{raw}
 use Rattle.paper.specs.Locations.{Location, Locates, breaks25}
 use Rattle.paper.specs.Locations as paper
-use Rattle.paper.specs.Translation.{basesOf, complementOf, residuesOf, codingText, letters}
+use Rattle.paper.specs.Translation.{Code, basesOf, complementOf, residuesOf, codingText, letters}
 use Rattle.protein_code.specs.Tables.{setBases}
 use Rattle.protein_blocks.specs.Blocks.{AllPlain}
 use Rattle.location_spans.specs.Walking.{Left, stepsLeft, spanIs}
@@ -34,8 +34,8 @@ abbrev pub current : List ℕ → Reading → List ℕ
 current s x = strand (x .turned) (slice (x .low) (x .high) s)
 
 -- the letters of the codons that stand whole between two places
-unfoldable pub spanLetters : List ℕ → ℕ → ℕ → Bool → List ℕ
-spanLetters s low high turned = letters (strand turned (slice low high s))
+unfoldable pub spanLetters : Code → List ℕ → ℕ → ℕ → Bool → List ℕ
+spanLetters gc s low high turned = letters gc (strand turned (slice low high s))
 
 -- where the codon k of them stands: the least place of its residues
 abbrev pub placeOf : (low high : ℕ) → Bool → ℕ → ℕ
@@ -106,26 +106,26 @@ pub record Onward (x : Reading) (k : ℕ) (y : Reading) : Type 0 where
   pub is : (s : List ℕ) → x .high ≤ length s → current s y ≡ drop (3 * k) (current s x)
 
 -- d are the letters of the first whole codons of the text, and y leaves the residues behind them
-pub record FirstLetters (s loc : List ℕ) (L : ℕ) (d : List ℕ) (y : Reading) (text : List ℕ) : Type 0 where
+pub record FirstLetters (gc : Code) (s loc : List ℕ) (L : ℕ) (d : List ℕ) (y : Reading) (text : List ℕ) : Type 0 where
   pub others : List ℕ
-  pub is : letters text ≡ d ++ letters others
+  pub is : letters gc text ≡ d ++ letters gc others
   pub left : TextLeft s loc L y others
 
-pub record Gives (s loc : List ℕ) (L : ℕ) (x : Reading) (d : List ℕ) (y : Reading) : Type 0 where
+pub record Gives (gc : Code) (s loc : List ℕ) (L : ℕ) (x : Reading) (d : List ℕ) (y : Reading) : Type 0 where
   pub ready : Ready (length s) y
-  pub gives : (text : List ℕ) → TextLeft s loc L x text → FirstLetters s loc L d y text
+  pub gives : (text : List ℕ) → TextLeft s loc L x text → FirstLetters gc s loc L d y text
 
 -- c is the next letter
-pub record LetterIs (s loc : List ℕ) (L : ℕ) (x : Reading) (c : ℕ) (y : Reading) : Type 0 where
-  pub one : Gives s loc L x (c ∷ []) y
+pub record LetterIs (gc : Code) (s loc : List ℕ) (L : ℕ) (x : Reading) (c : ℕ) (y : Reading) : Type 0 where
+  pub one : Gives gc s loc L x (c ∷ []) y
   pub falls : residuesLeft (length s) (length loc) y < residuesLeft (length s) (length loc) x
 
-abbrev pub LetterSays : List ℕ → List ℕ → ℕ → Reading → Letter → Type 0
-LetterSays s loc L x letter.Done = (text : List ℕ) → TextLeft s loc L x text → letters text ≡ []
-LetterSays s loc L x (letter.Is c y) = LetterIs s loc L x c y
+abbrev pub LetterSays : Code → List ℕ → List ℕ → ℕ → Reading → Letter → Type 0
+LetterSays gc s loc L x letter.Done = (text : List ℕ) → TextLeft s loc L x text → letters gc text ≡ []
+LetterSays gc s loc L x (letter.Is c y) = LetterIs gc s loc L x c y
 
-pub record Letters (s loc : List ℕ) (L : ℕ) (x : Reading) (r : Letter) : Type 0 where
-  pub says : LetterSays s loc L x r
+pub record Letters (gc : Code) (s loc : List ℕ) (L : ℕ) (x : Reading) (r : Letter) : Type 0 where
+  pub says : LetterSays gc s loc L x r
 
 -- y leaves what x leaves but for its first k residues
 pub record Skips (s loc : List ℕ) (L : ℕ) (x : Reading) (k : ℕ) (y : Reading) : Type 0 where
@@ -150,5 +150,5 @@ abbrev pub NoLetter : List ℕ → Bool → Type 0
 NoLetter l true = l ≡ []
 NoLetter l false = (c : ℕ) × (k : List ℕ) × (l ≡ c ∷ k)
 
-pub record Ends (s loc : List ℕ) (L : ℕ) (x : Reading) (r : Bool) : Type 0 where
-  pub says : (text : List ℕ) → TextLeft s loc L x text → NoLetter (letters text) r
+pub record Ends (gc : Code) (s loc : List ℕ) (L : ℕ) (x : Reading) (r : Bool) : Type 0 where
+  pub says : (text : List ℕ) → TextLeft s loc L x text → NoLetter (letters gc text) r

@@ -1,7 +1,8 @@
-// The coding text of a location from the codon_start on, read residue by residue and codon by codon, without room: the walk over the spans, and
-// the current span. It relies on the paper, the location's walk and the codon's tables. A caller takes the tables once and lends them to each
-// call. `r` are the residues, `loc` the raw part of the location, `top` is L, the number of residues, and `frame` the codon_start. A promise,
-// here and in the crates above, speaks of whichever location, that keeps rule 25, the part is written from.
+// The coding text of a location from the codon_start on, read residue by residue and codon by codon, without room: the walk over the
+// spans, and the current span. It relies on the paper, the location's walk and the table of a code. A caller takes the table once and
+// lends it to each call, as `code`. `r` are the residues, `loc` the raw part of the location, `top` is L, the number of residues, and
+// `frame` the codon_start. A promise, here and in the crates above, speaks of whichever location, that keeps rule 25, the part is written
+// from.
 use location_spans::walking::Next;
 use location_spans::walking::Span;
 use location_spans::walking::Walk;
@@ -16,8 +17,7 @@ ghost use mathlib.Core.Path.{_≡_};
 ghost use mathlib.Core.Bool.{true};
 ghost use Prim.Native.Nat.{_+_, _*_, _≤_, _<_};
 ghost use lib.ListN.{length, getD};
-ghost use Rattle.protein_code.specs.Tables.{SetTable, TurnTable, LetterTable};
-ghost use Rattle.protein_code.specs.Plain.{PlainTable};
+ghost use Rattle.protein_code.specs.Tables.{Coded, codeOf};
 ghost use Rattle.protein_blocks.specs.Blocks.{AllPlain};
 ghost use Rattle.protein_codons.specs.Reading.{Ready, spanLetters, placeOf, blockOf, PlainBlock, Opens, Fills, Bases, Onward, Skips, Letters, Begins, Ends};
 
@@ -85,18 +85,10 @@ fn fill(r: &[u8], loc: &[u8], from: Reading, top: u32) -> Reading
 }
 
 // One residue further: its base set, of its complement on the complemented strand.
-fn next_base(
-    r: &[u8],
-    loc: &[u8],
-    x: Reading,
-    top: u32,
-    sets: &[u8; 256],
-    turns: &[u8; 256],
-) -> Base
+fn next_base(r: &[u8], loc: &[u8], x: Reading, top: u32, code: &[u8; 5128]) -> Base
     requires { ⌜ top ≤ length (now r) ⌝ }
     requires { ⌜ Ready (length (now r)) x ⌝ }
-    requires { ⌜ SetTable (now sets) ⌝ }
-    requires { ⌜ TurnTable (now turns) ⌝ }
+    requires { ⌜ Coded (now code) ⌝ }
     ensures { λ y. ⌜ Bases (now (r .entry)) (now (loc .entry)) top x y ⌝ }
 {
     let y = fill(r, loc, x, top);
@@ -109,7 +101,7 @@ fn next_base(
     if y.turned {
         let at = high - 1;
         return Base::Is(
-            set_of(r[at], turns),
+            set_of(r[at], true, code),
             Reading {
                 walk,
                 low,
@@ -119,7 +111,7 @@ fn next_base(
         );
     }
     Base::Is(
-        set_of(r[low], sets),
+        set_of(r[low], false, code),
         Reading {
             walk,
             low: low + 1,
@@ -130,38 +122,28 @@ fn next_base(
 }
 
 // A codon of which some residues may stand in other spans than others, residue by residue.
-fn slowly(
-    r: &[u8],
-    loc: &[u8],
-    x: Reading,
-    top: u32,
-    sets: &[u8; 256],
-    turns: &[u8; 256],
-    table: &[u8; 4096],
-) -> Letter
+fn slowly(r: &[u8], loc: &[u8], x: Reading, top: u32, code: &[u8; 5128]) -> Letter
     requires { ⌜ top ≤ length (now r) ⌝ }
     requires { ⌜ Ready (length (now r)) x ⌝ }
-    requires { ⌜ SetTable (now sets) ⌝ }
-    requires { ⌜ TurnTable (now turns) ⌝ }
-    requires { ⌜ LetterTable (now table) ⌝ }
-    ensures { λ y. ⌜ Letters (now (r .entry)) (now (loc .entry)) top x y ⌝ }
+    requires { ⌜ Coded (now code) ⌝ }
+    ensures { λ y. ⌜ Letters (codeOf (now (code .entry))) (now (r .entry)) (now (loc .entry)) top x y ⌝ }
 {
-    match next_base(r, loc, x, top, sets, turns) {
+    match next_base(r, loc, x, top, code) {
         Base::Done => {
             return Letter::Done;
         }
         Base::Is(a, x1) => {
-            match next_base(r, loc, x1, top, sets, turns) {
+            match next_base(r, loc, x1, top, code) {
                 Base::Done => {
                     return Letter::Done;
                 }
                 Base::Is(b, x2) => {
-                    match next_base(r, loc, x2, top, sets, turns) {
+                    match next_base(r, loc, x2, top, code) {
                         Base::Done => {
                             return Letter::Done;
                         }
                         Base::Is(c, x3) => {
-                            return Letter::Is(letter(a, b, c, table), x3);
+                            return Letter::Is(letter(a, b, c, code), x3);
                         }
                     }
                 }
@@ -170,8 +152,8 @@ fn slowly(
     }
 }
 
-// Where the codon k of the residues from low to before high on a strand stands: the least place of its three residues. Which strand it is stays
-// the same in a loop over k, so the compiler takes the test out of the loop.
+// Where the codon k of the residues from low to before high on a strand stands: the least place of its three residues. Which strand it is
+// stays the same in a loop over k, so the compiler takes the test out of the loop.
 fn place(low: usize, high: usize, turned: bool, k: usize) -> usize
     requires { ⌜ low + 3 * k + 3 ≤ high ⌝ }
     ensures { λ y. ⌜ (y ≡ placeOf low high turned k) × (y + 3 ≤ high) ⌝ }
@@ -183,41 +165,30 @@ fn place(low: usize, high: usize, turned: bool, k: usize) -> usize
 }
 
 // Its letter.
-pub fn letter_at(
-    r: &[u8],
-    low: usize,
-    high: usize,
-    turned: bool,
-    k: usize,
-    sets: &[u8; 256],
-    turns: &[u8; 256],
-    table: &[u8; 4096],
-) -> u8
+pub fn letter_at(r: &[u8], low: usize, high: usize, turned: bool, k: usize, code: &[u8; 5128]) -> u8
     requires { ⌜ low + 3 * k + 3 ≤ high ⌝ }
     requires { ⌜ high ≤ length (now r) ⌝ }
-    requires { ⌜ SetTable (now sets) ⌝ }
-    requires { ⌜ TurnTable (now turns) ⌝ }
-    requires { ⌜ LetterTable (now table) ⌝ }
-    ensures { λ y. ⌜ y ≡ getD (spanLetters (now (r .entry)) low high turned) k 0 ⌝ }
+    requires { ⌜ Coded (now code) ⌝ }
+    ensures { λ y. ⌜ y ≡ getD (spanLetters (codeOf (now (code .entry))) (now (r .entry)) low high turned) k 0 ⌝ }
 {
     let at = place(low, high, turned, k);
     if turned {
-        return codon(r[at + 2], r[at + 1], r[at], turns, table);
+        return codon(r[at + 2], r[at + 1], r[at], true, code);
     }
-    codon(r[at], r[at + 1], r[at + 2], sets, table)
+    codon(r[at], r[at + 1], r[at + 2], false, code)
 }
 
 // Its letter, where its residues are plain and another stands behind them, by the strand's table of plain codons.
-pub fn plain_at(r: &[u8], low: usize, high: usize, turned: bool, k: usize, plain: &[u8; 256]) -> u8
+pub fn plain_at(r: &[u8], low: usize, high: usize, turned: bool, k: usize, code: &[u8; 5128]) -> u8
     requires { ⌜ low + 3 * k + 3 ≤ high ⌝ }
     requires { ⌜ high ≤ length (now r) ⌝ }
     requires { ⌜ placeOf low high turned k + 4 ≤ length (now r) ⌝ }
     requires { ⌜ AllPlain (now r) (placeOf low high turned k) 3 ⌝ }
-    requires { ⌜ PlainTable turned (now plain) ⌝ }
-    ensures { λ y. ⌜ y ≡ getD (spanLetters (now (r .entry)) low high turned) k 0 ⌝ }
+    requires { ⌜ Coded (now code) ⌝ }
+    ensures { λ y. ⌜ y ≡ getD (spanLetters (codeOf (now (code .entry))) (now (r .entry)) low high turned) k 0 ⌝ }
 {
     let at = place(low, high, turned, k);
-    plain_letter(r[at], r[at + 1], r[at + 2], r[at + 3], plain)
+    plain_letter(r[at], r[at + 1], r[at + 2], r[at + 3], turned, code)
 }
 
 // Where the 64 codons from the codon k on stand: the least place of their residues.
@@ -269,52 +240,33 @@ pub fn onward(x: Reading, k: usize) -> Reading
 }
 
 // The letter of the next whole codon.
-pub fn next(
-    r: &[u8],
-    loc: &[u8],
-    x: Reading,
-    top: u32,
-    sets: &[u8; 256],
-    turns: &[u8; 256],
-    table: &[u8; 4096],
-) -> Letter
+pub fn next(r: &[u8], loc: &[u8], x: Reading, top: u32, code: &[u8; 5128]) -> Letter
     requires { ⌜ top ≤ length (now r) ⌝ }
     requires { ⌜ Ready (length (now r)) x ⌝ }
-    requires { ⌜ SetTable (now sets) ⌝ }
-    requires { ⌜ TurnTable (now turns) ⌝ }
-    requires { ⌜ LetterTable (now table) ⌝ }
-    ensures { λ y. ⌜ Letters (now (r .entry)) (now (loc .entry)) top x y ⌝ }
+    requires { ⌜ Coded (now code) ⌝ }
+    ensures { λ y. ⌜ Letters (codeOf (now (code .entry))) (now (r .entry)) (now (loc .entry)) top x y ⌝ }
 {
     let low = x.low;
     let high = x.high;
     let turned = x.turned;
     if high - low < 3 {
-        return slowly(r, loc, x, top, sets, turns, table);
+        return slowly(r, loc, x, top, code);
     }
-    let c = letter_at(r, low, high, turned, 0, sets, turns, table);
+    let c = letter_at(r, low, high, turned, 0, code);
     Letter::Is(c, onward(x, 1))
 }
 
 // `count` residues further.
-fn skip(
-    r: &[u8],
-    loc: &[u8],
-    from: Reading,
-    top: u32,
-    count: usize,
-    sets: &[u8; 256],
-    turns: &[u8; 256],
-) -> Reading
+fn skip(r: &[u8], loc: &[u8], from: Reading, top: u32, count: usize, code: &[u8; 5128]) -> Reading
     requires { ⌜ top ≤ length (now r) ⌝ }
     requires { ⌜ Ready (length (now r)) from ⌝ }
-    requires { ⌜ SetTable (now sets) ⌝ }
-    requires { ⌜ TurnTable (now turns) ⌝ }
+    requires { ⌜ Coded (now code) ⌝ }
     ensures { λ y. ⌜ Skips (now (r .entry)) (now (loc .entry)) top from count y ⌝ }
 {
     let mut x = from;
     let mut k: usize = 0;
     while k < count {
-        match next_base(r, loc, x, top, sets, turns) {
+        match next_base(r, loc, x, top, code) {
             Base::Done => {
                 return x;
             }
@@ -328,17 +280,9 @@ fn skip(
 }
 
 // The coding text of the location from the codon_start `frame` on.
-pub fn begin(
-    r: &[u8],
-    loc: &[u8],
-    top: u32,
-    frame: usize,
-    sets: &[u8; 256],
-    turns: &[u8; 256],
-) -> Reading
+pub fn begin(r: &[u8], loc: &[u8], top: u32, frame: usize, code: &[u8; 5128]) -> Reading
     requires { ⌜ top ≤ length (now r) ⌝ }
-    requires { ⌜ SetTable (now sets) ⌝ }
-    requires { ⌜ TurnTable (now turns) ⌝ }
+    requires { ⌜ Coded (now code) ⌝ }
     ensures { λ y. ⌜ Begins (now (r .entry)) (now (loc .entry)) top frame y ⌝ }
 {
     let walk = start(loc);
@@ -351,7 +295,7 @@ pub fn begin(
     if frame == 0 {
         return x;
     }
-    skip(r, loc, x, top, frame - 1, sets, turns)
+    skip(r, loc, x, top, frame - 1, code)
 }
 
 // The lesser of two numbers.
@@ -365,23 +309,13 @@ pub fn least(a: usize, b: usize) -> usize
 }
 
 // Whether no whole codon is left.
-pub fn ends(
-    r: &[u8],
-    loc: &[u8],
-    x: Reading,
-    top: u32,
-    sets: &[u8; 256],
-    turns: &[u8; 256],
-    table: &[u8; 4096],
-) -> bool
+pub fn ends(r: &[u8], loc: &[u8], x: Reading, top: u32, code: &[u8; 5128]) -> bool
     requires { ⌜ top ≤ length (now r) ⌝ }
     requires { ⌜ Ready (length (now r)) x ⌝ }
-    requires { ⌜ SetTable (now sets) ⌝ }
-    requires { ⌜ TurnTable (now turns) ⌝ }
-    requires { ⌜ LetterTable (now table) ⌝ }
-    ensures { λ y. ⌜ Ends (now (r .entry)) (now (loc .entry)) top x y ⌝ }
+    requires { ⌜ Coded (now code) ⌝ }
+    ensures { λ y. ⌜ Ends (codeOf (now (code .entry))) (now (r .entry)) (now (loc .entry)) top x y ⌝ }
 {
-    match next(r, loc, x, top, sets, turns, table) {
+    match next(r, loc, x, top, code) {
         Letter::Done => {
             return true;
         }

@@ -8,8 +8,9 @@ use lib.ListN.{getD}
 use lib.Dec.{eqb}
 use Rattle.paper.specs.Bytes.{spell, raw}
 use Rattle.paper.specs.Lists.{gather}
-use Rattle.paper.specs.Translation.{basesOf, code1, baseIndex, plainLetter, plainLetters, allSame, shared, codonLetter, letters, dropStop}
+use Rattle.paper.specs.Translation.{Code, basesOf, baseIndex, plainLetter, plainLetters, allSame, shared, codonLetter, letters, dropStop}
 use Rattle.paper.proofs.Texts.{raw-once}
+use Rattle.protein_code.specs.Tables.{SelfSpelt}
 use Rattle.protein_compare.specs.Comparing.{RightValue}
 
 -- it is written as it is read
@@ -56,9 +57,6 @@ plain-at [] h i = record { is = refl }
 plain-at (b ∷ l) h zero = h .0
 plain-at (b ∷ l) h (suc i) = plain-at l (h .1) i
 
-plain-letter : (a b c : ℕ) → Plain (plainLetter a b c)
-plain-letter a b c = plain-at code1 (plains-of code1 refl) (16 * baseIndex a + 4 * baseIndex b + baseIndex c)
-
 plain-shared : (l : List ℕ) → Plains l → Plain (shared l)
 plain-shared [] h = record { is = refl }
 plain-shared (x ∷ l) h = go (allSame x l)
@@ -66,21 +64,6 @@ plain-shared (x ∷ l) h = go (allSame x l)
     go : (b : Bool) → Plain (cond b x (code "X"))
     go true = h .0
     go false = record { is = refl }
-
-plain-codon : (a b c : ℕ) → Plain (codonLetter a b c)
-plain-codon a b c =
-    plain-shared (plainLetters (basesOf a) (basesOf b) (basesOf c))
-    (plains-gather (λ (x : ℕ). gather (λ (y : ℕ). map (plainLetter x y) (basesOf c)) (basesOf b))
-    (λ x. plains-gather (λ (y : ℕ). map (plainLetter x y) (basesOf c)) (λ y. plains-map (plainLetter x y) (plain-letter x y) (basesOf c)) (basesOf b))
-    (basesOf a))
-
--- ---- a translation
-
-plains-letters : (w : List ℕ) → Plains (letters w)
-plains-letters [] = tt
-plains-letters (a ∷ []) = tt
-plains-letters (a ∷ b ∷ []) = tt
-plains-letters (a ∷ b ∷ c ∷ w) = (plain-codon a b c, plains-letters w)
 
 plains-drop : (l : List ℕ) → Plains l → Plains (dropStop l)
 plains-drop [] h = tt
@@ -91,12 +74,31 @@ plains-drop (x ∷ []) h = go (eqb x (code "*"))
     go false = h
 plains-drop (x ∷ y ∷ l) h = (h .0, plains-drop (y ∷ l) (h .1))
 
-translation-raw : (w : List ℕ) → raw (dropStop (letters w)) ≡ dropStop (letters w)
-translation-raw w = plains-raw (dropStop (letters w)) (plains-drop (letters w) (plains-letters w))
+-- ---- a translation
 
-module _ (w value v : List ℕ) (e : value ≡ raw v) where
-  pub as-written : RightValue (letters w) v → RightValue (letters w) value
-  as-written h = record { clear = h .clear; same = e ∙ ap raw (h .same) ∙ translation-raw w }
+module _ (gc : Code) (spelt : SelfSpelt gc) where
+  plain-letter : (a b c : ℕ) → Plain (plainLetter gc a b c)
+  plain-letter a b c = plain-at gc (plains-of gc spelt) (16 * baseIndex a + 4 * baseIndex b + baseIndex c)
 
-  pub as-read : RightValue (letters w) value → RightValue (letters w) v
-  as-read h = record { clear = h .clear; same = raw-once v (dropStop (letters w)) (sym e ∙ h .same ∙ sym (translation-raw w)) }
+  plain-codon : (a b c : ℕ) → Plain (codonLetter gc a b c)
+  plain-codon a b c =
+      let third : ℕ → ℕ → List ℕ = λ x y. map (plainLetter gc x y) (basesOf c) in
+      let plain-third : (x y : ℕ) → Plains (third x y) = λ x y. plains-map (plainLetter gc x y) (plain-letter x y) (basesOf c) in
+      plain-shared (plainLetters gc (basesOf a) (basesOf b) (basesOf c))
+      (plains-gather (λ (x : ℕ). gather (third x) (basesOf b)) (λ x. plains-gather (third x) (plain-third x) (basesOf b)) (basesOf a))
+
+  plains-letters : (w : List ℕ) → Plains (letters gc w)
+  plains-letters [] = tt
+  plains-letters (a ∷ []) = tt
+  plains-letters (a ∷ b ∷ []) = tt
+  plains-letters (a ∷ b ∷ c ∷ w) = (plain-codon a b c, plains-letters w)
+
+  translation-raw : (w : List ℕ) → raw (dropStop (letters gc w)) ≡ dropStop (letters gc w)
+  translation-raw w = plains-raw (dropStop (letters gc w)) (plains-drop (letters gc w) (plains-letters w))
+
+  module _ (w value v : List ℕ) (e : value ≡ raw v) where
+    pub as-written : RightValue (letters gc w) v → RightValue (letters gc w) value
+    as-written h = record { clear = h .clear; same = e ∙ ap raw (h .same) ∙ translation-raw w }
+
+    pub as-read : RightValue (letters gc w) value → RightValue (letters gc w) v
+    as-read h = record { clear = h .clear; same = raw-once v (dropStop (letters gc w)) (sym e ∙ h .same ∙ sym (translation-raw w)) }

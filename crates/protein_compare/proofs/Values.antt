@@ -11,7 +11,8 @@ use lib.Seq.{drop-cons, drop-drop, ext-getD, getD-take, getD-drop, length-take-l
 use lib.Dec.{eqb}
 use borrow.Author.Tests.{eqb-true, eqb-false}
 use Rattle.paper.specs.Locations.{spans}
-use Rattle.paper.specs.Translation.{codingText, letters}
+use Rattle.paper.specs.Translation.{Code, codingText, letters}
+use Rattle.protein_code.specs.Tables.{SelfSpelt}
 use Rattle.protein_codons.specs.declared.Reading.{Reading}
 use Rattle.protein_codons.specs.Reading.{Ready, spanLetters, TextLeft, Onward, Gives, LetterIs, Begins, Ends}
 use Rattle.protein_codons.proofs.Readings.{span-within, run-gives}
@@ -21,30 +22,30 @@ use Rattle.protein_compare.proofs.Rights.{right-forth, right-back, righ
 use Rattle.protein_compare.proofs.Plain.{as-written, as-read}
 
 -- the letters l are right for the value exactly if those that x leaves are right for the rest of it
-record Compared (s loc : List ℕ) (L : ℕ) (x : Reading) (l value : List ℕ) (i : ℕ) : Type 0 where
+record Compared (gc : Code) (s loc : List ℕ) (L : ℕ) (x : Reading) (l value : List ℕ) (i : ℕ) : Type 0 where
   rest : List ℕ
   left : TextLeft s loc L x rest
-  forth : RightValue l value → RightValue (letters rest) (drop i value)
-  back : RightValue (letters rest) (drop i value) → RightValue l value
+  forth : RightValue l value → RightValue (letters gc rest) (drop i value)
+  back : RightValue (letters gc rest) (drop i value) → RightValue l value
 
 -- the loop's invariant
-pub record Comparing (s loc : List ℕ) (L : ℕ) (from : Reading) (value : List ℕ) (x : Reading) (i : ℕ) : Type 0 where
+pub record Comparing (gc : Code) (s loc : List ℕ) (L : ℕ) (from : Reading) (value : List ℕ) (x : Reading) (i : ℕ) : Type 0 where
   pub ready : Ready (length s) x
   pub within : i ≤ length value
-  gives : (text : List ℕ) → TextLeft s loc L from text → Compared s loc L x (letters text) value i
+  gives : (text : List ℕ) → TextLeft s loc L from text → Compared gc s loc L x (letters gc text) value i
 
 -- the answer, for whichever text is left at the start
-abbrev Tells : List ℕ → List ℕ → ℕ → Reading → List ℕ → Bool → Type 0
-Tells s loc L from value r = (text : List ℕ) → TextLeft s loc L from text → RightIf (letters text) value r
+abbrev Tells : Code → List ℕ → List ℕ → ℕ → Reading → List ℕ → Bool → Type 0
+Tells gc s loc L from value r = (text : List ℕ) → TextLeft s loc L from text → RightIf (letters gc text) value r
 
-module _ {s loc : List ℕ} {L : ℕ} {from : Reading} {value : List ℕ} where
-  pub comparing-start : Ready (length s) from → Comparing s loc L from value from 0
+module _ {gc : Code} {s loc : List ℕ} {L : ℕ} {from : Reading} {value : List ℕ} where
+  pub comparing-start : Ready (length s) from → Comparing gc s loc L from value from 0
   comparing-start r =
       record { ready = r; within = omega arith; gives = λ text h. record { rest = text; left = h; forth = λ z. z; back = λ z. z } }
 
-  module _ {x : Reading} {i : ℕ} (f : Comparing s loc L from value x i) where
+  module _ {x : Reading} {i : ℕ} (f : Comparing gc s loc L from value x i) where
     -- what is told of the rest is told of the whole
-    tells : (r : Bool) → ((rest : List ℕ) → TextLeft s loc L x rest → RightIf (letters rest) (drop i value) r) → Tells s loc L from value r
+    tells : (r : Bool) → ((rest : List ℕ) → TextLeft s loc L x rest → RightIf (letters gc rest) (drop i value) r) → Tells gc s loc L from value r
     tells true g text h = let c = f .gives text h in c .back (g (c .rest) (c .left))
     tells false g text h = let c = f .gives text h in λ z. g (c .rest) (c .left) (c .forth z)
 
@@ -55,8 +56,8 @@ module _ {s loc : List ℕ} {L : ℕ} {from : Reading} {value : List ℕ} where
     no-rest h = drop-of-length-le value h
 
     -- letters that are the next of the value: a run of them, or one
-    comparing-on : {d : List ℕ} {k : ℕ} {y : Reading} → Gives s loc L x d y → Front d k → i + k ≤ length value
-        → drop i value ≡ d ++ drop (i + k) value → Comparing s loc L from value y (i + k)
+    comparing-on : {d : List ℕ} {k : ℕ} {y : Reading} → Gives gc s loc L x d y → Front d k → i + k ≤ length value
+        → drop i value ≡ d ++ drop (i + k) value → Comparing gc s loc L from value y (i + k)
     comparing-on g q w p =
         record {
           ready = g .ready;
@@ -72,16 +73,16 @@ module _ {s loc : List ℕ} {L : ℕ} {from : Reading} {value : List ℕ} where
               };
         }
 
-    pub comparing-one : {c : ℕ} {y : Reading} → LetterIs s loc L x c y → (c ≡ code "*" → ⊥) → i < length value → getD value i 0 ≡ c
-        → Comparing s loc L from value y (i + 1)
+    pub comparing-one : {c : ℕ} {y : Reading} → LetterIs gc s loc L x c y → (c ≡ code "*" → ⊥) → i < length value → getD value i 0 ≡ c
+        → Comparing gc s loc L from value y (i + 1)
     comparing-one g n k e =
         comparing-on (g .one) (front-one n) (omega arith) (rest-of k ∙ ap (λ (b : ℕ). b ∷ drop (i + 1) value) e)
 
-    pub comparing-run : {k : ℕ} {y : Reading} → Onward x k y → Same (x .low) (x .high) (spanLetters s (x .low) (x .high) (x .turned)) value i k
-        → Comparing s loc L from value y (i + k)
+    pub comparing-run : {k : ℕ} {y : Reading} → Onward x k y → Same (x .low) (x .high) (spanLetters gc s (x .low) (x .high) (x .turned)) value i k
+        → Comparing gc s loc L from value y (i + k)
     comparing-run {k} o w =
-        let l = spanLetters s (x .low) (x .high) (x .turned) in
-        let n : k ≤ length l = span-within s (x .low) (x .high) (x .turned) k (w .front .within) (f .ready .inside) in
+        let l = spanLetters gc s (x .low) (x .high) (x .turned) in
+        let n : k ≤ length l = span-within gc s (x .low) (x .high) (x .turned) k (w .front .within) (f .ready .inside) in
         let rest = drop i value in
         let m : k ≤ length rest = omega (arith, length-drop i value, w .inside) in
         let e : take k rest ≡ take k l
@@ -89,13 +90,13 @@ module _ {s loc : List ℕ} {L : ℕ} {from : Reading} {value : List ℕ} where
         (λ j b.
         let h : j < k = omega (arith, length-take-le k rest m) in
         getD-take k rest j 0 h ∙ getD-drop i value j 0 ∙ w .same j h ∙ sym (getD-take k l j 0 h)) in
-        comparing-on (run-gives s (f .ready) o) (front-take n (w .front .clear)) (w .inside)
+        comparing-on (run-gives s (f .ready) o gc) (front-take n (w .front .clear)) (w .inside)
         (sym (take-append-drop k rest) ∙ rw (e, drop-drop k i value))
 
-    pub comparing-done : ((text : List ℕ) → TextLeft s loc L x text → letters text ≡ []) → Tells s loc L from value (eqb i (length value))
+    pub comparing-done : ((text : List ℕ) → TextLeft s loc L x text → letters gc text ≡ []) → Tells gc s loc L from value (eqb i (length value))
     comparing-done g = go (eqb i (length value)) refl
       where
-        go : (b : Bool) → eqb i (length value) ≡ b → Tells s loc L from value b
+        go : (b : Bool) → eqb i (length value) ≡ b → Tells gc s loc L from value b
         go true e =
             tells true
             (λ rest h. rw (g rest h, no-rest (omega (arith, eqb-true i (length value) e))) (record { clear = refl; same = refl }))
@@ -103,14 +104,14 @@ module _ {s loc : List ℕ} {L : ℕ} {from : Reading} {value : List ℕ} where
             let k : i < length value = let n = eqb-false i (length value) e in let w = f .within in omega arith in
             tells false (λ rest h z. let y = rw (g rest h, rest-of k) at (z .same) in cons≢nil y)
 
-    module _ {c : ℕ} {y : Reading} (g : LetterIs s loc L x c y) where
+    module _ {c : ℕ} {y : Reading} (g : LetterIs gc s loc L x c y) where
       module _ (e : c ≡ code "*") where
-        pub comparing-stop : i < length value → Tells s loc L from value false
+        pub comparing-stop : i < length value → Tells gc s loc L from value false
         comparing-stop k =
             tells false
-            (λ rest h z. let u = g .one .gives rest h in cons≢nil (sym (rest-of k) ∙ right-stop e (letters (u .others)) (rw (u .is) at z)))
+            (λ rest h z. let u = g .one .gives rest h in cons≢nil (sym (rest-of k) ∙ right-stop e (letters gc (u .others)) (rw (u .is) at z)))
 
-        pub comparing-last : length value ≤ i → (r : Bool) → Ends s loc L y r → Tells s loc L from value r
+        pub comparing-last : length value ≤ i → (r : Bool) → Ends gc s loc L y r → Tells gc s loc L from value r
         comparing-last k true q =
             tells true
             (λ rest h.
@@ -125,32 +126,32 @@ module _ {s loc : List ℕ} {L : ℕ} {from : Reading} {value : List ℕ} where
             true≢false (sym (stop-inside e (m .0) (m .1)) ∙ (rw (u .is, m .2) at (z .clear))))
 
       module _ (n : c ≡ code "*" → ⊥) where
-        pub comparing-short : length value ≤ i → Tells s loc L from value false
+        pub comparing-short : length value ≤ i → Tells gc s loc L from value false
         comparing-short k = tells false (λ rest h z. let u = g .one .gives rest h in right-more n (rw (u .is, no-rest k) at z))
 
         module _ (k : i < length value) where
-          pub comparing-differs : (getD value i 0 ≡ c → ⊥) → Tells s loc L from value false
+          pub comparing-differs : (getD value i 0 ≡ c → ⊥) → Tells gc s loc L from value false
           comparing-differs d = tells false (λ rest h z. let u = g .one .gives rest h in d (right-head n (rw (u .is, rest-of k) at z)))
 
 -- ---- the answer
 
-module _ {s loc : List ℕ} {L start : ℕ} {value : List ℕ} where
-  pub compares : {from : Reading} → Begins s loc L start from → (r : Bool) → Tells s loc L from value r → Compares s loc L start value r
-  compares b true g =
+module _ {gc : Code} {s loc : List ℕ} {L start : ℕ} {value : List ℕ} where
+  pub compares : {from : Reading} → SelfSpelt gc → Begins s loc L start from → (r : Bool) → Tells gc s loc L from value r → Compares gc s loc L start value r
+  compares p b true g =
       record {
         says = λ t h v e.
             let w = drop (start - 1) (codingText s (spans t)) in
-            as-read w value v e (g w (b .leaves t h));
+            as-read gc p w value v e (g w (b .leaves t h));
       }
-  compares b false g =
+  compares p b false g =
       record {
         says = λ t h v e z.
             let w = drop (start - 1) (codingText s (spans t)) in
-            g w (b .leaves t h) (as-written w value v e z);
+            g w (b .leaves t h) (as-written gc p w value v e z);
       }
 
   -- nothing is promised where the residues are not L
-  pub compares-none : length s < L → (r : Bool) → Compares s loc L start value r
+  pub compares-none : length s < L → (r : Bool) → Compares gc s loc L start value r
   compares-none k r = record { says = λ t h. absurd (let e = h .sized in omega arith) }
 
 -- two answers that are allowed are equal

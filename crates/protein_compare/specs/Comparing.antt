@@ -6,7 +6,7 @@ use mathlib.Core.List.{List}
 use lib.ListN.{length, getD}
 use Rattle.paper.specs.Bytes.{raw}
 use Rattle.paper.specs.Locations.{Location}
-use Rattle.paper.specs.Translation.{dropStop, hasStopInside}
+use Rattle.paper.specs.Translation.{Code, dropStop, hasStopInside}
 use Rattle.protein_codons.specs.Reading.{Codes}
 use Rattle.protein_codons.specs.Letters.{lettersOf, Clear}
 
@@ -30,5 +30,5 @@ RightIf l v true = RightValue l v
 RightIf l v false = RightValue l v → ⊥
 
 -- of whichever location and value as read the bytes are written from
-pub record Compares (s loc : List ℕ) (L start : ℕ) (value : List ℕ) (r : Bool) : Type 0 where
-  pub says : (t : Location) → Codes s loc L t → (v : List ℕ) → value ≡ raw v → RightIf (lettersOf s start t) v r
+pub record Compares (gc : Code) (s loc : List ℕ) (L start : ℕ) (value : List ℕ) (r : Bool) : Type 0 where
+  pub says : (t : Location) → Codes s loc L t → (v : List ℕ) → value ≡ raw v → RightIf (lettersOf gc s start t) v r

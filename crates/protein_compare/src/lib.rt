@@ -1,6 +1,5 @@
-// Translations compared: whether a qualifier's value is the translation (rule 28), letter after letter and without room. It relies on the paper
-// and on the reading of the coding text; parameters and lent tables are as there.
-use protein_code::plain_table;
+// Translations compared: whether a qualifier's value is the translation (rule 28), letter after letter and without room. It relies on the
+// paper and on the reading of the coding text; parameters and lent tables are as there.
 use protein_codons::Letter;
 use protein_codons::begin;
 use protein_codons::ends;
@@ -12,13 +11,12 @@ use protein_codons::plain_at;
 use protein_codons::plain_block;
 ghost use Prim.Native.Nat.{_+_, _*_, _≤_};
 ghost use lib.ListN.{length};
-ghost use Rattle.protein_code.specs.Tables.{SetTable, TurnTable, LetterTable};
-ghost use Rattle.protein_code.specs.Plain.{PlainTable};
+ghost use Rattle.protein_code.specs.Tables.{Coded, codeOf};
 ghost use Rattle.protein_codons.specs.Reading.{spanLetters, PlainBlock};
 ghost use Rattle.protein_compare.specs.Comparing.{Same, Compares};
 
-// How many codons at the front of a span give the letters of the value from `from` on, and no stop, where those before `start` do: the codons up to
-// `end` are looked up one by one.
+// How many codons at the front of a span give the letters of the value from `from` on, and no stop, where those before `start` do: the
+// codons up to `end` are looked up one by one.
 fn same_each(
     r: &[u8],
     low: usize,
@@ -28,22 +26,18 @@ fn same_each(
     from: usize,
     start: usize,
     end: usize,
-    sets: &[u8; 256],
-    turns: &[u8; 256],
-    table: &[u8; 4096],
+    code: &[u8; 5128],
 ) -> usize
     requires { ⌜ low + 3 * end ≤ high ⌝ }
     requires { ⌜ high ≤ length (now r) ⌝ }
     requires { ⌜ from + end ≤ length (now value) ⌝ }
-    requires { ⌜ Same low high (spanLetters (now r) low high turned) (now value) from start ⌝ }
-    requires { ⌜ SetTable (now sets) ⌝ }
-    requires { ⌜ TurnTable (now turns) ⌝ }
-    requires { ⌜ LetterTable (now table) ⌝ }
-    ensures { λ n. ⌜ Same low high (spanLetters (now (r .entry)) low high turned) (now (value .entry)) from n ⌝ }
+    requires { ⌜ Same low high (spanLetters (codeOf (now code)) (now r) low high turned) (now value) from start ⌝ }
+    requires { ⌜ Coded (now code) ⌝ }
+    ensures { λ n. ⌜ Same low high (spanLetters (codeOf (now (code .entry))) (now (r .entry)) low high turned) (now (value .entry)) from n ⌝ }
 {
     let mut k = start;
     while k < end {
-        let a = letter_at(r, low, high, turned, k, sets, turns, table);
+        let a = letter_at(r, low, high, turned, k, code);
         if a == b'*' {
             return k;
         }
@@ -64,20 +58,20 @@ fn same_plain(
     value: &[u8],
     from: usize,
     start: usize,
-    plain: &[u8; 256],
+    code: &[u8; 5128],
 ) -> usize
     requires { ⌜ low + 3 * (start + 64) ≤ high ⌝ }
     requires { ⌜ high ≤ length (now r) ⌝ }
     requires { ⌜ PlainBlock (now r) low high turned start ⌝ }
     requires { ⌜ from + (start + 64) ≤ length (now value) ⌝ }
-    requires { ⌜ Same low high (spanLetters (now r) low high turned) (now value) from start ⌝ }
-    requires { ⌜ PlainTable turned (now plain) ⌝ }
-    ensures { λ n. ⌜ Same low high (spanLetters (now (r .entry)) low high turned) (now (value .entry)) from n ⌝ }
+    requires { ⌜ Same low high (spanLetters (codeOf (now code)) (now r) low high turned) (now value) from start ⌝ }
+    requires { ⌜ Coded (now code) ⌝ }
+    ensures { λ n. ⌜ Same low high (spanLetters (codeOf (now (code .entry))) (now (r .entry)) low high turned) (now (value .entry)) from n ⌝ }
 {
     let end = start + 64;
     let mut k = start;
     while k < end {
-        let a = plain_at(r, low, high, turned, k, plain);
+        let a = plain_at(r, low, high, turned, k, code);
         if a == b'*' {
             return k;
         }
@@ -98,22 +92,23 @@ fn same_blocks(
     value: &[u8],
     from: usize,
     whole: usize,
+    code: &[u8; 5128],
 ) -> usize
     requires { ⌜ low + 3 * whole ≤ high ⌝ }
     requires { ⌜ high ≤ length (now r) ⌝ }
     requires { ⌜ from + whole ≤ length (now value) ⌝ }
-    ensures { λ n. ⌜ Same low high (spanLetters (now (r .entry)) low high turned) (now (value .entry)) from n ⌝ }
+    requires { ⌜ Coded (now code) ⌝ }
+    ensures { λ n. ⌜ Same low high (spanLetters (codeOf (now (code .entry))) (now (r .entry)) low high turned) (now (value .entry)) from n ⌝ }
 {
     if whole < 64 {
         return 0;
     }
-    let plain = plain_table(turned);
     let mut k: usize = 0;
     while 64 <= whole - k {
         if !plain_block(r, low, high, turned, k) {
             return k;
         }
-        let n = same_plain(r, low, high, turned, value, from, k, &plain);
+        let n = same_plain(r, low, high, turned, value, from, k, code);
         if n != k + 64 {
             return n;
         }
@@ -130,64 +125,45 @@ fn same(
     turned: bool,
     value: &[u8],
     from: usize,
-    sets: &[u8; 256],
-    turns: &[u8; 256],
-    table: &[u8; 4096],
+    code: &[u8; 5128],
 ) -> usize
     requires { ⌜ low ≤ high ⌝ }
     requires { ⌜ high ≤ length (now r) ⌝ }
     requires { ⌜ from ≤ length (now value) ⌝ }
-    requires { ⌜ SetTable (now sets) ⌝ }
-    requires { ⌜ TurnTable (now turns) ⌝ }
-    requires { ⌜ LetterTable (now table) ⌝ }
-    ensures { λ n. ⌜ Same low high (spanLetters (now (r .entry)) low high turned) (now (value .entry)) from n ⌝ }
+    requires { ⌜ Coded (now code) ⌝ }
+    ensures { λ n. ⌜ Same low high (spanLetters (codeOf (now (code .entry))) (now (r .entry)) low high turned) (now (value .entry)) from n ⌝ }
 {
     let whole = least((high - low) / 3, value.len() - from);
-    let k = same_blocks(r, low, high, turned, value, from, whole);
-    same_each(
-        r,
-        low,
-        high,
-        turned,
-        value,
-        from,
-        k,
-        whole,
-        sets,
-        turns,
-        table,
-    )
+    let k = same_blocks(r, low, high, turned, value, from, whole, code);
+    same_each(r, low, high, turned, value, from, k, whole, code)
 }
 
-// The value is the raw part of the listing. No letter is looked up past the first difference, and no residue is read more than one codon past the
-// value's length, but for the look whether a stop is the last: so a check stays linear, however often a location's members repeat.
+// The value is the raw part of the listing. No letter is looked up past the first difference, and no residue is read more than one codon
+// past the value's length, but for the look whether a stop is the last: so a check stays linear, however often a location's members
+// repeat.
 pub fn is_right(
     r: &[u8],
     loc: &[u8],
     top: u32,
     frame: usize,
     value: &[u8],
-    sets: &[u8; 256],
-    turns: &[u8; 256],
-    table: &[u8; 4096],
+    code: &[u8; 5128],
 ) -> bool
-    requires { ⌜ SetTable (now sets) ⌝ }
-    requires { ⌜ TurnTable (now turns) ⌝ }
-    requires { ⌜ LetterTable (now table) ⌝ }
-    ensures { λ y. ⌜ Compares (now (r .entry)) (now (loc .entry)) top frame (now (value .entry)) y ⌝ }
+    requires { ⌜ Coded (now code) ⌝ }
+    ensures { λ y. ⌜ Compares (codeOf (now (code .entry))) (now (r .entry)) (now (loc .entry)) top frame (now (value .entry)) y ⌝ }
 {
     if r.len() < top as usize {
         return false;
     }
-    let mut x = begin(r, loc, top, frame, sets, turns);
+    let mut x = begin(r, loc, top, frame, code);
     let mut i: usize = 0;
     loop {
         let low = x.low;
         let high = x.high;
         let turned = x.turned;
-        let k = same(r, low, high, turned, value, i, sets, turns, table);
+        let k = same(r, low, high, turned, value, i, code);
         let j = i + k;
-        match next(r, loc, onward(x, k), top, sets, turns, table) {
+        match next(r, loc, onward(x, k), top, code) {
             Letter::Done => {
                 return j == value.len();
             }
@@ -196,7 +172,7 @@ pub fn is_right(
                     if j < value.len() {
                         return false;
                     }
-                    return ends(r, loc, y, top, sets, turns, table);
+                    return ends(r, loc, y, top, code);
                 }
                 if value.len() <= j {
                     return false;

@@ -7,7 +7,7 @@ use mathlib.Core.Bool.{Bool, true, false, true≢false}
 use mathlib.Core.List.{List, []}
 use lib.ListN.{length, drop, length-append}
 use Rattle.paper.specs.Locations.{spans}
-use Rattle.paper.specs.Translation.{codingText, letters, dropStop, hasStopInside}
+use Rattle.paper.specs.Translation.{Code, codingText, letters, dropStop, hasStopInside}
 use Rattle.protein_codons.specs.declared.Reading.{Reading}
 use Rattle.protein_codons.specs.Reading.{Ready, spanLetters, TextLeft, Onward, Gives, LetterIs, Begins}
 use Rattle.protein_codons.specs.Letters.{Clear}
@@ -39,27 +39,27 @@ module _ {room : ℕ} (a : Count) (k : ℕ) (w : a .n ≤ room) where
 -- ---- the loop
 
 -- m letters were counted; with those that x leaves they are l
-record Tallied (s loc : List ℕ) (L : ℕ) (x : Reading) (l : List ℕ) (room : ℕ) (a : Count) : Type 0 where
+record Tallied (gc : Code) (s loc : List ℕ) (L : ℕ) (x : Reading) (l : List ℕ) (room : ℕ) (a : Count) : Type 0 where
   m : ℕ
   rest : List ℕ
   left : TextLeft s loc L x rest
   tally : Tally room m (a .n) (a .over)
-  clear : hasStopInside l ≡ hasStopInside (letters rest)
-  long : length (dropStop l) ≡ m + length (dropStop (letters rest))
+  clear : hasStopInside l ≡ hasStopInside (letters gc rest)
+  long : length (dropStop l) ≡ m + length (dropStop (letters gc rest))
 
 -- its invariant
-pub record Measuring (s loc : List ℕ) (L : ℕ) (from : Reading) (room : ℕ) (x : Reading) (a : Count) : Type 0 where
+pub record Measuring (gc : Code) (s loc : List ℕ) (L : ℕ) (from : Reading) (room : ℕ) (x : Reading) (a : Count) : Type 0 where
   pub ready : Ready (length s) x
   pub within : a .n ≤ room
-  gives : (text : List ℕ) → TextLeft s loc L from text → Tallied s loc L x (letters text) room a
+  gives : (text : List ℕ) → TextLeft s loc L from text → Tallied gc s loc L x (letters gc text) room a
 
 -- the answer, for whichever text is left at the start
-pub record Tells (s loc : List ℕ) (L : ℕ) (from : Reading) (room : ℕ) (r : Size) : Type 0 where
+pub record Tells (gc : Code) (s loc : List ℕ) (L : ℕ) (from : Reading) (room : ℕ) (r : Size) : Type 0 where
   within : SizeWithin room r
-  says : (text : List ℕ) → TextLeft s loc L from text → Measured (letters text) room r
+  says : (text : List ℕ) → TextLeft s loc L from text → Measured (letters gc text) room r
 
-module _ {s loc : List ℕ} {L : ℕ} {from : Reading} {room : ℕ} where
-  pub measuring-start : Ready (length s) from → Measuring s loc L from room from (record { n = 0; over = false })
+module _ {gc : Code} {s loc : List ℕ} {L : ℕ} {from : Reading} {room : ℕ} where
+  pub measuring-start : Ready (length s) from → Measuring gc s loc L from room from (record { n = 0; over = false })
   measuring-start r =
       record {
         ready = r;
@@ -67,26 +67,32 @@ module _ {s loc : List ℕ} {L : ℕ} {from : Reading} {room : ℕ} where
         gives = λ text h. record { m = 0; rest = text; left = h; tally = (refl, omega arith); clear = refl; long = omega arith };
       }
 
-  module _ {x : Reading} {a : Count} (f : Measuring s loc L from room x a) where
-    pub measuring-end : Finished s loc L x → Tells s loc L from room (sizeOf (a .n) (a .over))
-    measuring-end g = record { within = within (a .over); says = λ text h. let c = f .gives text h in said (letters text) (c .rest) (c .m) (a .over) (c .clear) (c .long) (c .tally) (g .is (c .rest) (c .left)) }
+  module _ {x : Reading} {a : Count} (f : Measuring gc s loc L from room x a) where
+    pub measuring-end : Finished gc s loc L x → Tells gc s loc L from room (sizeOf (a .n) (a .over))
+    measuring-end g =
+        record {
+          within = within (a .over);
+          says = λ text h.
+              let c = f .gives text h in
+              said (letters gc text) (c .rest) (c .m) (a .over) (c .clear) (c .long) (c .tally) (g .is (c .rest) (c .left));
+        }
       where
         within : (over : Bool) → SizeWithin room (sizeOf (a .n) over)
         within true = tt
         within false = f .within
 
-        said : (l rest : List ℕ) (m : ℕ) (over : Bool) → hasStopInside l ≡ hasStopInside (letters rest)
-            → length (dropStop l) ≡ m + length (dropStop (letters rest)) → Tally room m (a .n) over
-            → (hasStopInside (letters rest) ≡ false) × (dropStop (letters rest) ≡ []) → Measured l room (sizeOf (a .n) over)
+        said : (l rest : List ℕ) (m : ℕ) (over : Bool) → hasStopInside l ≡ hasStopInside (letters gc rest)
+            → length (dropStop l) ≡ m + length (dropStop (letters gc rest)) → Tally room m (a .n) over
+            → (hasStopInside (letters gc rest) ≡ false) × (dropStop (letters gc rest) ≡ []) → Measured l room (sizeOf (a .n) over)
         said l rest m true p q t z = let e = ap length (z .1) in (p ∙ z .0, omega arith)
         said l rest m false p q t z = let e = ap length (z .1) in (p ∙ z .0, omega (arith, t .0), omega (arith, t .0))
 
-    pub measuring-stop : ((rest : List ℕ) → TextLeft s loc L x rest → hasStopInside (letters rest) ≡ true) → Tells s loc L from room size.Stop
+    pub measuring-stop : ((rest : List ℕ) → TextLeft s loc L x rest → hasStopInside (letters gc rest) ≡ true) → Tells gc s loc L from room size.Stop
     measuring-stop g = record { within = tt; says = λ text h. let v = f .gives text h in v .clear ∙ g (v .rest) (v .left) }
 
     -- letters passed: a run of them, or one
-    measuring-on : {d : List ℕ} {k : ℕ} {y : Reading} {b : Count} → Gives s loc L x d y → Front d k → Counted room a k b
-        → Measuring s loc L from room y b
+    measuring-on : {d : List ℕ} {k : ℕ} {y : Reading} {b : Count} → Gives gc s loc L x d y → Front d k → Counted room a k b
+        → Measuring gc s loc L from room y b
     measuring-on {d} {k} {y} {b} g q w =
         record {
           ready = g .ready;
@@ -94,7 +100,7 @@ module _ {s loc : List ℕ} {L : ℕ} {from : Reading} {room : ℕ} where
           gives = λ text h.
               let v = f .gives text h in
               let u = g .gives (v .rest) (v .left) in
-              let l = letters (u .others) in
+              let l = letters gc (u .others) in
               let e = ap (λ (z : List ℕ). length (dropStop z)) (u .is) ∙ ap length (keep-front q l) ∙ length-append d (dropStop l) in
               record {
                 m = v .m + k;
@@ -106,28 +112,28 @@ module _ {s loc : List ℕ} {L : ℕ} {from : Reading} {room : ℕ} where
               };
         }
 
-    pub measuring-run : {k : ℕ} {y : Reading} {b : Count} → Onward x k y → Clear (x .low) (x .high) (spanLetters s (x .low) (x .high) (x .turned)) k
-        → Counted room a k b → Measuring s loc L from room y b
+    pub measuring-run : {k : ℕ} {y : Reading} {b : Count} → Onward x k y → Clear (x .low) (x .high) (spanLetters gc s (x .low) (x .high) (x .turned)) k
+        → Counted room a k b → Measuring gc s loc L from room y b
     measuring-run {k} o w =
-        measuring-on (run-gives s (f .ready) o)
-        (front-take (span-within s (x .low) (x .high) (x .turned) k (w .within) (f .ready .inside)) (w .clear))
+        measuring-on (run-gives s (f .ready) o gc)
+        (front-take (span-within gc s (x .low) (x .high) (x .turned) k (w .within) (f .ready .inside)) (w .clear))
 
-    pub measuring-one : {c : ℕ} {y : Reading} {b : Count} → LetterIs s loc L x c y → (c ≡ code "*" → ⊥) → Counted room a 1 b
-        → Measuring s loc L from room y b
+    pub measuring-one : {c : ℕ} {y : Reading} {b : Count} → LetterIs gc s loc L x c y → (c ≡ code "*" → ⊥) → Counted room a 1 b
+        → Measuring gc s loc L from room y b
     measuring-one g n = measuring-on (g .one) (front-one n)
 
 -- ---- the answer
 
-module _ {s loc : List ℕ} {L start room : ℕ} where
-  pub measures : {from : Reading} {r : Size} → Begins s loc L start from → Tells s loc L from room r → Measures s loc L start room r
+module _ {gc : Code} {s loc : List ℕ} {L start room : ℕ} where
+  pub measures : {from : Reading} {r : Size} → Begins s loc L start from → Tells gc s loc L from room r → Measures gc s loc L start room r
   measures b g = record { within = g .within; says = λ t h. g .says (drop (start - 1) (codingText s (spans t))) (b .leaves t h) }
 
   -- nothing is promised where the residues are not L
-  pub measures-none : length s < L → Measures s loc L start room size.Stop
+  pub measures-none : length s < L → Measures gc s loc L start room size.Stop
   measures-none k = record { within = tt; says = λ t h. absurd (let e = h .sized in omega arith) }
 
-  pub measures-are : {r q : Size} → Measures s loc L start room r → r ≡ q → Measures s loc L start room q
-  measures-are h e = subst (Measures s loc L start room) e h
+  pub measures-are : {r q : Size} → Measures gc s loc L start room r → r ≡ q → Measures gc s loc L start room q
+  measures-are h e = subst (Measures gc s loc L start room) e h
 
 -- ---- two answers that are allowed are equal
 

@@ -5,7 +5,7 @@ use mathlib.Core.Bool.{Bool, true, false}
 use mathlib.Core.List.{List}
 use lib.ListN.{length}
 use Rattle.paper.specs.Locations.{Location}
-use Rattle.paper.specs.Translation.{dropStop, hasStopInside}
+use Rattle.paper.specs.Translation.{Code, dropStop, hasStopInside}
 use Rattle.protein_codons.specs.Reading.{Codes}
 use Rattle.protein_codons.specs.Letters.{lettersOf}
 use Rattle.protein_measure.specs.declared.Count.{Count}
@@ -38,6 +38,6 @@ SizeWithin room (size.Is n) = n ≤ room
 SizeWithin room size.Short = Unit {0}
 SizeWithin room size.Stop = Unit {0}
 
-pub record Measures (s loc : List ℕ) (L start room : ℕ) (r : Size) : Type 0 where
+pub record Measures (gc : Code) (s loc : List ℕ) (L start room : ℕ) (r : Size) : Type 0 where
   pub within : SizeWithin room r
-  pub says : (t : Location) → Codes s loc L t → Measured (lettersOf s start t) room r
+  pub says : (t : Location) → Codes s loc L t → Measured (lettersOf gc s start t) room r

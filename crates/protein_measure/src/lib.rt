@@ -1,5 +1,5 @@
-// Translations measured: a translation's length, with no room and nothing written; and whether a stop stands inside. It relies on the paper, on
-// the reading of the coding text and on the tests of blocks; parameters and lent tables are as in protein_codons.
+// Translations measured: a translation's length, with no room and nothing written; and whether a stop stands inside. It relies on the
+// paper, on the reading of the coding text and on the tests of blocks; parameters and the lent table are as in protein_codons.
 use protein_blocks::mark_table;
 use protein_blocks::stops;
 use protein_codons::Letter;
@@ -13,7 +13,7 @@ use protein_codons::onward;
 ghost use mathlib.Core.Path.{_≡_};
 ghost use Prim.Native.Nat.{_+_, _*_, _≤_};
 ghost use lib.ListN.{length};
-ghost use Rattle.protein_code.specs.Tables.{SetTable, TurnTable, LetterTable};
+ghost use Rattle.protein_code.specs.Tables.{Coded, codeOf};
 ghost use Rattle.protein_codons.specs.Reading.{spanLetters};
 ghost use Rattle.protein_codons.specs.Letters.{Clear};
 ghost use Rattle.protein_measure.specs.Measuring.{Counted, sizeOf, Measures};
@@ -64,21 +64,17 @@ fn clear_each(
     turned: bool,
     from: usize,
     end: usize,
-    sets: &[u8; 256],
-    turns: &[u8; 256],
-    table: &[u8; 4096],
+    code: &[u8; 5128],
 ) -> usize
     requires { ⌜ high ≤ length (now r) ⌝ }
-    requires { ⌜ Clear low high (spanLetters (now r) low high turned) from ⌝ }
+    requires { ⌜ Clear low high (spanLetters (codeOf (now code)) (now r) low high turned) from ⌝ }
     requires { ⌜ low + 3 * end ≤ high ⌝ }
-    requires { ⌜ SetTable (now sets) ⌝ }
-    requires { ⌜ TurnTable (now turns) ⌝ }
-    requires { ⌜ LetterTable (now table) ⌝ }
-    ensures { λ n. ⌜ Clear low high (spanLetters (now (r .entry)) low high turned) n ⌝ }
+    requires { ⌜ Coded (now code) ⌝ }
+    ensures { λ n. ⌜ Clear low high (spanLetters (codeOf (now (code .entry))) (now (r .entry)) low high turned) n ⌝ }
 {
     let mut k = from;
     while k < end {
-        if letter_at(r, low, high, turned, k, sets, turns, table) == b'*' {
+        if letter_at(r, low, high, turned, k, code) == b'*' {
             return k;
         }
         k += 1;
@@ -87,10 +83,18 @@ fn clear_each(
 }
 
 // The same in blocks, as far as no block may have a stop and two residues more stand behind it.
-fn clear_blocks(r: &[u8], low: usize, high: usize, turned: bool, from: usize) -> usize
+fn clear_blocks(
+    r: &[u8],
+    low: usize,
+    high: usize,
+    turned: bool,
+    from: usize,
+    code: &[u8; 5128],
+) -> usize
     requires { ⌜ high ≤ length (now r) ⌝ }
-    requires { ⌜ Clear low high (spanLetters (now r) low high turned) from ⌝ }
-    ensures { λ n. ⌜ Clear low high (spanLetters (now (r .entry)) low high turned) n ⌝ }
+    requires { ⌜ Coded (now code) ⌝ }
+    requires { ⌜ Clear low high (spanLetters (codeOf (now code)) (now r) low high turned) from ⌝ }
+    ensures { λ n. ⌜ Clear low high (spanLetters (codeOf (now (code .entry))) (now (r .entry)) low high turned) n ⌝ }
 {
     let whole = (high - low) / 3;
     if whole - from < 64 {
@@ -103,7 +107,7 @@ fn clear_blocks(r: &[u8], low: usize, high: usize, turned: bool, from: usize) ->
         if r.len() - at < 194 {
             return k;
         }
-        if stops(r, at, turned, &marks) != 0 {
+        if stops(r, at, turned, &marks, code) != 0 {
             return k;
         }
         k += 64;
@@ -111,63 +115,43 @@ fn clear_blocks(r: &[u8], low: usize, high: usize, turned: bool, from: usize) ->
     k
 }
 
-// How many codons at the front of a span are no stop. The first is looked up: then two residues stand behind a block on the complemented strand too.
-fn clear(
-    r: &[u8],
-    low: usize,
-    high: usize,
-    turned: bool,
-    sets: &[u8; 256],
-    turns: &[u8; 256],
-    table: &[u8; 4096],
-) -> usize
+// How many codons at the front of a span are no stop. The first is looked up: then two residues stand behind a block on the complemented
+// strand too.
+fn clear(r: &[u8], low: usize, high: usize, turned: bool, code: &[u8; 5128]) -> usize
     requires { ⌜ low ≤ high ⌝ }
     requires { ⌜ high ≤ length (now r) ⌝ }
-    requires { ⌜ SetTable (now sets) ⌝ }
-    requires { ⌜ TurnTable (now turns) ⌝ }
-    requires { ⌜ LetterTable (now table) ⌝ }
-    ensures { λ n. ⌜ Clear low high (spanLetters (now (r .entry)) low high turned) n ⌝ }
+    requires { ⌜ Coded (now code) ⌝ }
+    ensures { λ n. ⌜ Clear low high (spanLetters (codeOf (now (code .entry))) (now (r .entry)) low high turned) n ⌝ }
 {
     let whole = (high - low) / 3;
-    let first = clear_each(r, low, high, turned, 0, least(whole, 1), sets, turns, table);
-    let k = clear_blocks(r, low, high, turned, first);
-    clear_each(r, low, high, turned, k, whole, sets, turns, table)
+    let first = clear_each(r, low, high, turned, 0, least(whole, 1), code);
+    let k = clear_blocks(r, low, high, turned, first, code);
+    clear_each(r, low, high, turned, k, whole, code)
 }
 
 // The translation's length, for room of so many bytes.
-pub fn measure(
-    r: &[u8],
-    loc: &[u8],
-    top: u32,
-    frame: usize,
-    room: usize,
-    sets: &[u8; 256],
-    turns: &[u8; 256],
-    table: &[u8; 4096],
-) -> Size
-    requires { ⌜ SetTable (now sets) ⌝ }
-    requires { ⌜ TurnTable (now turns) ⌝ }
-    requires { ⌜ LetterTable (now table) ⌝ }
-    ensures { λ y. ⌜ Measures (now (r .entry)) (now (loc .entry)) top frame room y ⌝ }
+pub fn measure(r: &[u8], loc: &[u8], top: u32, frame: usize, room: usize, code: &[u8; 5128]) -> Size
+    requires { ⌜ Coded (now code) ⌝ }
+    ensures { λ y. ⌜ Measures (codeOf (now (code .entry))) (now (r .entry)) (now (loc .entry)) top frame room y ⌝ }
 {
     if r.len() < top as usize {
         return Size::Stop;
     }
-    let mut x = begin(r, loc, top, frame, sets, turns);
+    let mut x = begin(r, loc, top, frame, code);
     let mut count = Count { n: 0, over: false };
     loop {
         let low = x.low;
         let high = x.high;
         let turned = x.turned;
-        let k = clear(r, low, high, turned, sets, turns, table);
+        let k = clear(r, low, high, turned, code);
         let passed = counted(count, k, room);
-        match next(r, loc, onward(x, k), top, sets, turns, table) {
+        match next(r, loc, onward(x, k), top, code) {
             Letter::Done => {
                 return sized(passed);
             }
             Letter::Is(c, y) => {
                 if c == b'*' {
-                    if ends(r, loc, y, top, sets, turns, table) {
+                    if ends(r, loc, y, top, code) {
                         return sized(passed);
                     }
                     return Size::Stop;

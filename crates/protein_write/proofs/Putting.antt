@@ -10,7 +10,7 @@ use lib.ListN.{length, take, drop, getD, set, length-append, length-drop}
 use lib.Seq.{take-add, take-at, drop-at, drop-cons, drop-drop, set-split, length-take-le}
 use lib.Dec.{eqb}
 use Rattle.paper.specs.Locations.{spans}
-use Rattle.paper.specs.Translation.{codingText, letters, dropStop}
+use Rattle.paper.specs.Translation.{Code, codingText, letters, dropStop}
 use Rattle.paper.specs.Answers.{front}
 use Rattle.protein_codons.specs.declared.Reading.{Reading}
 use Rattle.protein_codons.specs.Reading.{Ready, spanLetters, TextLeft, Onward, Gives, LetterIs, Begins}
@@ -64,23 +64,23 @@ module _ (l d o : List ℕ) (k n : ℕ) (size : length d ≡ n) (e : drop k l �
   drop-more = sym (drop-drop n k l) ∙ ap (drop n) e ∙ drop-at d o n size
 
 -- of the letters l, k are written and x leaves the others
-pub record Laid (s loc : List ℕ) (L : ℕ) (before after : List ℕ) (x : Reading) (k : ℕ) (l : List ℕ) : Type 0 where
+pub record Laid (gc : Code) (s loc : List ℕ) (L : ℕ) (before after : List ℕ) (x : Reading) (k : ℕ) (l : List ℕ) : Type 0 where
   pub rest : List ℕ
   pub left : TextLeft s loc L x rest
   pub all : k ≤ length l
-  pub others : letters rest ≡ drop k l
+  pub others : letters gc rest ≡ drop k l
   pub holds : after ≡ front (take k l) before
 
 -- the loop's invariant
-pub record Putting (s loc : List ℕ) (L : ℕ) (from : Reading) (count : ℕ) (before after : List ℕ) (x : Reading) (k : ℕ) : Type 0 where
+pub record Putting (gc : Code) (s loc : List ℕ) (L : ℕ) (from : Reading) (count : ℕ) (before after : List ℕ) (x : Reading) (k : ℕ) : Type 0 where
   pub ready : Ready (length s) x
   pub within : k ≤ count
   pub room : count ≤ length before
   pub size : length after ≡ length before
-  pub laid : (text : List ℕ) → TextLeft s loc L from text → Laid s loc L before after x k (letters text)
+  pub laid : (text : List ℕ) → TextLeft s loc L from text → Laid gc s loc L before after x k (letters gc text)
 
-module _ {s loc : List ℕ} {L : ℕ} {from : Reading} {count : ℕ} {before : List ℕ} where
-  pub putting-start : Ready (length s) from → count ≤ length before → Putting s loc L from count before before from 0
+module _ {gc : Code} {s loc : List ℕ} {L : ℕ} {from : Reading} {count : ℕ} {before : List ℕ} where
+  pub putting-start : Ready (length s) from → count ≤ length before → Putting gc s loc L from count before before from 0
   putting-start r h =
       record {
         ready = r;
@@ -90,19 +90,19 @@ module _ {s loc : List ℕ} {L : ℕ} {from : Reading} {count : ℕ} {before : L
         laid = λ text t. record { rest = text; left = t; all = omega arith; others = refl; holds = refl };
       }
 
-  module _ {after : List ℕ} {x : Reading} {k : ℕ} (f : Putting s loc L from count before after x k) where
+  module _ {after : List ℕ} {x : Reading} {k : ℕ} (f : Putting gc s loc L from count before after x k) where
     next-of : (l : List ℕ) → k < length l → drop k l ≡ getD l k 0 ∷ drop (k + 1) l
     next-of l h = rw (add-one k) (drop-cons l k 0 h)
 
-    pub putting-end : count ≤ k → Puts s loc L from count before after
+    pub putting-end : count ≤ k → Puts gc s loc L from count before after
     putting-end h =
         let w = f .within in
         let e : k ≡ count = omega arith in
         record { says = λ text t n. rw (← e) (f .laid text t .holds) }
 
     -- letters laid: a run of them, or one
-    putting-on : {d : List ℕ} {n : ℕ} {y : Reading} {out : List ℕ} → Gives s loc L x d y → length d ≡ n → k + n ≤ count
-        → out ≡ take k after ++ d ++ drop (k + n) after → Putting s loc L from count before out y (k + n)
+    putting-on : {d : List ℕ} {n : ℕ} {y : Reading} {out : List ℕ} → Gives gc s loc L x d y → length d ≡ n → k + n ≤ count
+        → out ≡ take k after ++ d ++ drop (k + n) after → Putting gc s loc L from count before out y (k + n)
     putting-on {d} {n} {y} {out} g size w e =
         record {
           ready = g .ready;
@@ -112,60 +112,61 @@ module _ {s loc : List ℕ} {L : ℕ} {from : Reading} {count : ℕ} {before : L
               ∙ length-append (take k after ++ d) (drop (k + n) after)
               ∙ omega (arith, length-append (take k after) d, length-take-le k after (omega (arith, f .size, f .room)), length-drop (k + n) after, f .size, f .room);
           laid = λ text t.
-              let l = letters text in
+              let l = letters gc text in
               let u = f .laid text t in
               let v = g .gives (u .rest) (u .left) in
-              let z : drop k l ≡ d ++ letters (v .others) = sym (u .others) ∙ v .is in
+              let z : drop k l ≡ d ++ letters gc (v .others) = sym (u .others) ∙ v .is in
               record {
                 rest = v .others;
                 left = v .left;
-                all = omega (arith, u .all, length-drop k l, ap length z, length-append d (letters (v .others)));
-                others = sym (drop-more l d (letters (v .others)) k n size z);
-                holds = e ∙ rw (u .holds, take-more l d (letters (v .others)) k n size z) (front-more (take k l) before d k n (length-take-le k l (u .all)) size);
+                all = omega (arith, u .all, length-drop k l, ap length z, length-append d (letters gc (v .others)));
+                others = sym (drop-more l d (letters gc (v .others)) k n size z);
+                holds = e ∙ rw (u .holds, take-more l d (letters gc (v .others)) k n size z) (front-more (take k l) before d k n (length-take-le k l (u .all)) size);
               };
         }
 
-    pub putting-one : {c : ℕ} {y : Reading} → LetterIs s loc L x c y → k < count → Putting s loc L from count before (set after k c) y (k + 1)
+    pub putting-one : {c : ℕ} {y : Reading} → LetterIs gc s loc L x c y → k < count → Putting gc s loc L from count before (set after k c) y (k + 1)
     putting-one {c} g h =
         putting-on (g .one) refl (omega arith)
         (set-split after k c (omega (arith, f .size, f .room)) ∙ rw (add-one k) (sym (append-assoc (take k after) (c ∷ []) (drop (suc k) after))))
 
     pub putting-run : {n : ℕ} {y : Reading} {out : List ℕ} → Onward x n y
-        → Lays (x .low) (x .high) (spanLetters s (x .low) (x .high) (x .turned)) k count n after out → Putting s loc L from count before out y (k + n)
+        → Lays (x .low) (x .high) (spanLetters gc s (x .low) (x .high) (x .turned)) k count n after out → Putting gc s loc L from count before out y (k + n)
     putting-run {n} o w =
-        let l = spanLetters s (x .low) (x .high) (x .turned) in
-        putting-on (run-gives s (f .ready) o) (length-take-le n l (span-within s (x .low) (x .high) (x .turned) n (w .within) (f .ready .inside))) (w .inside) (w .is)
+        let l = spanLetters gc s (x .low) (x .high) (x .turned) in
+        putting-on (run-gives s (f .ready) o gc) (length-take-le n l (span-within gc s (x .low) (x .high) (x .turned) n (w .within) (f .ready .inside)))
+        (w .inside) (w .is)
 
     module _ (h : k < count) where
-      pub putting-done : ((text : List ℕ) → TextLeft s loc L x text → letters text ≡ []) → Puts s loc L from count before after
+      pub putting-done : ((text : List ℕ) → TextLeft s loc L x text → letters gc text ≡ []) → Puts gc s loc L from count before after
       putting-done g =
           record {
             says = λ text t n.
                 let u = f .laid text t in
-                let z : _≡_ {A = List ℕ} [] (getD (letters text) k 0 ∷ drop (k + 1) (letters text))
-                = sym (g (u .rest) (u .left)) ∙ u .others ∙ next-of (letters text) (omega arith) in
+                let z : _≡_ {A = List ℕ} [] (getD (letters gc text) k 0 ∷ drop (k + 1) (letters gc text))
+                = sym (g (u .rest) (u .left)) ∙ u .others ∙ next-of (letters gc text) (omega arith) in
                 absurd (omega (arith, ap length z));
           }
 
 -- ---- the answer
 
-module _ {s loc : List ℕ} {L start : ℕ} {out : List ℕ} where
-  pub writes-is : {from : Reading} {n : ℕ} {after : List ℕ} → Begins s loc L start from → Measures s loc L start (length out) (size.Is n)
-      → Puts s loc L from n out after → Writes s loc L start out (size.Is n) after
+module _ {gc : Code} {s loc : List ℕ} {L start : ℕ} {out : List ℕ} where
+  pub writes-is : {from : Reading} {n : ℕ} {after : List ℕ} → Begins s loc L start from → Measures gc s loc L start (length out) (size.Is n)
+      → Puts gc s loc L from n out after → Writes gc s loc L start out (size.Is n) after
   writes-is {from} {n} b m p =
       record {
         says = λ t h.
             let w = drop (start - 1) (codingText s (spans t)) in
-            let l = letters w in
+            let l = letters gc w in
             let k = m .says t h in
             let e : take n l ≡ dropStop l = ap (λ (i : ℕ). take i l) (k .1) ∙ sym (translation-front l) in
             (k, p .says w (b .leaves t h) (omega (arith, k .1, translation-short l)) ∙ ap (λ (x : List ℕ). front x out) e);
       }
 
-  pub writes-short : Measures s loc L start (length out) size.Short → Writes s loc L start out size.Short out
+  pub writes-short : Measures gc s loc L start (length out) size.Short → Writes gc s loc L start out size.Short out
   writes-short m = record { says = λ t h. (m .says t h, refl) }
 
-  pub writes-stop : Measures s loc L start (length out) size.Stop → Writes s loc L start out size.Stop out
+  pub writes-stop : Measures gc s loc L start (length out) size.Stop → Writes gc s loc L start out size.Stop out
   writes-stop m = record { says = λ t h. (m .says t h, refl) }
 
 -- two answers that are allowed are equal, and what they leave

@@ -5,7 +5,7 @@ use mathlib.Core.List.{List}
 use lib.ListN.{length, take}
 use lib.Seq.{paste}
 use Rattle.paper.specs.Locations.{Location}
-use Rattle.paper.specs.Translation.{letters, dropStop}
+use Rattle.paper.specs.Translation.{Code, letters, dropStop}
 use Rattle.paper.specs.Answers.{front}
 use Rattle.protein_codons.specs.declared.Reading.{Reading}
 use Rattle.protein_codons.specs.Reading.{Codes, TextLeft}
@@ -30,8 +30,8 @@ pub record Lays (low high : ℕ) (l : List ℕ) (from count n : ℕ) (out after 
 -- ---- in lent room
 
 -- the first letters that are left stand at the front
-pub record Puts (s loc : List ℕ) (L : ℕ) (x : Reading) (count : ℕ) (out after : List ℕ) : Type 0 where
-  pub says : (text : List ℕ) → TextLeft s loc L x text → count ≤ length (letters text) → after ≡ front (take count (letters text)) out
+pub record Puts (gc : Code) (s loc : List ℕ) (L : ℕ) (x : Reading) (count : ℕ) (out after : List ℕ) : Type 0 where
+  pub says : (text : List ℕ) → TextLeft s loc L x text → count ≤ length (letters gc text) → after ≡ front (take count (letters gc text)) out
 
 -- "Success writes the answer at the front and leaves the rest."; a refusal "changes no lent output"
 abbrev pub afterOf : List ℕ → List ℕ → Size → List ℕ
@@ -39,5 +39,5 @@ afterOf l out (size.Is n) = front (dropStop l) out
 afterOf l out size.Short = out
 afterOf l out size.Stop = out
 
-pub record Writes (s loc : List ℕ) (L start : ℕ) (out : List ℕ) (r : Size) (after : List ℕ) : Type 0 where
-  pub says : (t : Location) → Codes s loc L t → Measured (lettersOf s start t) (length out) r × (after ≡ afterOf (lettersOf s start t) out r)
+pub record Writes (gc : Code) (s loc : List ℕ) (L start : ℕ) (out : List ℕ) (r : Size) (after : List ℕ) : Type 0 where
+  pub says : (t : Location) → Codes s loc L t → Measured (lettersOf gc s start t) (length out) r × (after ≡ afterOf (lettersOf gc s start t) out r)

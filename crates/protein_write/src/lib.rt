@@ -1,6 +1,5 @@
-// Translations written: the translation in lent room. It relies on the paper, on the reading of the coding text and on its measuring; parameters and
-// lent tables are as in protein_codons.
-use protein_code::plain_table;
+// Translations written: the translation in lent room. It relies on the paper, on the reading of the coding text and on its measuring;
+// parameters and the lent table are as in protein_codons.
 use protein_codons::Letter;
 use protein_codons::Reading;
 use protein_codons::begin;
@@ -14,8 +13,7 @@ use protein_measure::Size;
 use protein_measure::measure;
 ghost use Prim.Native.Nat.{_+_, _*_, _≤_};
 ghost use lib.ListN.{length};
-ghost use Rattle.protein_code.specs.Tables.{SetTable, TurnTable, LetterTable};
-ghost use Rattle.protein_code.specs.Plain.{PlainTable};
+ghost use Rattle.protein_code.specs.Tables.{Coded, codeOf};
 ghost use Rattle.protein_codons.specs.Reading.{Ready, spanLetters, PlainBlock};
 ghost use Rattle.protein_write.specs.Writing.{LaysOn, Lays, Puts, Writes};
 
@@ -28,23 +26,19 @@ fn lay_each(
     from: usize,
     start: usize,
     end: usize,
-    sets: &[u8; 256],
-    turns: &[u8; 256],
-    table: &[u8; 4096],
+    code: &[u8; 5128],
     out: &mut [u8],
 )
     requires { ⌜ start ≤ end ⌝ }
     requires { ⌜ low + 3 * end ≤ high ⌝ }
     requires { ⌜ high ≤ length (now r) ⌝ }
     requires { ⌜ from + end ≤ length (now out) ⌝ }
-    requires { ⌜ SetTable (now sets) ⌝ }
-    requires { ⌜ TurnTable (now turns) ⌝ }
-    requires { ⌜ LetterTable (now table) ⌝ }
-    ensures { λ _. ⌜ LaysOn (spanLetters (now (r .entry)) low high turned) from start end (now (out .entry)) (now (out .exit)) ⌝ }
+    requires { ⌜ Coded (now code) ⌝ }
+    ensures { λ _. ⌜ LaysOn (spanLetters (codeOf (now (code .entry))) (now (r .entry)) low high turned) from start end (now (out .entry)) (now (out .exit)) ⌝ }
 {
     let mut k = start;
     while k < end {
-        out[from + k] = letter_at(r, low, high, turned, k, sets, turns, table);
+        out[from + k] = letter_at(r, low, high, turned, k, code);
         k += 1;
     }
 }
@@ -57,20 +51,20 @@ fn lay_plain(
     turned: bool,
     from: usize,
     start: usize,
-    plain: &[u8; 256],
+    code: &[u8; 5128],
     out: &mut [u8],
 )
     requires { ⌜ low + 3 * (start + 64) ≤ high ⌝ }
     requires { ⌜ high ≤ length (now r) ⌝ }
     requires { ⌜ PlainBlock (now r) low high turned start ⌝ }
     requires { ⌜ from + (start + 64) ≤ length (now out) ⌝ }
-    requires { ⌜ PlainTable turned (now plain) ⌝ }
-    ensures { λ _. ⌜ LaysOn (spanLetters (now (r .entry)) low high turned) from start (start + 64) (now (out .entry)) (now (out .exit)) ⌝ }
+    requires { ⌜ Coded (now code) ⌝ }
+    ensures { λ _. ⌜ LaysOn (spanLetters (codeOf (now (code .entry))) (now (r .entry)) low high turned) from start (start + 64) (now (out .entry)) (now (out .exit)) ⌝ }
 {
     let end = start + 64;
     let mut k = start;
     while k < end {
-        out[from + k] = plain_at(r, low, high, turned, k, plain);
+        out[from + k] = plain_at(r, low, high, turned, k, code);
         k += 1;
     }
 }
@@ -83,38 +77,20 @@ fn lay_block(
     turned: bool,
     from: usize,
     start: usize,
-    plain: &[u8; 256],
-    sets: &[u8; 256],
-    turns: &[u8; 256],
-    table: &[u8; 4096],
+    code: &[u8; 5128],
     out: &mut [u8],
 )
     requires { ⌜ low + 3 * (start + 64) ≤ high ⌝ }
     requires { ⌜ high ≤ length (now r) ⌝ }
     requires { ⌜ from + (start + 64) ≤ length (now out) ⌝ }
-    requires { ⌜ PlainTable turned (now plain) ⌝ }
-    requires { ⌜ SetTable (now sets) ⌝ }
-    requires { ⌜ TurnTable (now turns) ⌝ }
-    requires { ⌜ LetterTable (now table) ⌝ }
-    ensures { λ _. ⌜ LaysOn (spanLetters (now (r .entry)) low high turned) from start (start + 64) (now (out .entry)) (now (out .exit)) ⌝ }
+    requires { ⌜ Coded (now code) ⌝ }
+    ensures { λ _. ⌜ LaysOn (spanLetters (codeOf (now (code .entry))) (now (r .entry)) low high turned) from start (start + 64) (now (out .entry)) (now (out .exit)) ⌝ }
 {
     if plain_block(r, low, high, turned, start) {
-        lay_plain(r, low, high, turned, from, start, plain, out);
+        lay_plain(r, low, high, turned, from, start, code, out);
         return;
     }
-    lay_each(
-        r,
-        low,
-        high,
-        turned,
-        from,
-        start,
-        start + 64,
-        sets,
-        turns,
-        table,
-        out,
-    );
+    lay_each(r, low, high, turned, from, start, start + 64, code, out);
 }
 
 // The same for all blocks of the first `whole` codons: how many codons.
@@ -125,38 +101,21 @@ fn lay_blocks(
     turned: bool,
     from: usize,
     whole: usize,
-    sets: &[u8; 256],
-    turns: &[u8; 256],
-    table: &[u8; 4096],
+    code: &[u8; 5128],
     out: &mut [u8],
 ) -> usize
     requires { ⌜ low + 3 * whole ≤ high ⌝ }
     requires { ⌜ high ≤ length (now r) ⌝ }
     requires { ⌜ from + whole ≤ length (now out) ⌝ }
-    requires { ⌜ SetTable (now sets) ⌝ }
-    requires { ⌜ TurnTable (now turns) ⌝ }
-    requires { ⌜ LetterTable (now table) ⌝ }
-    ensures { λ n. ⌜ (n ≤ whole) × LaysOn (spanLetters (now (r .entry)) low high turned) from 0 n (now (out .entry)) (now (out .exit)) ⌝ }
+    requires { ⌜ Coded (now code) ⌝ }
+    ensures { λ n. ⌜ (n ≤ whole) × LaysOn (spanLetters (codeOf (now (code .entry))) (now (r .entry)) low high turned) from 0 n (now (out .entry)) (now (out .exit)) ⌝ }
 {
     if whole < 64 {
         return 0;
     }
-    let plain = plain_table(turned);
     let mut k: usize = 0;
     while 64 <= whole - k {
-        lay_block(
-            r,
-            low,
-            high,
-            turned,
-            from,
-            k,
-            &plain,
-            sets,
-            turns,
-            table,
-            out,
-        );
+        lay_block(r, low, high, turned, from, k, code, out);
         k += 64;
     }
     k
@@ -170,35 +129,19 @@ fn lay(
     turned: bool,
     from: usize,
     count: usize,
-    sets: &[u8; 256],
-    turns: &[u8; 256],
-    table: &[u8; 4096],
+    code: &[u8; 5128],
     out: &mut [u8],
 ) -> usize
     requires { ⌜ low ≤ high ⌝ }
     requires { ⌜ high ≤ length (now r) ⌝ }
     requires { ⌜ from ≤ count ⌝ }
     requires { ⌜ count ≤ length (now out) ⌝ }
-    requires { ⌜ SetTable (now sets) ⌝ }
-    requires { ⌜ TurnTable (now turns) ⌝ }
-    requires { ⌜ LetterTable (now table) ⌝ }
-    ensures { λ n. ⌜ Lays low high (spanLetters (now (r .entry)) low high turned) from count n (now (out .entry)) (now (out .exit)) ⌝ }
+    requires { ⌜ Coded (now code) ⌝ }
+    ensures { λ n. ⌜ Lays low high (spanLetters (codeOf (now (code .entry))) (now (r .entry)) low high turned) from count n (now (out .entry)) (now (out .exit)) ⌝ }
 {
     let whole = least((high - low) / 3, count - from);
-    let k = lay_blocks(r, low, high, turned, from, whole, sets, turns, table, out);
-    lay_each(
-        r,
-        low,
-        high,
-        turned,
-        from,
-        k,
-        whole,
-        sets,
-        turns,
-        table,
-        out,
-    );
+    let k = lay_blocks(r, low, high, turned, from, whole, code, out);
+    lay_each(r, low, high, turned, from, k, whole, code, out);
     whole
 }
 
@@ -209,18 +152,14 @@ fn put(
     from: Reading,
     top: u32,
     count: usize,
-    sets: &[u8; 256],
-    turns: &[u8; 256],
-    table: &[u8; 4096],
+    code: &[u8; 5128],
     out: &mut [u8],
 )
     requires { ⌜ top ≤ length (now r) ⌝ }
     requires { ⌜ Ready (length (now r)) from ⌝ }
-    requires { ⌜ SetTable (now sets) ⌝ }
-    requires { ⌜ TurnTable (now turns) ⌝ }
-    requires { ⌜ LetterTable (now table) ⌝ }
+    requires { ⌜ Coded (now code) ⌝ }
     requires { ⌜ count ≤ length (now out) ⌝ }
-    ensures { λ _. ⌜ Puts (now (r .entry)) (now (loc .entry)) top from count (now (out .entry)) (now (out .exit)) ⌝ }
+    ensures { λ _. ⌜ Puts (codeOf (now (code .entry))) (now (r .entry)) (now (loc .entry)) top from count (now (out .entry)) (now (out .exit)) ⌝ }
 {
     let mut x = from;
     let mut k: usize = 0;
@@ -228,13 +167,13 @@ fn put(
         let low = x.low;
         let high = x.high;
         let turned = x.turned;
-        let n = lay(r, low, high, turned, k, count, sets, turns, table, out);
+        let n = lay(r, low, high, turned, k, count, code, out);
         let j = k + n;
         let passed = onward(x, n);
         if count <= j {
             return;
         }
-        match next(r, loc, passed, top, sets, turns, table) {
+        match next(r, loc, passed, top, code) {
             Letter::Done => {
                 return;
             }
@@ -253,32 +192,18 @@ pub fn write(
     loc: &[u8],
     top: u32,
     frame: usize,
-    sets: &[u8; 256],
-    turns: &[u8; 256],
-    table: &[u8; 4096],
+    code: &[u8; 5128],
     out: &mut [u8],
 ) -> Size
-    requires { ⌜ SetTable (now sets) ⌝ }
-    requires { ⌜ TurnTable (now turns) ⌝ }
-    requires { ⌜ LetterTable (now table) ⌝ }
-    ensures { λ y. ⌜ Writes (now (r .entry)) (now (loc .entry)) top frame (now (out .entry)) y (now (out .exit)) ⌝ }
+    requires { ⌜ Coded (now code) ⌝ }
+    ensures { λ y. ⌜ Writes (codeOf (now (code .entry))) (now (r .entry)) (now (loc .entry)) top frame (now (out .entry)) y (now (out .exit)) ⌝ }
 {
     if r.len() < top as usize {
         return Size::Stop;
     }
-    match measure(r, loc, top, frame, out.len(), sets, turns, table) {
+    match measure(r, loc, top, frame, out.len(), code) {
         Size::Is(n) => {
-            put(
-                r,
-                loc,
-                begin(r, loc, top, frame, sets, turns),
-                top,
-                n,
-                sets,
-                turns,
-                table,
-                out,
-            );
+            put(r, loc, begin(r, loc, top, frame, code), top, n, code, out);
             return Size::Is(n);
         }
         Size::Short => {

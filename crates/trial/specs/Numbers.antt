@@ -11,6 +11,7 @@ use Rattle.location_judge.specs.declared.judging.Facts.{Facts}
 use Rattle.location_judge.specs.declared.judging.Verdict.the-variants.{Bad, Is}
 use Rattle.location_spans.specs.declared.room.Answer.{Answer}
 use Rattle.location_spans.specs.declared.room.Answer.the-variants as answer
+use Rattle.paper.specs.Translation.{code1}
 use Rattle.protein_compare.specs.Comparing.{Compares}
 use Rattle.protein_write.specs.Writing.{Writes}
 use Rattle.protein_measure.specs.declared.Size.{Size}
@@ -64,11 +65,11 @@ sizeLength size.Stop = 0
 
 pub record TranslationNumbers (s loc : List ℕ) (L start : ℕ) (out : List ℕ) (number length : ℕ) (after : List ℕ) : Type 0 where
   pub says : Size
-  pub writes : Writes s loc L start out says after
+  pub writes : Writes code1 s loc L start out says after
   pub number-is : number ≡ sizeNumber says
   pub length-is : length ≡ sizeLength says
 
 pub record RightNumbers (s loc : List ℕ) (L start : ℕ) (value : List ℕ) (number : ℕ) : Type 0 where
   pub says : Bool
-  pub compares : Compares s loc L start value says
+  pub compares : Compares code1 s loc L start value says
   pub number-is : number ≡ mark says 1

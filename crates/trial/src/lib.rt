@@ -115,10 +115,8 @@ pub extern "C" fn trial_translation(
 ) -> u32
     ensures { λ n. ⌜ TranslationNumbers (now (r .entry)) (now (loc .entry)) top frame (now (out .entry)) n (now (size .exit)) (now (out .exit)) ⌝ }
 {
-    let sets = protein_code::set_table();
-    let turns = protein_code::turn_table();
-    let table = protein_code::letter_table();
-    match protein_write::write(r, loc, top, frame, &sets, &turns, &table, out) {
+    let code = protein_code::code_table();
+    match protein_write::write(r, loc, top, frame, &code, out) {
         Size::Is(n) => {
             *size = n;
             0
@@ -139,9 +137,7 @@ pub extern "C" fn trial_translation(
 pub extern "C" fn trial_is_right(r: &[u8], loc: &[u8], top: u32, frame: usize, value: &[u8]) -> u32
     ensures { λ n. ⌜ RightNumbers (now (r .entry)) (now (loc .entry)) top frame (now (value .entry)) n ⌝ }
 {
-    let sets = protein_code::set_table();
-    let turns = protein_code::turn_table();
-    let table = protein_code::letter_table();
-    let right = protein_compare::is_right(r, loc, top, frame, value, &sets, &turns, &table);
+    let code = protein_code::code_table();
+    let right = protein_compare::is_right(r, loc, top, frame, value, &code);
     flag(right, 1)
 }

@@ -1,5 +1,5 @@
-// The values of the header's texts: dates, and the codes of offices and languages. Each test takes the raw part of the listing, as those of the
-// crate value_words do, on whose laws it relies. It knows no element of the listing.
+// The values of the header's texts: dates, and the codes of offices and languages. Each test takes the raw part of the listing, as those
+// of the crate value_words do, on whose laws it relies. It knows no element of the listing.
 ghost use mathlib.Core.Path.{_≡_};
 ghost use Rattle.paper.specs.Values.{Date, Two, isUpper, isLower, isLeap, daysIn};
 ghost use Rattle.value_words.specs.Reading.{Tells, OfRead};

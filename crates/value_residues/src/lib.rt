@@ -1,5 +1,6 @@
-// The residues of a sequence: how many characters they are, the first that is no symbol of its kind, and whether enough of them are defined.
-// Relies on the paper, and on the laws of value_words: what a test tells, and what is written as it reads. It calls none of its functions.
+// The residues of a sequence: how many characters they are, the first that is no symbol of its kind, and whether enough of them are
+// defined. Relies on the paper, and on the laws of value_words: what a test tells, and what is written as it reads. It calls none of its
+// functions.
 ghost use Prim.Native.Nat.{_+_, _≤_};
 ghost use lib.ListN.{length};
 ghost use Rattle.value_residues.specs.Residues.{Characters, SymbolTable, Symbols, Differs, Strange, Block, Foreign, HasDefined};

@@ -1,6 +1,6 @@
-// The header of a listing that is known to be laid out: where the texts stand that a rule asks of, the titles, the total and the first sequence.
-// A promise speaks of whatever listing is laid out so; of other bytes it says nothing.
-// Relies on the paper and the steps of the walk, and in its proofs on the laws of read_steps and read_tags of what may follow what.
+// The header of a listing that is known to be laid out: where the texts stand that a rule asks of, the titles, the total and the first
+// sequence. A promise speaks of whatever listing is laid out so; of other bytes it says nothing. Relies on the paper and the steps of the
+// walk, and in its proofs on the laws of read_steps and read_tags of what may follow what.
 use walk_steps::Found;
 use walk_steps::FoundMaybe;
 use walk_steps::Maybe;

@@ -1,4 +1,5 @@
--- No feature has in it what a feature table's end tag starts with: none of the words has that it is written with. So the first such place is the table's end.
+-- No feature has in it what a feature table's end tag starts with: none of the words has that it is written with. So the first such place
+-- is the table's end.
 use Prim.Native.Nat.{ℕ, zero, suc, _+_, _-_, _≤_, _<_}
 use native.Mathlib.Decide.{decLe, decLt}
 use native.Mathlib.Omega.{arith}

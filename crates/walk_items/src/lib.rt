@@ -1,6 +1,6 @@
-// The items of a listing that is known to be laid out: where the texts of a qualifier, a feature and a sequence stand, and what comes next.
-// A promise speaks of whatever item of the tree stands at the place; of other bytes it says nothing.
-// Relies on the paper and the steps of the walk, and in its proofs on the laws of read_steps of what may follow what.
+// The items of a listing that is known to be laid out: where the texts of a qualifier, a feature and a sequence stand, and what comes
+// next. A promise speaks of whatever item of the tree stands at the place; of other bytes it says nothing. Relies on the paper and the
+// steps of the walk, and in its proofs on the laws of read_steps of what may follow what.
 use walk_steps::Found;
 use walk_steps::FoundMaybe;
 use walk_steps::Maybe;
@@ -135,7 +135,8 @@ pub fn feature_over(s: &[u8], at: usize) -> usize
 
 // ---- the end of a feature table
 
-// 1 for `<` and, six bytes further, `S`: so starts `</INSDSeq_feature-table`, and no tag inside the table. As a number, to be joined without a branch.
+// 1 for `<` and, six bytes further, `S`: so starts `</INSDSeq_feature-table`, and no tag inside the table. As a number, to be joined
+// without a branch.
 fn ending(a: u8, b: u8) -> u8
     ensures { λ r. ⌜ Ending a b r ⌝ }
 {

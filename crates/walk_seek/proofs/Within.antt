@@ -1,4 +1,5 @@
--- The feature of a sequence that was found and the qualifier of a feature that was found, from where they stand; and the refusals 32 and 33.
+-- The feature of a sequence that was found and the qualifier of a feature that was found, from where they stand; and the refusals 32 and
+-- 33.
 use Prim.Native.Nat.{ℕ}
 use mathlib.Core.Path.{_≡_, refl, sym, ap, _∙_, subst}
 use mathlib.Core.Bool.{true, false, not, true≢false}

@@ -1,4 +1,5 @@
--- What is promised of the feature of a sequence that was found, and of the qualifier of a feature that was found: which of the paper's tree it is.
+-- What is promised of the feature of a sequence that was found, and of the qualifier of a feature that was found: which of the paper's
+-- tree it is.
 use Prim.Native.Nat.{ℕ}
 use mathlib.Core.Path.{_≡_}
 use mathlib.Core.List.{List}

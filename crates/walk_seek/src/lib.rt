@@ -1,6 +1,6 @@
-// The item of a number: the sequence, feature or qualifier number k of those that stand from a place on; the feature of a sequence that was found,
-// and the qualifier of a feature that was found, with the refusals 32 and 33.
-// Relies on the walk along the items only, not on the check.
+// The item of a number: the sequence, feature or qualifier number k of those that stand from a place on; the feature of a sequence that
+// was found, and the qualifier of a feature that was found, with the refusals 32 and 33. Relies on the walk along the items only, not on
+// the check.
 use walk_items::FoundFeature;
 use walk_items::FoundQualifier;
 use walk_items::FoundSequence;

@@ -7,14 +7,8 @@ use Rattle.ask_check.proofs.judge.Tie as tie
 symbol-table-requires : tie.Need-symbol-table-requires
 symbol-table-requires c κs = search needs
 
-set-table-requires : tie.Need-set-table-requires
-set-table-requires c κs = search needs
-
-turn-table-requires : tie.Need-turn-table-requires
-turn-table-requires c κs = search needs
-
-letter-table-requires : tie.Need-letter-table-requires
-letter-table-requires c κs = search needs
+code-table-requires : tie.Need-code-table-requires
+code-table-requires c κs = search needs
 
 judge-header-requires : tie.Need-judge-header-requires
 judge-header-requires c κs = search needs
@@ -39,7 +33,7 @@ earlier-requires-2 c κs = search needs
 
 returns : tie.Need-returns
 returns c =
-    let judge-header = c .before .before .before .before .before .before .before .before .before .before .before .judge-header in
+    let judge-header = c .before .before .before .before .before .before .before .before .before .judge-header in
     let judge-sequences = c .before .before .before .before .before .judge-sequences in
     listing-judged (c .before .earlier .result) (c .earlier2 .result) (judge-header .ensures) (judge-sequences .ensures)
     (c .before .before .before .before .bytes-of .ensures) (c .before .before .before .is-number .ensures)
@@ -50,9 +44,7 @@ judge-spec =
     tie.close
     (tie.spec
     symbol-table-requires
-    set-table-requires
-    turn-table-requires
-    letter-table-requires
+    code-table-requires
     judge-header-requires
     judge-sequences-requires
     bytes-of-requires

@@ -19,14 +19,8 @@ enum-known-sequence c = search needs
 known-of-requires : tie.Need-known-of-requires
 known-of-requires c κs = search needs
 
-set-table-requires : tie.Need-set-table-requires
-set-table-requires c κs = search needs
-
-turn-table-requires : tie.Need-turn-table-requires
-turn-table-requires c κs = search needs
-
-letter-table-requires : tie.Need-letter-table-requires
-letter-table-requires c κs = search needs
+code-table-requires : tie.Need-code-table-requires
+code-table-requires c κs = search needs
 
 translate-requires : tie.Need-translate-requires
 translate-requires c κs = search needs
@@ -42,10 +36,10 @@ same-length c = search needs
 
 returns-2 : tie.Need-returns-2
 returns-2 c =
-    let args = c .before .before .before .before .before .before .before .before .before .before .before .before .before .before .before .before .before .args in
-    let find-feature = c .before .before .before .before .before .before .before .before .before .before .before .before .before .before .find-feature in
-    let sequence = c .before .before .before .before .before .before .before .before .before .before .before .before .sequence in
-    let known-of = c .before .before .before .before .before .before .before .before .before .before .known-of in
+    let args = c .before .before .before .before .before .before .before .before .before .before .before .before .before .args in
+    let find-feature = c .before .before .before .before .before .before .before .before .before .before .find-feature in
+    let sequence = c .before .before .before .before .before .before .before .before .sequence in
+    let known-of = c .before .before .before .before .before .before .known-of in
     translation-found (subst (FeatureAsked (now (args .listing)) (args .k) (args .j)) (sequence .given .1) (find-feature .ensures))
     (known-of .ensures) (c .before .before .translate .ensures)
 
@@ -57,9 +51,7 @@ translation-spec =
     enum-known-rule
     enum-known-sequence
     known-of-requires
-    set-table-requires
-    turn-table-requires
-    letter-table-requires
+    code-table-requires
     translate-requires
     returns
     same-length

@@ -19,14 +19,8 @@ enum-known-sequence c = search needs
 known-of-requires : tie.Need-known-of-requires
 known-of-requires c κs = search needs
 
-set-table-requires : tie.Need-set-table-requires
-set-table-requires c κs = search needs
-
-turn-table-requires : tie.Need-turn-table-requires
-turn-table-requires c κs = search needs
-
-letter-table-requires : tie.Need-letter-table-requires
-letter-table-requires c κs = search needs
+code-table-requires : tie.Need-code-table-requires
+code-table-requires c κs = search needs
 
 translate-all-requires : tie.Need-translate-all-requires
 translate-all-requires c κs = search needs
@@ -42,10 +36,10 @@ same-length c = search needs
 
 returns-2 : tie.Need-returns-2
 returns-2 c =
-    let args = c .before .before .before .before .before .before .before .before .before .before .before .before .before .before .before .before .before .before .args in
-    let find-sequence = c .before .before .before .before .before .before .before .before .before .before .before .before .before .before .before .find-sequence in
-    let sequence = c .before .before .before .before .before .before .before .before .before .before .before .before .before .sequence in
-    let known-of = c .before .before .before .before .before .before .before .before .before .before .before .known-of in
+    let args = c .before .before .before .before .before .before .before .before .before .before .before .before .before .before .args in
+    let find-sequence = c .before .before .before .before .before .before .before .before .before .before .before .find-sequence in
+    let sequence = c .before .before .before .before .before .before .before .before .before .sequence in
+    let known-of = c .before .before .before .before .before .before .before .known-of in
     translations-found (subst (SequenceAsked (now (args .listing)) (args .k)) (sequence .given .1) (find-sequence .ensures))
     (known-of .ensures) (c .before .before .translate-all .ensures)
 
@@ -57,9 +51,7 @@ translations-spec =
     enum-known-rule
     enum-known-sequence
     known-of-requires
-    set-table-requires
-    turn-table-requires
-    letter-table-requires
+    code-table-requires
     translate-all-requires
     returns
     same-length

@@ -1,5 +1,6 @@
 -- `ask_translation::translate` meets its contract.
 use borrow.Author.Needs.{needs}
+use Rattle.protein_code.proofs.Codes.{code-1, coded-1}
 use Rattle.ask_translation.proofs.Ones.{answered, one-none, one-unjudged, one-is, one-short, one-stop}
 use Rattle.ask_translation.proofs.translate.Statement.{statement}
 use Rattle.ask_translation.proofs.translate.Tie as tie
@@ -29,7 +30,7 @@ bytes-of-requires-2 : tie.Need-bytes-of-requires-2
 bytes-of-requires-2 c κs = search needs
 
 write-requires : tie.Need-write-requires
-write-requires c κs = search needs
+write-requires c κs = coded-1 (c .before .before .before .before .before .before .before .before .before .pre)
 
 enum-known-n : tie.Need-enum-known-n
 enum-known-n c = search needs
@@ -62,7 +63,8 @@ returns-3 c =
     let bytes-of = c .before .before .before .before .before .before .before .before .bytes-of in
     let bytes-of2 = c .before .before .before .before .before .before .before .bytes-of2 in
     let write = c .before .before .before .before .before .write in
-    one-is (plan-of .ensures) (start .given .1) (bytes-of .ensures) (bytes-of2 .ensures) (write .ensures) (c .before .n .given .1)
+    let pre' = c .before .before .before .before .before .before .before .before .before .before .before .before .before .before .before .pre in
+    one-is (plan-of .ensures) (code-1 pre') (start .given .1) (bytes-of .ensures) (bytes-of2 .ensures) (write .ensures) (c .before .n .given .1)
 
 same-length-2 : tie.Need-same-length-2
 same-length-2 c = search needs
@@ -74,8 +76,9 @@ returns-4 c =
     let bytes-of = c .before .before .before .before .before .before .before .before .bytes-of in
     let bytes-of2 = c .before .before .before .before .before .before .before .bytes-of2 in
     let write = c .before .before .before .before .before .write in
+    let pre' = c .before .before .before .before .before .before .before .before .before .before .before .before .before .before .before .pre in
     answered (c .refused3 .ensures)
-    (one-short (plan-of .ensures) (start .given .1) (bytes-of .ensures) (bytes-of2 .ensures) (write .ensures) (c .before .enum-told3 .given .1))
+    (one-short (plan-of .ensures) (code-1 pre') (start .given .1) (bytes-of .ensures) (bytes-of2 .ensures) (write .ensures) (c .before .enum-told3 .given .1))
 
 same-length-3 : tie.Need-same-length-3
 same-length-3 c = search needs
@@ -87,8 +90,9 @@ returns-5 c =
     let bytes-of = c .before .before .before .before .before .before .before .before .bytes-of in
     let bytes-of2 = c .before .before .before .before .before .before .before .bytes-of2 in
     let write = c .before .before .before .before .before .write in
+    let pre' = c .before .before .before .before .before .before .before .before .before .before .before .before .before .before .before .pre in
     answered (c .refused4 .ensures)
-    (one-stop (plan-of .ensures) (start .given .1) (bytes-of .ensures) (bytes-of2 .ensures) (write .ensures) (c .before .enum-told4 .given .1))
+    (one-stop (plan-of .ensures) (code-1 pre') (start .given .1) (bytes-of .ensures) (bytes-of2 .ensures) (write .ensures) (c .before .enum-told4 .given .1))
 
 pub translate-spec : {M : Type 1} → statement M
 translate-spec =

@@ -1,4 +1,5 @@
 -- `ask_translations::line_size` meets its contract.
+use Rattle.protein_code.proofs.Codes.{code-1, coded-1}
 use Rattle.ask_translations.proofs.Sizes.{size-none, size-unjudged, size-is, size-full, size-short, size-stop}
 use borrow.Author.Needs.{needs}
 use Rattle.ask_translations.proofs.line_size.Statement.{statement}
@@ -26,21 +27,22 @@ bytes-of-requires-2 : tie.Need-bytes-of-requires-2
 bytes-of-requires-2 c κs = search needs
 
 measure-requires : tie.Need-measure-requires
-measure-requires c κs = search needs
+measure-requires c κs = coded-1 (c .before .before .before .before .before .before .before .pre)
 
 enum-known-n : tie.Need-enum-known-n
 enum-known-n c = search needs
 
-add-t17 : tie.Need-add-t17
-add-t17 c = search needs
+add-t15 : tie.Need-add-t15
+add-t15 c = search needs
 
 returns : tie.Need-returns
 returns c =
     let plan-of = c .before .before .before .before .before .before .before .before .before .before .plan-of in
+    let pre' = c .before .before .before .before .before .before .before .before .before .before .before .before .pre in
     let start = c .before .before .before .before .before .before .before .before .start in
     let bytes-of = c .before .before .before .before .before .before .bytes-of in
     let bytes-of2 = c .before .before .before .before .before .bytes-of2 in
-    size-is (plan-of .ensures) (start .given .1) (bytes-of .ensures) (bytes-of2 .ensures)
+    size-is (plan-of .ensures) (code-1 pre') (start .given .1) (bytes-of .ensures) (bytes-of2 .ensures)
     (c .before .before .before .before .measure .ensures) (c .before .before .n .given .1) (c .if1 .taken)
 
 enum-told-3 : tie.Need-enum-told-3
@@ -61,25 +63,28 @@ returns-3 c = size-unjudged (c .before .before .before .plan-of .ensures) (c .be
 returns-4 : tie.Need-returns-4
 returns-4 c =
     let plan-of = c .before .before .before .before .before .before .before .before .before .before .plan-of in
+    let pre' = c .before .before .before .before .before .before .before .before .before .before .before .before .pre in
     let start = c .before .before .before .before .before .before .before .before .start in
     let bytes-of = c .before .before .before .before .before .before .bytes-of in
     let bytes-of2 = c .before .before .before .before .before .bytes-of2 in
-    size-full (plan-of .ensures) (start .given .1) (bytes-of .ensures) (bytes-of2 .ensures)
+    size-full (plan-of .ensures) (code-1 pre') (start .given .1) (bytes-of .ensures) (bytes-of2 .ensures)
     (c .before .before .before .before .measure .ensures) (c .before .before .n .given .1) (c .if1 .left)
 
 returns-5 : tie.Need-returns-5
 returns-5 c =
     let plan-of = c .before .before .before .before .before .before .before .before .plan-of in
+    let pre' = c .before .before .before .before .before .before .before .before .before .before .pre in
     let start = c .before .before .before .before .before .before .start in
-    size-short (plan-of .ensures) (start .given .1) (c .before .before .before .before .bytes-of .ensures)
+    size-short (plan-of .ensures) (code-1 pre') (start .given .1) (c .before .before .before .before .bytes-of .ensures)
     (c .before .before .before .bytes-of2 .ensures) (c .before .before .measure .ensures) (c .enum-told3 .given .1)
 
 returns-6 : tie.Need-returns-6
 returns-6 c =
     let plan-of = c .before .before .before .before .before .before .before .before .before .plan-of in
+    let pre' = c .before .before .before .before .before .before .before .before .before .before .before .pre in
     let start = c .before .before .before .before .before .before .before .start in
     let bytes-of = c .before .before .before .before .before .bytes-of in
-    size-stop (plan-of .ensures) (start .given .1) (bytes-of .ensures) (c .before .before .before .before .bytes-of2 .ensures)
+    size-stop (plan-of .ensures) (code-1 pre') (start .given .1) (bytes-of .ensures) (c .before .before .before .before .bytes-of2 .ensures)
     (c .before .before .before .measure .ensures) (c .before .enum-told4 .given .1) (c .dash-size2 .ensures)
 
 pub line-size-spec : {M : Type 1} → statement M
@@ -95,7 +100,7 @@ line-size-spec =
     bytes-of-requires-2
     measure-requires
     enum-known-n
-    add-t17
+    add-t15
     returns
     enum-told-3
     enum-told-4

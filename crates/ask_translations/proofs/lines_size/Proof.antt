@@ -1,4 +1,5 @@
--- `ask_translations::lines_size` meets its contract. The loop's invariant: the lines of the features passed have that length. The measure is what is left of the text.
+-- `ask_translations::lines_size` meets its contract. The loop's invariant: the lines of the features passed have that length. The measure
+-- is what is left of the text.
 use Prim.Native.Nat.{_-_}
 use native.Mathlib.Omega.{arith}
 use denote.Ref.{now}
@@ -11,10 +12,10 @@ use Rattle.ask_translations.proofs.lines_size.Statement.{statement}
 use Rattle.ask_translations.proofs.lines_size.Tie as tie
 
 abbrev Inv-loop : tie.InvT-loop
-Inv-loop s first known room sets turns table at₀ size₀ at size = Sizing s first at known room size
+Inv-loop s first known room code at₀ size₀ at size = Sizing s first at known room size
 
 abbrev μ-loop : tie.MeasureT-loop
-μ-loop s first known room sets turns table at₀ size₀ at size = length s - at
+μ-loop s first known room code at₀ size₀ at size = length s - at
 
 loop-holds : tie.Need-loop-holds Inv-loop μ-loop
 loop-holds c = sizing-none

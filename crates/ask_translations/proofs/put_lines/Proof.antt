@@ -1,4 +1,5 @@
--- `ask_translations::put_lines` meets its contract. The loop's invariant: the lines of the features passed stand at the front, where they fit. The measure is what is left of the text.
+-- `ask_translations::put_lines` meets its contract. The loop's invariant: the lines of the features passed stand at the front, where they
+-- fit. The measure is what is left of the text.
 use Prim.Native.Nat.{_-_}
 use native.Mathlib.Omega.{arith}
 use denote.Ref.{now}
@@ -11,10 +12,10 @@ use Rattle.ask_translations.proofs.put_lines.Statement.{statement}
 use Rattle.ask_translations.proofs.put_lines.Tie as tie
 
 abbrev Inv-loop : tie.InvT-loop
-Inv-loop s first known sets turns table out₀ at₀ end₀ out at end = Putting s first at known out₀ out end
+Inv-loop s first known code out₀ at₀ end₀ out at end = Putting s first at known out₀ out end
 
 abbrev μ-loop : tie.MeasureT-loop
-μ-loop s first known sets turns table out₀ at₀ end₀ out at end = length s - at
+μ-loop s first known code out₀ at₀ end₀ out at end = length s - at
 
 loop-holds : tie.Need-loop-holds Inv-loop μ-loop
 loop-holds c = putting-none _
@@ -61,7 +62,7 @@ add-end : tie.Need-add-end Inv-loop μ-loop
 add-end c =
     let good = c .before .before .before .before .before .before .before .before .before .before .before .before .good in
     let loop' = c .before .before .before .before .before .before .before .before .before .loop in
-    omega (arith, putting-within (loop' .inv) (c .before .before .put-line .ensures), good .1 .1 .1 .1 .1 .1 .0 .0)
+    omega (arith, putting-within (loop' .inv) (c .before .before .put-line .ensures), good .1 .1 .1 .1 .0 .0)
 
 loop-less : tie.Need-loop-less Inv-loop μ-loop
 loop-less c =

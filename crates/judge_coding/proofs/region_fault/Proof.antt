@@ -1,5 +1,6 @@
 -- `judge_coding::region_fault` meets its contract.
 use borrow.Author.Tests.{not-true, not-false}
+use Rattle.protein_code.proofs.Codes.{code-1, coded-1}
 use Rattle.judge_coding.proofs.Regions.{region-unjudged, region-unclean, region-bad, region-outside, region-judged}
 use borrow.Author.Needs.{needs}
 use Rattle.judge_coding.proofs.region_fault.Statement.{statement}
@@ -30,14 +31,15 @@ bytes-of-requires-2 : tie.Need-bytes-of-requires-2
 bytes-of-requires-2 c κs = search needs
 
 translations-requires : tie.Need-translations-requires
-translations-requires c κs = search needs
+translations-requires c κs = coded-1 (c .before .before .before .before .before .before .before .before .before .before .pre)
 
 returns-5 : tie.Need-returns-5
 returns-5 c =
     let if1 = c .before .before .before .before .before .before .before .before .before .if1 in
     let if2 = c .before .before .before .before .before .before .before .if2 in
     let verdict = c .before .before .before .before .before .verdict in
-    region-judged (verdict .given .1) (if1 .left) (not-false _ (if2 .left)) (c .before .before .before .if3 .left)
+    let pre' = c .before .before .before .before .before .before .before .before .before .before .before .pre in
+    region-judged (verdict .given .1) (code-1 pre') (if1 .left) (not-false _ (if2 .left)) (c .before .before .before .if3 .left)
     (c .before .before .bytes-of .ensures) (c .before .bytes-of2 .ensures) (c .translations .ensures)
 
 pub region-fault-spec : {M : Type 1} → statement M

@@ -1,20 +1,22 @@
--- `judge_coding::translations` meets its contract. The loop's invariant: the first fault of the qualifiers passed. The measure is what is left of the text.
+-- `judge_coding::translations` meets its contract. The loop's invariant: the first fault of the qualifiers passed. The measure is what is
+-- left of the text.
 use Prim.Native.Nat.{_-_}
 use native.Mathlib.Omega.{arith}
 use denote.Ref.{now}
 use lib.ListN.{length}
 use Rattle.paper.specs.Bytes.{bytes}
 use Rattle.walk_steps.proofs.Loops.{there-inside}
+use Rattle.protein_code.specs.Tables.{codeOf}
 use Rattle.judge_coding.proofs.Rights.{Checking, checking-none, checking-next, checking-stuck, checking-done}
 use borrow.Author.Needs.{needs}
 use Rattle.judge_coding.proofs.translations.Statement.{statement}
 use Rattle.judge_coding.proofs.translations.Tie as tie
 
 abbrev Inv-loop : tie.InvT-loop
-Inv-loop s r loc top start first sets turns table at₀ fault₀ right₀ at fault right = Checking s r loc top start first at fault right
+Inv-loop s r loc top start first code at₀ fault₀ right₀ at fault right = Checking (codeOf code) s r loc top start first at fault right
 
 abbrev μ-loop : tie.MeasureT-loop
-μ-loop s r loc top start first sets turns table at₀ fault₀ right₀ at fault right = length s - at
+μ-loop s r loc top start first code at₀ fault₀ right₀ at fault right = length s - at
 
 loop-holds : tie.Need-loop-holds Inv-loop μ-loop
 loop-holds c = checking-none

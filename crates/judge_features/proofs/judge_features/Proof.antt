@@ -1,4 +1,5 @@
--- `judge_features::judge_features` meets its contract. The loop's invariant: what has been seen is added up. The measure is what is left of the text.
+-- `judge_features::judge_features` meets its contract. The loop's invariant: what has been seen is added up. The measure is what is left
+-- of the text.
 use Prim.Native.Nat.{_-_}
 use native.Mathlib.Omega.{arith}
 use denote.Ref.{now}
@@ -11,10 +12,10 @@ use Rattle.judge_features.proofs.judge_features.Statement.{statement}
 use Rattle.judge_features.proofs.judge_features.Tie as tie
 
 abbrev Inv-loop : tie.InvT-loop
-Inv-loop s first known sets turns table at₀ tally₀ at tally = Adding s first at known tally
+Inv-loop s first known code at₀ tally₀ at tally = Adding s first at known tally
 
 abbrev μ-loop : tie.MeasureT-loop
-μ-loop s first known sets turns table at₀ tally₀ at tally = length s - at
+μ-loop s first known code at₀ tally₀ at tally = length s - at
 
 no-features-requires : tie.Need-no-features-requires Inv-loop μ-loop
 no-features-requires c κs = search needs

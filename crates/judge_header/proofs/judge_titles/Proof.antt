@@ -1,4 +1,5 @@
--- `judge_header::judge_titles` meets its contract. The loop's invariant: the fault is the first of the titles seen. The measure is what is left of the text.
+-- `judge_header::judge_titles` meets its contract. The loop's invariant: the fault is the first of the titles seen. The measure is what
+-- is left of the text.
 use Prim.Native.Nat.{ℕ, _-_}
 use native.Mathlib.Omega.{arith}
 use denote.Ref.{now}

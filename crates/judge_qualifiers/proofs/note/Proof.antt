@@ -1,4 +1,5 @@
--- `judge_qualifiers::note` meets its contract. The loop's invariant: what the qualifiers passed say. The measure is what is left of the text.
+-- `judge_qualifiers::note` meets its contract. The loop's invariant: what the qualifiers passed say. The measure is what is left of the
+-- text.
 use Prim.Native.Nat.{_-_}
 use native.Mathlib.Omega.{arith}
 use denote.Ref.{now}

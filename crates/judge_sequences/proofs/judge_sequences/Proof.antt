@@ -1,4 +1,5 @@
--- `judge_sequences::judge_sequences` meets its contract. The loop's invariant: what has been seen is added up. The measure is what is left of the text.
+-- `judge_sequences::judge_sequences` meets its contract. The loop's invariant: what has been seen is added up. The measure is what is
+-- left of the text.
 use Prim.Native.Nat.{_-_}
 use native.Mathlib.Omega.{arith}
 use denote.Ref.{now}
@@ -11,10 +12,10 @@ use Rattle.judge_sequences.proofs.judge_sequences.Statement.{statement}
 use Rattle.judge_sequences.proofs.judge_sequences.Tie as tie
 
 abbrev Inv-loop : tie.InvT-loop
-Inv-loop s first symbols sets turns table at₀ total₀ at total = Adding s first at total
+Inv-loop s first symbols code at₀ total₀ at total = Adding s first at total
 
 abbrev μ-loop : tie.MeasureT-loop
-μ-loop s first symbols sets turns table at₀ total₀ at total = length s - at
+μ-loop s first symbols code at₀ total₀ at total = length s - at
 
 no-sequences-requires : tie.Need-no-sequences-requires Inv-loop μ-loop
 no-sequences-requires c κs = search needs

@@ -1,4 +1,5 @@
--- Forms with a rest: `F w r` says that w starts with a text of F and that r is left. A reader goes by them; they say what the paper's forms say.
+-- Forms with a rest: `F w r` says that w starts with a text of F and that r is left. A reader goes by them; they say what the paper's
+-- forms say.
 use Prim.Native.Nat.{ℕ, _+_, _≤_}
 use Prim.Native.String.{String}
 use mathlib.Core.Path.{_≡_, refl, sym, ap, _∙_}

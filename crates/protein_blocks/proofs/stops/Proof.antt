@@ -2,6 +2,7 @@
 use Prim.Native.Nat.{_≤_, _-_}
 use native.Mathlib.Omega.{arith}
 use mathlib.Core.Path.{_≡_, subst}
+use Rattle.protein_code.specs.Tables.{codeOf}
 use Rattle.protein_blocks.specs.Blocks.{NoStop}
 use Rattle.protein_blocks.proofs.Joined.{no-stop-start, no-stop-more}
 use borrow.Author.Needs.{needs}
@@ -9,14 +10,14 @@ use Rattle.protein_blocks.proofs.stops.Statement.{statement}
 use Rattle.protein_blocks.proofs.stops.Tie as tie
 
 abbrev Inv-loop : tie.InvT-loop
-Inv-loop r at turned marks any₀ j₀ any j = (j ≤ 192) × (any ≡ 0 → NoStop r turned at j)
+Inv-loop r at turned marks code any₀ j₀ any j = (j ≤ 192) × (any ≡ 0 → NoStop (codeOf code) r turned at j)
 
 abbrev μ-loop : tie.MeasureT-loop
-μ-loop r at turned marks any₀ j₀ any j = 192 - j
+μ-loop r at turned marks code any₀ j₀ any j = 192 - j
 
 loop-holds : tie.Need-loop-holds Inv-loop μ-loop
 loop-holds c =
-    let a = c .before .args in (omega arith, λ h. no-stop-start (a .r .now) (a .turned) (a .at))
+    let a = c .before .args in (omega arith, λ h. no-stop-start (codeOf (a .code .now)) (a .r .now) (a .turned) (a .at))
 
 add-p : tie.Need-add-p Inv-loop μ-loop
 add-p c = search needs
@@ -54,14 +55,14 @@ loop-again c =
     let loop' = c .before .before .before .before .before .before .loop in
     let a = c .before .before .before .before .before .before .before .before .args in (
       omega arith,
-      no-stop-more (a .r .now) (a .turned) (a .at) (loop' .inv .1) (pre' .1) (search needs) (search needs) (c .before .may-stop .ensures),
+      no-stop-more (codeOf (a .code .now)) (a .r .now) (a .turned) (a .at) (loop' .inv .1) (pre' .1 .0) (search needs) (search needs) (c .before .may-stop .ensures),
     )
 
 returns : tie.Need-returns Inv-loop μ-loop
 returns c = λ h.
     let a = c .before .before .before .args in
     let e : c .before .loop .j ≡ 192 = omega arith in
-    subst (NoStop (a .r .now) (a .turned) (a .at)) e (c .before .loop .inv .1 h)
+    subst (NoStop (codeOf (a .code .now)) (a .r .now) (a .turned) (a .at)) e (c .before .loop .inv .1 h)
 
 pub stops-spec : {M : Type 1} → statement M
 stops-spec =

@@ -17,9 +17,11 @@ letter-requires : tie.Need-letter-requires
 letter-requires c κs = search needs
 
 returns : tie.Need-returns
-returns c = λ f h.
+returns c =
     c .letter .ensures
-    ∙ rw (c .before .before .before .set-of .ensures .bases f h, c .before .before .set-of2 .ensures .bases f h, c .before .set-of3 .ensures .bases f h)
+    ∙ rw (c .before .before .before .set-of .ensures .bases, c .before .before .set-of2 .ensures .bases, c .before .set-of3 .ensures .bases)
 
 pub codon-spec : {M : Type 1} → statement M
-codon-spec = tie.close (tie.spec set-of-requires set-of-requires-2 set-of-requires-3 letter-requires returns)
+codon-spec =
+    tie.close
+    (tie.spec set-of-requires set-of-requires-2 set-of-requires-3 letter-requires returns)

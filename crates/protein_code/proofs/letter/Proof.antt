@@ -18,6 +18,9 @@ add-result c = search needs
 add-result-2 : tie.Need-add-result-2
 add-result-2 c = search needs
 
+add-result-3 : tie.Need-add-result-3
+add-result-3 c = search needs
+
 element-copy-out-result : tie.Need-element-copy-out-result
 element-copy-out-result c = search needs
 
@@ -31,4 +34,13 @@ returns c =
     c .before .pre .0 .answer i (omega arith) ∙ rw (first, second, third)
 
 pub letter-spec : {M : Type 1} → statement M
-letter-spec = tie.close (tie.spec mul-result mul-result-2 add-result add-result-2 element-copy-out-result returns)
+letter-spec =
+    tie.close
+    (tie.spec
+    mul-result
+    mul-result-2
+    add-result
+    add-result-2
+    add-result-3
+    element-copy-out-result
+    returns)

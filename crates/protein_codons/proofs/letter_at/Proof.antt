@@ -1,6 +1,7 @@
 -- The letter of the codon that stands there.
 use mathlib.Core.Path.{_∙_}
 use mathlib.Core.Bool.{true, false}
+use Rattle.protein_code.specs.Tables.{codeOf}
 use Rattle.protein_codons.proofs.Readings.{at-place}
 use borrow.Author.Needs.{needs}
 use Rattle.protein_codons.proofs.letter_at.Statement.{statement}
@@ -32,8 +33,8 @@ returns c =
     let place = c .before .before .before .before .before .place in
     let a = c .before .before .before .before .before .before .before .args in
     let p = c .before .before .before .before .before .before .before .pre in
-    c .codon .ensures _ (p .1 .1 .1 .0)
-    ∙ at-place (a .r .now) (a .low) (a .high) (a .turned) (a .k) (place .ensures .0) true (c .before .before .before .before .if1 .taken) (p .0) (p .1 .0)
+    c .codon .ensures
+    ∙ at-place (codeOf (a .code .now)) (a .r .now) (a .low) (a .high) (a .turned) (a .k) (place .ensures .0) true (c .before .before .before .before .if1 .taken) (p .0) (p .1 .0)
 
 shared-slice-read-codon-4 : tie.Need-shared-slice-read-codon-4
 shared-slice-read-codon-4 c = search needs
@@ -58,8 +59,8 @@ returns-2 c =
     let place = c .before .before .before .before .before .place in
     let a = c .before .before .before .before .before .before .before .args in
     let p = c .before .before .before .before .before .before .before .pre in
-    c .codon2 .ensures _ (p .1 .1 .0)
-    ∙ at-place (a .r .now) (a .low) (a .high) (a .turned) (a .k) (place .ensures .0) false (c .before .before .before .before .if1 .left) (p .0) (p .1 .0)
+    c .codon2 .ensures
+    ∙ at-place (codeOf (a .code .now)) (a .r .now) (a .low) (a .high) (a .turned) (a .k) (place .ensures .0) false (c .before .before .before .before .if1 .left) (p .0) (p .1 .0)
 
 pub letter-at-spec : {M : Type 1} → statement M
 letter-at-spec =

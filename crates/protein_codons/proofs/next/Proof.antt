@@ -1,4 +1,5 @@
 -- The next whole codon: of the current span where it has one.
+use Rattle.protein_code.specs.Tables.{codeOf}
 use Rattle.protein_codons.proofs.Readings.{next-letter}
 use borrow.Author.Needs.{needs}
 use Rattle.protein_codons.proofs.next.Statement.{statement}
@@ -22,7 +23,7 @@ onward-requires c κs = search needs
 returns-2 : tie.Need-returns-2
 returns-2 c =
     let pre' = c .before .before .before .before .before .pre in
-    record { says = next-letter (pre' .1 .0) (c .onward .ensures) (c .before .letter-at .ensures) }
+    record { says = next-letter (codeOf (c .before .before .before .before .before .args .code .now)) (pre' .1 .0) (c .onward .ensures) (c .before .letter-at .ensures) }
 
 pub next-spec : {M : Type 1} → statement M
 next-spec =

@@ -19,16 +19,15 @@ shared-slice-read-set-of c = omega (arith, c .before .before .before .fill .ensu
 set-of-requires : tie.Need-set-of-requires
 set-of-requires c κs =
     let pre' = c .before .before .before .before .before .before .pre in
-    pre' .1 .1 .1 .small
+    pre' .1 .1
 
 returns-2 : tie.Need-returns-2
 returns-2 c =
     let args = c .before .before .before .before .before .before .before .args in
-    let pre' = c .before .before .before .before .before .before .before .pre in
     let f = c .before .before .before .before .fill .ensures in
     let y = c .before .before .before .before .fill .result in
     let t = c .set-of .ensures in
-    record { says = base-is f (pass-behind (args .r .now) y (f .ready .inside) (c .before .before .if2 .taken) (omega (arith, f .ready .order))) (t .small) (t .bases _ (pre' .1 .1 .1)) }
+    record { says = base-is f (pass-behind (args .r .now) y (f .ready .inside) (c .before .before .if2 .taken) (omega (arith, f .ready .order))) (t .small) (t .bases) }
 
 shared-slice-read-set-of-2 : tie.Need-shared-slice-read-set-of-2
 shared-slice-read-set-of-2 c = omega (arith, c .before .before .before .fill .ensures .ready .order, c .before .before .before .fill .ensures .ready .inside)
@@ -36,21 +35,20 @@ shared-slice-read-set-of-2 c = omega (arith, c .before .before .before .fill .en
 set-of-requires-2 : tie.Need-set-of-requires-2
 set-of-requires-2 c κs =
     let pre' = c .before .before .before .before .before .before .pre in
-    pre' .1 .1 .0 .small
+    pre' .1 .1
 
-add-t20 : tie.Need-add-t20
-add-t20 c =
+add-t19 : tie.Need-add-t19
+add-t19 c =
     omega
     (arith, c .before .before .before .before .fill .ensures .ready .order, c .before .before .before .before .fill .ensures .ready .inside)
 
 returns-3 : tie.Need-returns-3
 returns-3 c =
     let args = c .before .before .before .before .before .before .before .args in
-    let pre' = c .before .before .before .before .before .before .before .pre in
     let f = c .before .before .before .before .fill .ensures in
     let y = c .before .before .before .before .fill .result in
     let t = c .set-of2 .ensures in
-    record { says = base-is f (pass-ahead (args .r .now) y (f .ready .inside) (c .before .before .if2 .left) (omega (arith, f .ready .order))) (t .small) (t .bases _ (pre' .1 .1 .0)) }
+    record { says = base-is f (pass-ahead (args .r .now) y (f .ready .inside) (c .before .before .if2 .left) (omega (arith, f .ready .order))) (t .small) (t .bases) }
 
 pub next-base-spec : {M : Type 1} → statement M
 next-base-spec =
@@ -64,5 +62,5 @@ next-base-spec =
     returns-2
     shared-slice-read-set-of-2
     set-of-requires-2
-    add-t20
+    add-t19
     returns-3)

@@ -1,5 +1,6 @@
 -- The letter of the codon that stands there, by the rule of the table.
 use mathlib.Core.Path.{refl, _∙_}
+use Rattle.protein_code.specs.Tables.{codeOf}
 use Rattle.protein_codons.proofs.Readings.{at-place}
 use Rattle.protein_codons.proofs.Blocks.{plain-here}
 use borrow.Author.Needs.{needs}
@@ -40,8 +41,8 @@ returns c =
     let p = c .before .before .before .before .before .before .before .pre in
     let at = place .ensures .0 in
     c .plain-letter .ensures
-    ∙ plain-here (a .r .now) (a .turned) (place .result) _ at (p .1 .1 .1 .0) (p .1 .1 .1 .1)
-    ∙ at-place (a .r .now) (a .low) (a .high) (a .turned) (a .k) at (a .turned) refl (p .0) (p .1 .0)
+    ∙ plain-here (codeOf (a .code .now)) (a .r .now) (a .turned) (place .result) _ at (p .1 .1 .1 .0) (p .1 .1 .1 .1)
+    ∙ at-place (codeOf (a .code .now)) (a .r .now) (a .low) (a .high) (a .turned) (a .k) at (a .turned) refl (p .0) (p .1 .0)
 
 pub plain-at-spec : {M : Type 1} → statement M
 plain-at-spec =

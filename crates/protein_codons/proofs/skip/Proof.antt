@@ -8,17 +8,17 @@ use Rattle.protein_codons.proofs.skip.Statement.{statement}
 use Rattle.protein_codons.proofs.skip.Tie as tie
 
 abbrev Inv-loop : tie.InvT-loop
-Inv-loop r loc top count sets turns x₀ k₀ x k = (k ≤ count) × Skips r loc top x₀ k x
+Inv-loop r loc top count code x₀ k₀ x k = (k ≤ count) × Skips r loc top x₀ k x
 
 abbrev μ-loop : tie.MeasureT-loop
-μ-loop r loc top count sets turns x₀ k₀ x k = count - k
+μ-loop r loc top count code x₀ k₀ x k = count - k
 
 loop-holds : tie.Need-loop-holds Inv-loop μ-loop
 loop-holds c = (omega arith, skipped-none (c .before .before .pre .1 .0))
 
 next-base-requires : tie.Need-next-base-requires Inv-loop μ-loop
 next-base-requires c κs =
-    (c .before .before .before .before .pre .0, (c .before .loop .inv .1 .ready, (c .before .before .before .before .pre .1 .1 .0, c .before .before .before .before .pre .1 .1 .1)))
+    (c .before .before .before .before .pre .0, (c .before .loop .inv .1 .ready, c .before .before .before .before .pre .1 .1))
 
 enum-told : tie.Need-enum-told Inv-loop μ-loop
 enum-told c = search needs

@@ -2,6 +2,7 @@
 use mathlib.Core.Bool.{false}
 use native.Mathlib.Omega.{arith}
 use lib.ListN.{length}
+use Rattle.protein_code.specs.Tables.{codeOf}
 use Rattle.protein_codons.specs.Reading.{residuesLeft}
 use Rattle.protein_codons.proofs.Readings.{letters-are, run-falls}
 use Rattle.protein_compare.proofs.Values.{Comparing, comparing-start, comparing-run, comparing-one, comparing-done, comparing-stop, comparing-last, comparing-short, comparing-differs, compares, compares-none}
@@ -10,16 +11,16 @@ use Rattle.protein_compare.proofs.is_right.Statement.{statement}
 use Rattle.protein_compare.proofs.is_right.Tie as tie
 
 abbrev Inv-loop : tie.InvT-loop
-Inv-loop r loc top frame value sets turns table x₀ i₀ x i = Comparing r loc top x₀ value x i
+Inv-loop r loc top frame value code x₀ i₀ x i = Comparing (codeOf code) r loc top x₀ value x i
 
 abbrev μ-loop : tie.MeasureT-loop
-μ-loop r loc top frame value sets turns table x₀ i₀ x i = residuesLeft (length r) (length loc) x
+μ-loop r loc top frame value code x₀ i₀ x i = residuesLeft (length r) (length loc) x
 
 returns : tie.Need-returns Inv-loop μ-loop
 returns c = compares-none (c .if1 .taken) false
 
 begin-requires : tie.Need-begin-requires Inv-loop μ-loop
-begin-requires c κs = (c .if1 .left, (c .before .before .before .before .pre .0, c .before .before .before .before .pre .1 .0))
+begin-requires c κs = (c .if1 .left, c .before .before .before .before .pre)
 
 loop-holds : tie.Need-loop-holds Inv-loop μ-loop
 loop-holds c = comparing-start (c .begin .ensures .ready)
@@ -49,7 +50,8 @@ returns-2 c =
     let begin = c .before .before .before .before .before .before .begin in
     let loop' = c .before .before .before .before .before .loop in
     let f = comparing-run (loop' .inv) (c .before .before .before .onward .ensures) (c .before .before .before .before .same .ensures) in
-    compares (begin .ensures) _ (comparing-done f (letters-are (c .before .before .next .ensures) (c .enum-told .given .1)))
+    let pre' = c .before .before .before .before .before .before .before .before .before .before .before .pre in
+    compares (pre' .spelt) (begin .ensures) _ (comparing-done f (letters-are (c .before .before .next .ensures) (c .enum-told .given .1)))
 
 enum-known-c : tie.Need-enum-known-c Inv-loop μ-loop
 enum-known-c c = search needs
@@ -63,7 +65,8 @@ returns-3 c =
     let next = c .before .before .before .before .before .next in
     let f = comparing-run (loop' .inv) (onward .ensures) (same .ensures) in
     let g = letters-are (next .ensures) (c .before .before .before .c .given .1) in
-    compares (begin .ensures) false (comparing-stop f g (c .before .if2 .taken) (c .if3 .taken))
+    let pre' = c .before .before .before .before .before .before .before .before .before .before .before .before .before .before .pre in
+    compares (pre' .spelt) (begin .ensures) false (comparing-stop f g (c .before .if2 .taken) (c .if3 .taken))
 
 ends-requires : tie.Need-ends-requires Inv-loop μ-loop
 ends-requires c κs =
@@ -82,7 +85,8 @@ returns-4 c =
     let next = c .before .before .before .before .before .before .next in
     let f = comparing-run (loop' .inv) (onward .ensures) (same .ensures) in
     let g = letters-are (next .ensures) (c .before .before .before .before .c .given .1) in
-    compares (begin .ensures) _ (comparing-last f g (c .before .before .if2 .taken) (c .before .if3 .left) (c .ends .result) (c .ends .ensures))
+    let pre' = c .before .before .before .before .before .before .before .before .before .before .before .before .before .before .before .pre in
+    compares (pre' .spelt) (begin .ensures) _ (comparing-last f g (c .before .before .if2 .taken) (c .before .if3 .left) (c .ends .result) (c .ends .ensures))
 
 returns-5 : tie.Need-returns-5 Inv-loop μ-loop
 returns-5 c =
@@ -93,7 +97,8 @@ returns-5 c =
     let next = c .before .before .before .before .before .next in
     let f = comparing-run (loop' .inv) (onward .ensures) (same .ensures) in
     let g = letters-are (next .ensures) (c .before .before .before .c .given .1) in
-    compares (begin .ensures) false (comparing-short f g (c .before .if2 .left) (c .if4 .taken))
+    let pre' = c .before .before .before .before .before .before .before .before .before .before .before .before .before .before .pre in
+    compares (pre' .spelt) (begin .ensures) false (comparing-short f g (c .before .if2 .left) (c .if4 .taken))
 
 shared-slice-read-if5 : tie.Need-shared-slice-read-if5 Inv-loop μ-loop
 shared-slice-read-if5 c = search needs
@@ -108,7 +113,8 @@ returns-6 c =
     let c' = c .before .before .before .before .before .c in
     let f = comparing-run (loop' .inv) (onward .ensures) (same .ensures) in
     let g = letters-are (next .ensures) (c' .given .1) in
-    compares (begin .ensures) false (comparing-differs f g (c .before .before .before .if2 .left) (c .before .before .if4 .left) (c .if5 .taken))
+    let pre' = c .before .before .before .before .before .before .before .before .before .before .before .before .before .before .before .before .pre in
+    compares (pre' .spelt) (begin .ensures) false (comparing-differs f g (c .before .before .before .if2 .left) (c .before .before .if4 .left) (c .if5 .taken))
 
 add-i : tie.Need-add-i Inv-loop μ-loop
 add-i c =

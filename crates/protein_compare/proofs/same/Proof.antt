@@ -16,7 +16,8 @@ least-requires c κs = search needs
 same-blocks-requires : tie.Need-same-blocks-requires
 same-blocks-requires c κs =
     let w = c .least .ensures in
-    (omega (arith, w), (c .before .before .before .pre .1 .0, omega (arith, w)))
+    let p = c .before .before .before .pre in
+    (omega (arith, w), (p .1 .0, (omega (arith, w), p .1 .1 .1)))
 
 same-each-requires : tie.Need-same-each-requires
 same-each-requires c κs =

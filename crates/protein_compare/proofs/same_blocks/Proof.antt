@@ -2,6 +2,7 @@
 use Prim.Native.Nat.{_≤_, _-_}
 use native.Mathlib.Omega.{arith}
 use borrow.Author.Tests.{not-false}
+use Rattle.protein_code.specs.Tables.{codeOf}
 use Rattle.protein_codons.specs.Reading.{spanLetters}
 use Rattle.protein_compare.specs.Comparing.{Same}
 use Rattle.protein_compare.proofs.Runs.{same-start, same-are}
@@ -10,23 +11,20 @@ use Rattle.protein_compare.proofs.same_blocks.Statement.{statement}
 use Rattle.protein_compare.proofs.same_blocks.Tie as tie
 
 abbrev Inv-loop : tie.InvT-loop
-Inv-loop r low high turned value from whole plain k₀ k = (k ≤ whole) × Same low high (spanLetters r low high turned) value from k
+Inv-loop r low high turned value from whole code k₀ k = (k ≤ whole) × Same low high (spanLetters (codeOf code) r low high turned) value from k
 
 abbrev μ-loop : tie.MeasureT-loop
-μ-loop r low high turned value from whole plain k₀ k = whole - k
+μ-loop r low high turned value from whole code k₀ k = whole - k
 
 returns : tie.Need-returns Inv-loop μ-loop
 returns c =
     let a = c .before .before .before .args in
-    same-start (spanLetters (a .r .now) (a .low) (a .high) (a .turned)) (omega arith) (omega arith)
-
-plain-table-requires : tie.Need-plain-table-requires Inv-loop μ-loop
-plain-table-requires c κs = search needs
+    same-start (spanLetters (codeOf (a .code .now)) (a .r .now) (a .low) (a .high) (a .turned)) (omega arith) (omega arith)
 
 loop-holds : tie.Need-loop-holds Inv-loop μ-loop
 loop-holds c =
-    let a = c .before .before .before .before .args in
-    (omega arith, same-start (spanLetters (a .r .now) (a .low) (a .high) (a .turned)) (omega arith) (omega arith))
+    let a = c .before .before .before .args in
+    (omega arith, same-start (spanLetters (codeOf (a .code .now)) (a .r .now) (a .low) (a .high) (a .turned)) (omega arith) (omega arith))
 
 sub-loop : tie.Need-sub-loop Inv-loop μ-loop
 sub-loop c = search needs
@@ -39,10 +37,9 @@ returns-2 c = c .before .before .before .loop .inv .1
 
 same-plain-requires : tie.Need-same-plain-requires Inv-loop μ-loop
 same-plain-requires c κs =
-    let pre' = c .before .before .before .before .before .before .before .before .before .pre in
-    let plain-table = c .before .before .before .before .before .plain-table in
-    let plain = c .before .before .plain-block .ensures (not-false _ (c .before .if2 .left)) in
-    (omega arith, (pre' .1 .0, (plain, (omega arith, (c .before .before .before .before .loop .inv .1, plain-table .ensures)))))
+    let pre' = c .before .before .before .before .before .before .before .pre in
+    let plain = c .before .plain-block .ensures (not-false _ (c .if2 .left)) in
+    (omega arith, (pre' .1 .0, (plain, (omega arith, (c .before .before .before .loop .inv .1, pre' .1 .1 .1)))))
 
 add-if3 : tie.Need-add-if3 Inv-loop μ-loop
 add-if3 c = search needs
@@ -69,7 +66,6 @@ same-blocks-spec =
     Inv-loop
     μ-loop
     returns
-    plain-table-requires
     loop-holds
     sub-loop
     plain-block-requires

@@ -1,6 +1,7 @@
 -- Codon by codon. Invariant: those passed are the value's letters.
 use Prim.Native.Nat.{_-_}
 use native.Mathlib.Omega.{arith}
+use Rattle.protein_code.specs.Tables.{codeOf}
 use Rattle.protein_codons.specs.Reading.{spanLetters}
 use Rattle.protein_compare.specs.Comparing.{Same}
 use Rattle.protein_compare.proofs.Runs.{same-more}
@@ -9,10 +10,10 @@ use Rattle.protein_compare.proofs.same_each.Statement.{statement}
 use Rattle.protein_compare.proofs.same_each.Tie as tie
 
 abbrev Inv-loop : tie.InvT-loop
-Inv-loop r low high turned value from start end sets turns table k₀ k = Same low high (spanLetters r low high turned) value from k
+Inv-loop r low high turned value from start end code k₀ k = Same low high (spanLetters (codeOf code) r low high turned) value from k
 
 abbrev μ-loop : tie.MeasureT-loop
-μ-loop r low high turned value from start end sets turns table k₀ k = end - k
+μ-loop r low high turned value from start end code k₀ k = end - k
 
 loop-holds : tie.Need-loop-holds Inv-loop μ-loop
 loop-holds c = c .before .before .pre .1 .1 .1 .0

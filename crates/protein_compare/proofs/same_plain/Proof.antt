@@ -1,6 +1,7 @@
 -- Codon by codon. Invariant: those passed are the value's letters.
 use Prim.Native.Nat.{_≤_, _-_}
 use native.Mathlib.Omega.{arith}
+use Rattle.protein_code.specs.Tables.{codeOf}
 use Rattle.protein_codons.specs.Reading.{spanLetters}
 use Rattle.protein_compare.specs.Comparing.{Same}
 use Rattle.protein_compare.proofs.Runs.{same-more}
@@ -10,10 +11,10 @@ use Rattle.protein_compare.proofs.same_plain.Statement.{statement}
 use Rattle.protein_compare.proofs.same_plain.Tie as tie
 
 abbrev Inv-loop : tie.InvT-loop
-Inv-loop r low high turned value from start plain end k₀ k = (start ≤ k) × Same low high (spanLetters r low high turned) value from k
+Inv-loop r low high turned value from start code end k₀ k = (start ≤ k) × Same low high (spanLetters (codeOf code) r low high turned) value from k
 
 abbrev μ-loop : tie.MeasureT-loop
-μ-loop r low high turned value from start plain end k₀ k = end - k
+μ-loop r low high turned value from start code end k₀ k = end - k
 
 add-end : tie.Need-add-end Inv-loop μ-loop
 add-end c = search needs

@@ -1,6 +1,7 @@
 -- Codon by codon. Invariant: those passed are no stop.
 use Prim.Native.Nat.{_-_}
 use native.Mathlib.Omega.{arith}
+use Rattle.protein_code.specs.Tables.{codeOf}
 use Rattle.protein_codons.specs.Reading.{spanLetters}
 use Rattle.protein_codons.specs.Letters.{Clear}
 use Rattle.protein_codons.proofs.Stops.{none-more}
@@ -9,10 +10,10 @@ use Rattle.protein_measure.proofs.clear_each.Statement.{statement}
 use Rattle.protein_measure.proofs.clear_each.Tie as tie
 
 abbrev Inv-loop : tie.InvT-loop
-Inv-loop r low high turned from end sets turns table k₀ k = Clear low high (spanLetters r low high turned) k
+Inv-loop r low high turned from end code k₀ k = Clear low high (spanLetters (codeOf code) r low high turned) k
 
 abbrev μ-loop : tie.MeasureT-loop
-μ-loop r low high turned from end sets turns table k₀ k = end - k
+μ-loop r low high turned from end code k₀ k = end - k
 
 loop-holds : tie.Need-loop-holds Inv-loop μ-loop
 loop-holds c = c .before .pre .1 .0

@@ -2,6 +2,7 @@
 use mathlib.Core.Path.{sym}
 use native.Mathlib.Omega.{arith}
 use lib.ListN.{length}
+use Rattle.protein_code.specs.Tables.{codeOf}
 use Rattle.protein_codons.specs.Reading.{residuesLeft}
 use Rattle.protein_codons.proofs.Readings.{letters-are, run-falls}
 use Rattle.protein_measure.proofs.Measuring.{Measuring, measuring-start, measuring-run, measuring-one, measuring-end, measuring-stop, measures, measures-none, measures-are}
@@ -11,16 +12,16 @@ use Rattle.protein_measure.proofs.measure.Statement.{statement}
 use Rattle.protein_measure.proofs.measure.Tie as tie
 
 abbrev Inv-loop : tie.InvT-loop
-Inv-loop r loc top frame room sets turns table x₀ count₀ x count = Measuring r loc top x₀ room x count
+Inv-loop r loc top frame room code x₀ count₀ x count = Measuring (codeOf code) r loc top x₀ room x count
 
 abbrev μ-loop : tie.MeasureT-loop
-μ-loop r loc top frame room sets turns table x₀ count₀ x count = residuesLeft (length r) (length loc) x
+μ-loop r loc top frame room code x₀ count₀ x count = residuesLeft (length r) (length loc) x
 
 returns : tie.Need-returns Inv-loop μ-loop
 returns c = measures-none (c .if1 .taken)
 
 begin-requires : tie.Need-begin-requires Inv-loop μ-loop
-begin-requires c κs = (c .if1 .left, (c .before .before .before .pre .0, c .before .before .before .pre .1 .0))
+begin-requires c κs = (c .if1 .left, c .before .before .before .pre)
 
 loop-holds : tie.Need-loop-holds Inv-loop μ-loop
 loop-holds c = measuring-start (c .begin .ensures .ready)

@@ -1,5 +1,8 @@
 -- The blocks, and the codons behind them.
 use native.Mathlib.Omega.{arith}
+use mathlib.Core.Path.{_∙_}
+use Rattle.protein_code.specs.Tables.{codeOf}
+use Rattle.protein_codons.specs.Reading.{spanLetters}
 use Rattle.protein_write.proofs.Runs.{lays-join, lays-all}
 use borrow.Author.Needs.{needs}
 use Rattle.protein_write.proofs.lay.Statement.{statement}
@@ -31,15 +34,16 @@ lay-each-requires c κs =
 same-length : tie.Need-same-length
 same-length c =
     let lay-blocks = c .before .before .before .before .before .before .lay-blocks in
-    lays-join (lay-blocks .ensures .1) (c .before .before .lay-each .ensures) .size
+    c .before .before .lay-each .ensures .size ∙ lay-blocks .ensures .1 .size
 
 returns : tie.Need-returns
 returns c =
-    let w = c .before .before .before .before .before .before .before .before .least .ensures in
-    lays-all
-    (lays-join (c .before .before .before .before .before .before .lay-blocks .ensures .1) (c .before .before .lay-each .ensures))
-    (omega (arith, w))
-    (omega (arith, w))
+    let least = c .before .before .before .before .before .before .before .before .least in
+    let lay-blocks = c .before .before .before .before .before .before .lay-blocks in
+    let w = least .ensures in
+    let a = c .before .before .before .before .before .before .before .before .before .before .before .args in
+    let l = spanLetters (codeOf (a .code .now)) (a .r .now) (a .low) (a .high) (a .turned) in
+    lays-all {l = l} (lays-join {l = l} (lay-blocks .ensures .1) (c .before .before .lay-each .ensures)) (omega (arith, w)) (omega (arith, w))
 
 pub lay-spec : {M : Type 1} → statement M
 lay-spec =

@@ -1,4 +1,4 @@
--- A plain block by its own table, another codon by codon.
+-- A plain block by the letters of plain codons, another codon by codon.
 use native.Mathlib.Omega.{arith}
 use borrow.Author.Needs.{needs}
 use Rattle.protein_write.proofs.lay_block.Statement.{statement}
@@ -10,7 +10,7 @@ plain-block-requires c κs = search needs
 lay-plain-requires : tie.Need-lay-plain-requires
 lay-plain-requires c κs =
     let p = c .before .before .before .before .before .pre in
-    (p .0, (p .1 .0, (c .before .before .plain-block .ensures (c .before .if1 .taken), (p .1 .1 .0, p .1 .1 .1 .0))))
+    (p .0, (p .1 .0, (c .before .before .plain-block .ensures (c .before .if1 .taken), p .1 .1)))
 
 same-length : tie.Need-same-length
 same-length c = c .before .before .lay-plain .ensures .size
@@ -24,7 +24,7 @@ add-lay-each c = search needs
 lay-each-requires : tie.Need-lay-each-requires
 lay-each-requires c κs =
     let p = c .before .before .before .before .before .pre in
-    (omega arith, (p .0, (p .1 .0, (p .1 .1 .0, p .1 .1 .1 .1))))
+    (omega arith, p)
 
 same-length-2 : tie.Need-same-length-2
 same-length-2 c = c .before .before .lay-each .ensures .size

@@ -1,6 +1,7 @@
 -- Block by block. Invariant: the letters of those passed are laid.
 use Prim.Native.Nat.{_≤_, _-_}
 use native.Mathlib.Omega.{arith}
+use Rattle.protein_code.specs.Tables.{codeOf}
 use Rattle.protein_codons.specs.Reading.{spanLetters}
 use Rattle.protein_write.specs.Writing.{LaysOn}
 use Rattle.protein_write.proofs.Runs.{lays-none, lays-join}
@@ -9,31 +10,28 @@ use Rattle.protein_write.proofs.lay_blocks.Statement.{statement}
 use Rattle.protein_write.proofs.lay_blocks.Tie as tie
 
 abbrev Inv-loop : tie.InvT-loop
-Inv-loop r low high turned from whole sets turns table out₀ plain k₀ out k = (k ≤ whole) × LaysOn (spanLetters r low high turned) from 0 k out₀ out
+Inv-loop r low high turned from whole code out₀ k₀ out k = (k ≤ whole) × LaysOn (spanLetters (codeOf code) r low high turned) from 0 k out₀ out
 
 abbrev μ-loop : tie.MeasureT-loop
-μ-loop r low high turned from whole sets turns table out₀ plain k₀ out k = whole - k
+μ-loop r low high turned from whole code out₀ k₀ out k = whole - k
 
 returns : tie.Need-returns Inv-loop μ-loop
 returns c =
     let a = c .before .before .before .args in
-    (omega arith, lays-none (spanLetters (a .r .now) (a .low) (a .high) (a .turned)) (a .from) 0 _)
-
-plain-table-requires : tie.Need-plain-table-requires Inv-loop μ-loop
-plain-table-requires c κs = search needs
+    (omega arith, lays-none (spanLetters (codeOf (a .code .now)) (a .r .now) (a .low) (a .high) (a .turned)) (a .from) 0 _)
 
 loop-holds : tie.Need-loop-holds Inv-loop μ-loop
 loop-holds c =
-    let a = c .before .before .before .before .args in
-    (omega arith, lays-none (spanLetters (a .r .now) (a .low) (a .high) (a .turned)) (a .from) 0 _)
+    let a = c .before .before .before .args in
+    (omega arith, lays-none (spanLetters (codeOf (a .code .now)) (a .r .now) (a .low) (a .high) (a .turned)) (a .from) 0 _)
 
 sub-loop : tie.Need-sub-loop Inv-loop μ-loop
 sub-loop c = search needs
 
 lay-block-requires : tie.Need-lay-block-requires Inv-loop μ-loop
 lay-block-requires c κs =
-    let p = c .before .before .before .before .before .before .before .before .pre in
-    (omega arith, (p .1 .0, (omega (arith, c .before .before .before .loop .inv .1 .size), (c .before .before .before .before .plain-table .ensures, p .1 .1 .1))))
+    let p = c .before .before .before .before .before .before .pre in
+    (omega arith, (p .1 .0, (omega (arith, c .before .before .loop .inv .1 .size), p .1 .1 .1)))
 
 add-k : tie.Need-add-k Inv-loop μ-loop
 add-k c = search needs
@@ -43,7 +41,7 @@ loop-less c = search needs
 
 loop-again : tie.Need-loop-again Inv-loop μ-loop
 loop-again c =
-    let loop' = c .before .before .before .before .before .before .loop in
+    let loop' = c .before .before .before .before .before .loop in
     (omega arith, lays-join (loop' .inv .1) (c .before .before .lay-block .ensures))
 
 same-length : tie.Need-same-length Inv-loop μ-loop
@@ -59,7 +57,6 @@ lay-blocks-spec =
     Inv-loop
     μ-loop
     returns
-    plain-table-requires
     loop-holds
     sub-loop
     lay-block-requires

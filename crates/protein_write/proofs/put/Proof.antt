@@ -1,6 +1,7 @@
 -- Run by run. Invariant: the letters done stand at the front, and the others are left.
 use Prim.Native.Nat.{_-_}
 use native.Mathlib.Omega.{arith}
+use Rattle.protein_code.specs.Tables.{codeOf}
 use Rattle.protein_codons.proofs.Readings.{letters-are}
 use Rattle.protein_write.proofs.Putting.{Putting, putting-start, putting-run, putting-one, putting-done, putting-end}
 use borrow.Author.Needs.{needs}
@@ -8,19 +9,19 @@ use Rattle.protein_write.proofs.put.Statement.{statement}
 use Rattle.protein_write.proofs.put.Tie as tie
 
 abbrev Inv-loop : tie.InvT-loop
-Inv-loop r loc top count sets turns table out₀ x₀ k₀ out x k = Putting r loc top x₀ count out₀ out x k
+Inv-loop r loc top count code out₀ x₀ k₀ out x k = Putting (codeOf code) r loc top x₀ count out₀ out x k
 
 abbrev μ-loop : tie.MeasureT-loop
-μ-loop r loc top count sets turns table out₀ x₀ k₀ out x k = count - k
+μ-loop r loc top count code out₀ x₀ k₀ out x k = count - k
 
 loop-holds : tie.Need-loop-holds Inv-loop μ-loop
-loop-holds c = putting-start (c .before .before .before .pre .1 .0) (c .before .before .before .pre .1 .1 .1 .1 .1)
+loop-holds c = putting-start (c .before .before .before .pre .1 .0) (c .before .before .before .pre .1 .1 .1)
 
 lay-requires : tie.Need-lay-requires Inv-loop μ-loop
 lay-requires c κs =
     let pre' = c .before .before .before .before .before .pre in
     let i = c .before .loop .inv in
-    (i .ready .order, (i .ready .inside, (i .within, (omega (arith, i .room, i .size), (pre' .1 .1 .0, (pre' .1 .1 .1 .0, pre' .1 .1 .1 .1 .0))))))
+    (i .ready .order, (i .ready .inside, (i .within, (omega (arith, i .room, i .size), pre' .1 .1 .0))))
 
 add-j : tie.Need-add-j Inv-loop μ-loop
 add-j c =
@@ -47,7 +48,7 @@ next-requires c κs =
     let pre' = c .before .before .before .before .before .before .before .before .before .before .pre in
     let loop' = c .before .before .before .before .before .before .loop in
     let f = putting-run (loop' .inv) (c .before .onward .ensures) (c .before .before .before .before .lay .ensures) in
-    (pre' .0, (f .ready, (pre' .1 .1 .0, (pre' .1 .1 .1 .0, pre' .1 .1 .1 .1 .0))))
+    (pre' .0, (f .ready, pre' .1 .1 .0))
 
 enum-told : tie.Need-enum-told Inv-loop μ-loop
 enum-told c = search needs

@@ -17,7 +17,7 @@ enum-known-n c = search needs
 begin-requires : tie.Need-begin-requires
 begin-requires c κs =
     let pre' = c .before .before .before .before .before .before .before .before .pre in
-    (c .before .before .before .before .if1 .left, (pre' .0, pre' .1 .0))
+    (c .before .before .before .before .if1 .left, pre')
 
 put-requires : tie.Need-put-requires
 put-requires c κs =
@@ -25,7 +25,7 @@ put-requires c κs =
     let if1 = c .before .before .before .before .before .before .if1 in
     let measure = c .before .before .before .before .before .measure in
     let m = measures-are (measure .ensures) (c .before .before .before .n .given .1) in
-    (if1 .left, (c .before .begin .ensures .ready, (pre' .0, (pre' .1 .0, (pre' .1 .1, m .within)))))
+    (if1 .left, (c .before .begin .ensures .ready, (pre', m .within)))
 
 same-length : tie.Need-same-length
 same-length c = search needs

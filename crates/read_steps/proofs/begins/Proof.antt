@@ -1,4 +1,5 @@
--- `read_steps::begins` meets its contract. The loop's invariant: the text has the first `i` bytes of the word. The measure is what is left of the word.
+-- `read_steps::begins` meets its contract. The loop's invariant: the text has the first `i` bytes of the word. The measure is what is
+-- left of the word.
 use Prim.Native.Nat.{_-_, _≤_}
 use native.Mathlib.Omega.{arith}
 use mathlib.Core.Path.{sym, subst}

@@ -1,4 +1,5 @@
--- `read_steps::blanks` meets its contract. The loop's invariant: the bytes from `next` to `at` are blanks. The measure is what is left of the text.
+-- `read_steps::blanks` meets its contract. The loop's invariant: the bytes from `next` to `at` are blanks. The measure is what is left of
+-- the text.
 use Prim.Native.Nat.{ℕ, suc, _+_, _-_, _≤_, _<_}
 use native.Mathlib.Omega.{arith}
 use mathlib.Core.Path.{_≡_, sym, ap, _∙_}

@@ -1,4 +1,5 @@
--- `read_steps::block` meets its contract. The loop's invariant: where the tests joined are 0 each byte passed stands for itself. The measure is what is left of the n bytes.
+-- `read_steps::block` meets its contract. The loop's invariant: where the tests joined are 0 each byte passed stands for itself. The
+-- measure is what is left of the n bytes.
 use Prim.Native.Nat.{ℕ, _+_, _-_, _≤_}
 use native.Mathlib.Omega.{arith}
 use mathlib.Core.Path.{_≡_, subst}

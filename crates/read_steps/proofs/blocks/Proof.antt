@@ -1,4 +1,5 @@
--- `read_steps::blocks` meets its contract. The loop's invariant: the bytes from `start` to `at` stand for themselves. The measure is what is left of the text.
+-- `read_steps::blocks` meets its contract. The loop's invariant: the bytes from `start` to `at` stand for themselves. The measure is what
+-- is left of the text.
 use Prim.Native.Nat.{_+_, _-_, _≤_}
 use native.Mathlib.Omega.{arith}
 use mathlib.Core.Bool.{false}

@@ -1,4 +1,5 @@
--- `read_steps::lit` meets its contract. The loop's invariant: the text from `next` on starts with `i` bytes of the word. The measure is what is left of the word.
+-- `read_steps::lit` meets its contract. The loop's invariant: the text from `next` on starts with `i` bytes of the word. The measure is
+-- what is left of the word.
 use Prim.Native.Nat.{_+_, _-_, _≤_}
 use native.Mathlib.Numerals.{add-one}
 use native.Mathlib.Omega.{arith}

@@ -1,4 +1,5 @@
--- `read_steps::scan` meets its contract. The loop's invariant: the bytes from `start` to `at` stand for themselves. The measure is what is left to `stop`.
+-- `read_steps::scan` meets its contract. The loop's invariant: the bytes from `start` to `at` stand for themselves. The measure is what
+-- is left to `stop`.
 use Prim.Native.Nat.{_-_, _≤_}
 use native.Mathlib.Omega.{arith}
 use mathlib.Core.Path.{sym, _∙_}

@@ -1,4 +1,5 @@
--- `read_steps::stands` meets its contract. The loop's invariant: the text has the first `i` bytes of the word. The measure is what is left of the word.
+-- `read_steps::stands` meets its contract. The loop's invariant: the text has the first `i` bytes of the word. The measure is what is
+-- left of the word.
 use borrow.Author.Needs.{needs}
 use Rattle.read_steps.proofs.Words.{alike-none, alike-more}
 use Rattle.read_steps.specs.Words.{Eight, Alike}

@@ -1,4 +1,5 @@
--- `read_steps::text` meets its contract. The loop's invariant: what is read as characters from `at` on is so from `next` on. The measure is what is left of the text.
+-- `read_steps::text` meets its contract. The loop's invariant: what is read as characters from `at` on is so from `next` on. The measure
+-- is what is left of the text.
 use Prim.Native.Nat.{ℕ, _-_}
 use native.Mathlib.Omega.{arith}
 use denote.Ref.{now}

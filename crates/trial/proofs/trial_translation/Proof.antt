@@ -1,21 +1,17 @@
 -- `trial::trial_translation` meets its contract: the answer of `write`, in numbers.
 use mathlib.Core.Path.{sym, ap}
 use Rattle.trial.specs.Numbers.{sizeNumber, sizeLength}
+use Rattle.protein_code.proofs.Codes.{code-1, coded-1}
+use Rattle.trial.proofs.Answers.{wrote}
 use borrow.Author.Needs.{needs}
 use Rattle.trial.proofs.trial_translation.Statement.{statement}
 use Rattle.trial.proofs.trial_translation.Tie as tie
 
-set-table-requires : tie.Need-set-table-requires
-set-table-requires c κs = search needs
-
-turn-table-requires : tie.Need-turn-table-requires
-turn-table-requires c κs = search needs
-
-letter-table-requires : tie.Need-letter-table-requires
-letter-table-requires c κs = search needs
+code-table-requires : tie.Need-code-table-requires
+code-table-requires c κs = search needs
 
 write-requires : tie.Need-write-requires
-write-requires c κs = search needs
+write-requires c κs = coded-1 (c .before .before .code-table .ensures)
 
 enum-known-n : tie.Need-enum-known-n
 enum-known-n c = search needs
@@ -35,7 +31,7 @@ returns c =
     let e = c .before .n .given .1 in
     record {
       says = write .result;
-      writes = write .ensures;
+      writes = wrote (code-1 (c .before .before .before .before .before .before .before .before .code-table .ensures)) (write .ensures);
       number-is = sym (ap sizeNumber e);
       length-is = sym (ap sizeLength e);
     }
@@ -48,7 +44,7 @@ returns-2 c =
     let e = c .enum-told .given .1 in
     record {
       says = c .before .before .before .before .write .result;
-      writes = c .before .before .before .before .write .ensures;
+      writes = wrote (code-1 (c .before .before .before .before .before .before .before .code-table .ensures)) (c .before .before .before .before .write .ensures);
       number-is = sym (ap sizeNumber e);
       length-is = sym (ap sizeLength e);
     }
@@ -61,7 +57,7 @@ returns-3 c =
     let e = c .enum-told2 .given .1 in
     record {
       says = c .before .before .before .before .write .result;
-      writes = c .before .before .before .before .write .ensures;
+      writes = wrote (code-1 (c .before .before .before .before .before .before .before .code-table .ensures)) (c .before .before .before .before .write .ensures);
       number-is = sym (ap sizeNumber e);
       length-is = sym (ap sizeLength e);
     }
@@ -70,9 +66,7 @@ pub trial-translation-spec : {M : Type 1} → statement M
 trial-translation-spec =
     tie.close
     (tie.spec
-    set-table-requires
-    turn-table-requires
-    letter-table-requires
+    code-table-requires
     write-requires
     enum-known-n
     enum-told

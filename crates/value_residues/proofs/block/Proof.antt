@@ -1,4 +1,5 @@
--- `value_residues::block` meets its contract. The loop's invariant: where the tests joined are 0 each byte passed is a symbol. The measure is what is left of the 64 bytes.
+-- `value_residues::block` meets its contract. The loop's invariant: where the tests joined are 0 each byte passed is a symbol. The
+-- measure is what is left of the 64 bytes.
 use Rattle.value_residues.proofs.Residues.{between-more}
 use Rattle.paper.proofs.Bits.{or-none}
 use Rattle.value_residues.specs.Residues.{Between}

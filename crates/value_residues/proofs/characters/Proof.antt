@@ -1,4 +1,5 @@
--- `value_residues::characters` meets its contract. The loop's invariant: the characters so far and those that start from `i` on are all of them.
+-- `value_residues::characters` meets its contract. The loop's invariant: the characters so far and those that start from `i` on are all
+-- of them.
 use Prim.Native.Nat.{_-_, _≤_}
 use native.Mathlib.Omega.{arith}
 use mathlib.Core.Path.{_∙_}

@@ -1,4 +1,5 @@
--- `value_residues::has_defined` meets its contract. The loop's invariant: those that are left to find and all there are, and the number asked for and those from `i` on.
+-- `value_residues::has_defined` meets its contract. The loop's invariant: those that are left to find and all there are, and the number
+-- asked for and those from `i` on.
 use Prim.Native.Nat.{_+_, _-_, _≤_}
 use native.Mathlib.Omega.{arith}
 use mathlib.Core.Path.{_≡_}

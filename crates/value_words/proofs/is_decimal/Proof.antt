@@ -1,5 +1,5 @@
--- `value_words::is_decimal` meets its contract. The loop's invariant: the digits passed have the value `v`, and the bytes are the number `n` exactly where
--- the rest makes it one. The measure is what is left of the length.
+-- `value_words::is_decimal` meets its contract. The loop's invariant: the digits passed have the value `v`, and the bytes are the number
+-- `n` exactly where the rest makes it one. The measure is what is left of the length.
 use Prim.Native.Nat.{_-_, _≤_}
 use native.Mathlib.Omega.{arith}
 use lib.ListN.{length}

@@ -1,4 +1,5 @@
--- `walk_items::endings` meets its contract. The loop's invariant: where the tests joined are 0 no end starts at a place passed. The measure is what is left of the 64 places.
+-- `walk_items::endings` meets its contract. The loop's invariant: where the tests joined are 0 no end starts at a place passed. The
+-- measure is what is left of the 64 places.
 use Rattle.walk_items.proofs.Quiet.{ending-more}
 use Rattle.walk_items.specs.Items.{NoEnding}
 use Rattle.paper.proofs.Bits.{or-none}

@@ -1,4 +1,5 @@
--- `walk_items::qualifiers_over` meets its contract. The loop's invariant: what is left of the list stands at `at`. The measure is what is left of the text.
+-- `walk_items::qualifiers_over` meets its contract. The loop's invariant: what is left of the list stands at `at`. The measure is what is
+-- left of the text.
 use Prim.Native.Nat.{_-_}
 use native.Mathlib.Omega.{arith}
 use denote.Ref.{now}

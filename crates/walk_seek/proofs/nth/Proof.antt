@@ -1,4 +1,5 @@
--- `walk_seek::nth` meets its contract. The loop's invariant: what is left of the list stands at `at`, and the item asked for behind `ahead` of it. The measure is what is left of the text.
+-- `walk_seek::nth` meets its contract. The loop's invariant: what is left of the list stands at `at`, and the item asked for behind
+-- `ahead` of it. The measure is what is left of the text.
 use Prim.Native.Nat.{_-_}
 use native.Mathlib.Omega.{arith}
 use denote.Ref.{now}
