@@ -1,5 +1,5 @@
 // Translations compared: whether a qualifier's value is the translation (rule 28), letter after letter and without room. It relies on the
-// paper and on the reading of the coding text; parameters and lent tables are as there.
+// paper and on the reading of the coding text; parameters and the lent table are as there.
 use protein_codons::Letter;
 use protein_codons::begin;
 use protein_codons::ends;
