@@ -4,10 +4,12 @@ use Prim.Native.Char.{code}
 use native.Mathlib.Nat.{pow-suc}
 use native.Mathlib.Omega.{arith}
 use mathlib.Core.Path.{_≡_, refl, sym, ap, _∙_, subst}
+use mathlib.Core.Bool.{Bool, true, false, cond}
 use mathlib.Core.List.{List, [], _∷_}
 use lib.ListN.{length, take, drop, set, length-set, length-drop, drop-of-length-le}
 use lib.Seq.{take-all, drop-cons, drop-set-lt, getD-set-same}
-use borrow.Author.Tests.{lt-ltb, le-ltb}
+use lib.Dec.{ltb}
+use borrow.Author.Tests.{lt-ltb, le-ltb, ltb-false}
 use Rattle.paper.specs.Values.{digitsBefore, decimal}
 
 -- the digits of n that are done stand from k on, and those of `left` come before them
@@ -84,3 +86,27 @@ module _ {n left k : ℕ} {table : List ℕ} (f : Digits n left k table) where
       ∙ ap (λ (i : ℕ). i ∷ drop k table) d
       ∙ sym (end (f .fuel) (f .enough) l)
       ∙ f .is
+
+-- ---- how many digits
+
+few : (f n k : ℕ) (w : List ℕ) → 1 ≤ k → n < 10 ^ k → length (digitsBefore f n w) ≤ k + length w
+few zero n k w h l = omega arith
+few (suc f) n k w h l = go (ltb n 10) refl (λ q m. few f (n / 10) (k - 1) ((n % 10 + code "0") ∷ w) q m)
+  where
+    go : (t : Bool) → ltb n 10 ≡ t
+        → (1 ≤ k - 1 → n / 10 < 10 ^ (k - 1) → length (digitsBefore f (n / 10) ((n % 10 + code "0") ∷ w)) ≤ k - 1 + suc (length w))
+        → length (cond t ((n + code "0") ∷ w) (digitsBefore f (n / 10) ((n % 10 + code "0") ∷ w))) ≤ k + length w
+    go true e r = omega (arith, h)
+    go false e r =
+        let m = ltb-false n 10 e in
+        let q = pow-suc 10 (k - 1) in
+        let p : 10 ^ (suc (k - 1)) ≡ 10 ^ k = ap (λ (i : ℕ). 10 ^ i) (omega (arith, h)) in
+        omega (arith, r (two (k - 1) (omega (arith, h)) m) (omega (arith, p, q, l)), h)
+      where
+        two : (j : ℕ) → suc j ≡ k → 10 ≤ n → 1 ≤ j
+        two zero z m = absurd (omega (arith, m, ap (λ (i : ℕ). 10 ^ i) z, l))
+        two (suc j) z m = omega arith
+
+-- a number of 64 bits has at most 20
+pub decimal-short : (n : ℕ) → n < 18446744073709551616 → length (decimal n) ≤ 20
+decimal-short n h = few (suc n) n 20 [] (omega arith) (omega (arith, h))

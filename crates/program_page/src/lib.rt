@@ -1,33 +1,30 @@
-// The program's lines: a verdict as text in lent room. Relies on the paper and on the kit's decimal digits.
+// The program's lines: a verdict as text in lent room. Relies on the paper and on lent_room.
+use lent_room::Pass;
+use lent_room::lay_bytes;
+use lent_room::lay_decimal;
 use paper::Verdict;
 ghost use Prim.Native.Nat.{_+_, _≤_};
 ghost use lib.ListN.{length};
 ghost use Rattle.paper.specs.declared.Verdict.the-variants.{Accepted, Refused};
-ghost use Rattle.program_page.specs.Pages.{Behind, LineBehind, Shows};
+ghost use Rattle.lent_room.specs.Room.{Puts};
+ghost use Rattle.program_page.specs.Pages.{PutsLine, Shows};
 
 // A text behind the first `at` bytes: where it ends.
 fn put_text(text: &[u8], at: usize, out: &mut [u8]) -> usize
     requires { ⌜ at + length (now text) ≤ length (now out) ⌝ }
-    ensures { λ r. ⌜ Behind at (now (out .entry)) (now (text .entry)) r (now (out .exit)) ⌝ }
+    ensures { λ r. ⌜ Puts at (now (text .entry)) (now (out .entry)) r (now (out .exit)) ⌝ }
 {
-    let mut i: usize = 0;
-    while i < text.len() {
-        out[at + i] = text[i];
-        i += 1;
-    }
-    at + i
+    lay_bytes(Pass::Write, text, at, b"", out).at
 }
 
 // A line behind the first `at` bytes: a word, a space, a number of at most 20 digits and byte 10.
 fn put_line(word: &[u8], n: usize, at: usize, out: &mut [u8]) -> usize
     requires { ⌜ at + length (now word) + 22 ≤ length (now out) ⌝ }
-    ensures { λ r. ⌜ LineBehind at (now (out .entry)) (now (word .entry)) n r (now (out .exit)) ⌝ }
+    ensures { λ r. ⌜ PutsLine at (now (out .entry)) (now (word .entry)) n r (now (out .exit)) ⌝ }
 {
-    let mut digits = [0u8; 20];
-    let size = io::decimal(n as u64, &mut digits);
     let a = put_text(word, at, out);
     let b = put_text(b" ", a, out);
-    let c = put_text(&digits[..size], b, out);
+    let c = lay_decimal(Pass::Write, n, b, b"", out).at;
     put_text(b"\n", c, out)
 }
 

@@ -1,7 +1,8 @@
 -- Six lines, one behind the other.
-use Rattle.program_page.proofs.Ends.{counted, behind-next}
-use Prim.Native.Nat.{_≤_}
 use native.Mathlib.Omega.{arith}
+use Rattle.paper.specs.declared.Verdict.the-variants.{Accepted}
+use Rattle.lent_room.proofs.Laws.{puts-next}
+use Rattle.program_page.proofs.Ends.{shows-page}
 use borrow.Author.Needs.{needs}
 use Rattle.program_page.proofs.put_accepted.Statement.{statement}
 use Rattle.program_page.proofs.put_accepted.Tie as tie
@@ -47,23 +48,15 @@ same-length c = search needs
 
 returns : tie.Need-returns
 returns c =
+    let args = c .before .before .before .before .before .before .before .before .before .before .before .before .before .before .before .before .before .before .before .before .before .before .before .before .before .before .before .before .before .before .before .args in
     let pre' = c .before .before .before .before .before .before .before .before .before .before .before .before .before .before .before .before .before .before .before .before .before .before .before .before .before .before .before .before .before .before .before .pre in
     let put-text = c .before .before .before .before .before .before .before .before .before .before .before .before .before .before .before .before .before .before .before .before .before .before .before .before .before .before .before .put-text in
     let put-line = c .before .before .before .before .before .before .before .before .before .before .before .before .before .before .before .before .before .before .before .before .before .before .put-line in
     let put-line2 = c .before .before .before .before .before .before .before .before .before .before .before .before .before .before .before .before .before .put-line2 in
     let put-line3 = c .before .before .before .before .before .before .before .before .before .before .before .before .put-line3 in
     let put-line4 = c .before .before .before .before .before .before .before .put-line4 in
-    let stands =
-    behind-next (put-text .ensures)
-    (behind-next (put-line .ensures .stands)
-    (behind-next (put-line2 .ensures .stands)
-    (behind-next (put-line3 .ensures .stands) (behind-next (put-line4 .ensures .stands) (c .before .before .put-line5 .ensures .stands))))) in
-    let fits : c .before .before .put-line5 .result ≤ 161 = omega (arith, put-text .ensures .ends, put-line .ensures .short) in
-    record {
-      fits = fits;
-      counts = counted _ _ (omega (arith, pre', put-text .kept, put-line .kept));
-      holds = stands .holds;
-    }
+    let stands = puts-next (put-text .ensures) (puts-next (put-line .ensures .stands) (puts-next (put-line2 .ensures .stands) (puts-next (put-line3 .ensures .stands) (puts-next (put-line4 .ensures .stands) (c .before .before .put-line5 .ensures .stands))))) in
+    shows-page (Accepted (args .total) (args .skipped) (args .features) (args .judged) (args .unjudged)) stands (omega (arith, put-text .ensures .ends, put-line .ensures .short, put-line2 .ensures .short, put-line3 .ensures .short, put-line4 .ensures .short, c .before .before .put-line5 .ensures .short)) (pre')
 
 pub put-accepted-spec : {M : Type 1} → statement M
 put-accepted-spec =

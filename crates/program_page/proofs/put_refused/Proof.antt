@@ -1,6 +1,8 @@
 -- Three lines, one behind the other.
-use Rattle.program_page.proofs.Ends.{counted, behind-next}
 use native.Mathlib.Omega.{arith}
+use Rattle.paper.specs.declared.Verdict.the-variants.{Refused}
+use Rattle.lent_room.proofs.Laws.{puts-next}
+use Rattle.program_page.proofs.Ends.{shows-page}
 use borrow.Author.Needs.{needs}
 use Rattle.program_page.proofs.put_refused.Statement.{statement}
 use Rattle.program_page.proofs.put_refused.Tie as tie
@@ -28,11 +30,12 @@ same-length c = search needs
 
 returns : tie.Need-returns
 returns c =
+    let args = c .before .before .before .before .before .before .before .before .before .before .before .before .before .before .before .before .args in
     let pre' = c .before .before .before .before .before .before .before .before .before .before .before .before .before .before .before .before .pre in
     let put-text = c .before .before .before .before .before .before .before .before .before .before .before .before .put-text in
     let put-line = c .before .before .before .before .before .before .before .put-line in
-    let stands = behind-next (put-text .ensures) (behind-next (put-line .ensures .stands) (c .before .before .put-line2 .ensures .stands)) in
-    record { fits = omega arith; counts = counted _ _ (omega (arith, pre')); holds = stands .holds }
+    let stands = puts-next (put-text .ensures) (puts-next (put-line .ensures .stands) (c .before .before .put-line2 .ensures .stands)) in
+    shows-page (Refused (args .rule) (args .place)) stands (omega (arith, put-text .ensures .ends, put-line .ensures .short, c .before .before .put-line2 .ensures .short)) (pre')
 
 pub put-refused-spec : {M : Type 1} → statement M
 put-refused-spec =
