@@ -1,13 +1,14 @@
 -- Letters laid at the front of lent room, run after run.
-use Prim.Native.Nat.{ℕ, suc, _+_, _-_, _≤_, _<_}
+use Prim.Native.Nat.{ℕ, _+_, _-_, _≤_, _<_}
 use Prim.Native.Char.{code}
 use native.Mathlib.Numerals.{add-one}
 use native.Mathlib.Omega.{arith}
 use mathlib.Core.Path.{_≡_, refl, sym, ap, _∙_}
 use mathlib.Core.Bool.{Bool, true, false, cond}
-use mathlib.Core.List.{List, [], _∷_, _++_, append-assoc}
+use mathlib.Core.List.{List, [], _∷_, _++_}
 use lib.ListN.{length, take, drop, getD, set, length-append, length-drop}
-use lib.Seq.{take-add, take-at, drop-at, drop-cons, drop-drop, set-split, length-take-le}
+use Rattle.lent_room.proofs.Laws.{sets-append, sets-front}
+use lib.Seq.{sets, length-sets, take-add, take-at, drop-at, drop-cons, drop-drop, length-take-le}
 use lib.Dec.{eqb}
 use Rattle.paper.specs.Locations.{spans}
 use Rattle.paper.specs.Translation.{Code, codingText, letters, dropStop}
@@ -43,18 +44,6 @@ translation-short (x ∷ y ∷ l) = let h = translation-short (y ∷ l) in omega
 
 -- ---- letters laid
 
--- d behind the first letters at the front
-front-more : (p out d : List ℕ) (k n : ℕ) → length p ≡ k → length d ≡ n
-    → take k (front p out) ++ d ++ drop (k + n) (front p out) ≡ front (p ++ d) out
-front-more p out d k n a b =
-    let rest : drop (k + n) (p ++ drop (length p) out) ≡ drop (k + n) out
-    = sym (drop-drop n k (p ++ drop (length p) out))
-    ∙ ap (drop n) (drop-at p (drop (length p) out) k a)
-    ∙ drop-drop n (length p) out
-    ∙ ap (λ (i : ℕ). drop (i + n) out) a in
-    let long : length (p ++ d) ≡ k + n = length-append p d ∙ omega arith in
-    rw (take-at p (drop (length p) out) k a, rest, long)
-
 -- of the letters l the first k are done, then come d and then o
 module _ (l d o : List ℕ) (k n : ℕ) (size : length d ≡ n) (e : drop k l ≡ d ++ o) where
   pub take-more : take (k + n) l ≡ take k l ++ d
@@ -69,7 +58,7 @@ pub record Laid (gc : Code) (s loc : List ℕ) (L : ℕ) (before after : List �
   pub left : TextLeft s loc L x rest
   pub all : k ≤ length l
   pub others : letters gc rest ≡ drop k l
-  pub holds : after ≡ front (take k l) before
+  pub holds : after ≡ sets before 0 (take k l)
 
 -- the loop's invariant
 pub record Putting (gc : Code) (s loc : List ℕ) (L : ℕ) (from : Reading) (count : ℕ) (before after : List ℕ) (x : Reading) (k : ℕ) : Type 0 where
@@ -98,19 +87,25 @@ module _ {gc : Code} {s loc : List ℕ} {L : ℕ} {from : Reading} {count : ℕ}
     putting-end h =
         let w = f .within in
         let e : k ≡ count = omega arith in
-        record { says = λ text t n. rw (← e) (f .laid text t .holds) }
+        record {
+          says = λ text t n.
+              let l = take k (letters gc text) in
+              rw (← e) (f .laid text t .holds ∙ sets-front l before (omega (arith, length-take-le k (letters gc text) (omega (arith, e, n)), f .room, w)));
+        }
+
+    -- d behind the first k letters
+    behind : (l d : List ℕ) → k ≤ length l → sets (sets before 0 (take k l)) k d ≡ sets before 0 (take k l ++ d)
+    behind l d h = ap (λ (i : ℕ). sets (sets before 0 (take k l)) i d) (omega (arith, length-take-le k l h)) ∙ sets-append (take k l) d before 0
 
     -- letters laid: a run of them, or one
     putting-on : {d : List ℕ} {n : ℕ} {y : Reading} {out : List ℕ} → Gives gc s loc L x d y → length d ≡ n → k + n ≤ count
-        → out ≡ take k after ++ d ++ drop (k + n) after → Putting gc s loc L from count before out y (k + n)
+        → out ≡ sets after k d → Putting gc s loc L from count before out y (k + n)
     putting-on {d} {n} {y} {out} g size w e =
         record {
           ready = g .ready;
           within = w;
           room = f .room;
-          size = ap length e
-              ∙ length-append (take k after ++ d) (drop (k + n) after)
-              ∙ omega (arith, length-append (take k after) d, length-take-le k after (omega (arith, f .size, f .room)), length-drop (k + n) after, f .size, f .room);
+          size = ap length e ∙ length-sets after k d ∙ f .size;
           laid = λ text t.
               let l = letters gc text in
               let u = f .laid text t in
@@ -121,14 +116,13 @@ module _ {gc : Code} {s loc : List ℕ} {L : ℕ} {from : Reading} {count : ℕ}
                 left = v .left;
                 all = omega (arith, u .all, length-drop k l, ap length z, length-append d (letters gc (v .others)));
                 others = sym (drop-more l d (letters gc (v .others)) k n size z);
-                holds = e ∙ rw (u .holds, take-more l d (letters gc (v .others)) k n size z) (front-more (take k l) before d k n (length-take-le k l (u .all)) size);
+                holds = e ∙ ap (λ (w : List ℕ). sets w k d) (u .holds) ∙ behind l d (u .all) ∙ ap (sets before 0) (sym (take-more l d (letters gc (v .others)) k n size z));
               };
         }
 
     pub putting-one : {c : ℕ} {y : Reading} → LetterIs gc s loc L x c y → k < count → Putting gc s loc L from count before (set after k c) y (k + 1)
     putting-one {c} g h =
-        putting-on (g .one) refl (omega arith)
-        (set-split after k c (omega (arith, f .size, f .room)) ∙ rw (add-one k) (sym (append-assoc (take k after) (c ∷ []) (drop (suc k) after))))
+        putting-on (g .one) refl (omega arith) refl
 
     pub putting-run : {n : ℕ} {y : Reading} {out : List ℕ} → Onward x n y
         → Lays (x .low) (x .high) (spanLetters gc s (x .low) (x .high) (x .turned)) k count n after out → Putting gc s loc L from count before out y (k + n)

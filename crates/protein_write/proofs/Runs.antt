@@ -1,23 +1,21 @@
 -- Codons of one span, laid run after run.
 use Prim.Native.Nat.{ℕ, _+_, _*_, _≤_, _<_}
-use native.Mathlib.Numerals.{add-one}
-use native.Mathlib.Omega.{arith}
 use mathlib.Core.Path.{_≡_, refl, sym, subst, _∙_}
 use mathlib.Core.List.{List}
 use lib.ListN.{length, getD, set, length-set}
-use lib.Seq.{paste-zero, paste-suc}
+use Rattle.lent_room.proofs.Leaves.{sets-more}
 use Rattle.protein_write.specs.Writing.{LaysOn, Lays}
 
 module _ (l : List ℕ) (from k : ℕ) (out : List ℕ) where
   pub lays-none : LaysOn l from k k out out
-  lays-none = record { size = refl; is = λ o e h. h }
+  lays-none = record { size = refl; is = λ o h. h }
 
-  pub lays-more : {n c : ℕ} {after : List ℕ} → LaysOn l from k n out after → from + n < length out → n < length l → c ≡ getD l n 0
+  pub lays-more : {n c : ℕ} {after : List ℕ} → LaysOn l from k n out after → n < length l → c ≡ getD l n 0
       → LaysOn l from k (n + 1) out (set after (from + n) c)
-  lays-more {n} {c} {after} f h i e =
+  lays-more {n} {c} {after} f h e =
       record {
         size = length-set after (from + n) c ∙ f .size;
-        is = λ o g w. rw (f .is o g w, e, add-one n) (paste-suc o from l n 0 (omega arith) i);
+        is = λ o w. rw (f .is o w, e) (sets-more l o from n h);
       }
 
 -- that many
@@ -26,8 +24,8 @@ lays-are {l} {from} {k} {n} {m} {out} {after} f e = subst (λ (n : ℕ). LaysOn 
 
 -- runs of codons, one behind another
 pub lays-join : {l : List ℕ} {from a b c : ℕ} {x y z : List ℕ} → LaysOn l from a b x y → LaysOn l from b c y z → LaysOn l from a c x z
-lays-join f g = record { size = g .size ∙ f .size; is = λ o e h. g .is o (e ∙ sym (f .size)) (f .is o e h) }
+lays-join f g = record { size = g .size ∙ f .size; is = λ o h. g .is o (f .is o h) }
 
 pub lays-all : {low high from count n : ℕ} {l out after : List ℕ} → LaysOn l from 0 n out after → low + 3 * n ≤ high
     → from + n ≤ count → Lays low high l from count n out after
-lays-all {from = from} {l = l} {out} f h i = record { within = h; inside = i; is = f .is out refl (paste-zero out from l) }
+lays-all {out = out} f h i = record { within = h; inside = i; is = f .is out refl }

@@ -3,7 +3,7 @@ use Prim.Native.Nat.{ℕ, _+_, _*_, _≤_}
 use mathlib.Core.Path.{_≡_}
 use mathlib.Core.List.{List}
 use lib.ListN.{length, take}
-use lib.Seq.{paste}
+use lib.Seq.{sets}
 use Rattle.paper.specs.Locations.{Location}
 use Rattle.paper.specs.Translation.{Code, letters, dropStop}
 use Rattle.paper.specs.Answers.{front}
@@ -16,16 +16,16 @@ use Rattle.protein_measure.specs.declared.Size.the-variants as size
 
 -- ---- the codons that stand whole in a span between two places, with the letters l
 
--- where the first k were laid from a place on, the first n are now
+-- where the first k stood from a place on, the first n do now
 pub record LaysOn (l : List ℕ) (from k n : ℕ) (before after : List ℕ) : Type 0 where
   pub size : length after ≡ length before
-  pub is : (out : List ℕ) → length out ≡ length before → before ≡ paste out from l k → after ≡ paste out from l n
+  pub is : (out : List ℕ) → before ≡ sets out from (take k l) → after ≡ sets out from (take n l)
 
--- the first n are laid from a place on, before another
+-- the first n stand from a place on, before another
 pub record Lays (low high : ℕ) (l : List ℕ) (from count n : ℕ) (out after : List ℕ) : Type 0 where
   pub within : low + 3 * n ≤ high
   pub inside : from + n ≤ count
-  pub is : after ≡ paste out from l n
+  pub is : after ≡ sets out from (take n l)
 
 -- ---- in lent room
 

@@ -45,7 +45,7 @@ loop-again c =
     let k = c .before .before .loop .k in
     let laid = c .before .before .loop .inv .1 in
     let whole = span-within gc (a .r .now) (a .low) (a .high) (a .turned) (k + 1) (omega arith) (pre' .1 .1 .0) in
-    (omega arith, lays-more l (a .from) (a .start) _ laid (omega (arith, laid .size)) (omega (arith, whole)) (c .letter-at .ensures))
+    (omega arith, lays-more l (a .from) (a .start) _ laid (omega (arith, whole)) (c .letter-at .ensures))
 
 same-length : tie.Need-same-length Inv-loop μ-loop
 same-length c = c .before .loop .inv .1 .size

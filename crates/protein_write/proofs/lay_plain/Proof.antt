@@ -54,7 +54,7 @@ loop-again c =
     let k = c .before .before .loop .k in
     let laid = c .before .before .loop .inv .2 in
     let whole = span-within gc (a .r .now) (a .low) (a .high) (a .turned) (k + 1) (omega arith) (pre' .1 .0) in
-    (omega arith, omega arith, lays-more l (a .from) (a .start) _ laid (omega (arith, laid .size)) (omega (arith, whole)) (c .plain-at .ensures))
+    (omega arith, omega arith, lays-more l (a .from) (a .start) _ laid (omega (arith, whole)) (c .plain-at .ensures))
 
 same-length : tie.Need-same-length Inv-loop μ-loop
 same-length c = c .before .loop .inv .2 .size
