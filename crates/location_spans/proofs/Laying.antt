@@ -5,12 +5,13 @@ use mathlib.Core.Path.{_≡_, refl, sym, ap, _∙_}
 use mathlib.Core.Bool.{true, false, cond}
 use mathlib.Core.Option.{Option, none, some}
 use mathlib.Core.List.{List, [], _∷_, _++_, append-assoc, append-nil}
-use lib.ListN.{length, drop, set, length-append, length-drop, length-set}
-use lib.Seq.{drop-drop}
+use lib.ListN.{length, set, length-append, length-set}
+use lib.Seq.{sets}
 use lib.Dec.{ltb}
 use borrow.Author.Tests.{lt-ltb, le-ltb}
 use Rattle.paper.specs.Locations.{Location, Span, spans, operatorNumber, breaks25}
 use Rattle.paper.specs.Answers.{triples, front}
+use Rattle.lent_room.proofs.Laws.{sets-append, sets-front}
 use Rattle.location_judge.specs.Judging.{Spells, Judges}
 use Rattle.location_spans.specs.Walking.{Left, Steps, Starts, spanIs}
 use Rattle.location_spans.specs.Room.{Puts, Asked, Answers}
@@ -31,31 +32,15 @@ triples-snoc : (l : List Span) (x : Span) → triples (l ++ (x ∷ [])) ≡ trip
 triples-snoc [] x = refl
 triples-snoc (y ∷ l) x = ap (λ (z : List ℕ). y .first ∷ y .last ∷ y .marks ∷ z) (triples-snoc l x)
 
--- three numbers behind d
-set-three : (d r : List ℕ) (a b c : ℕ) → 3 ≤ length r
-    → set (set (set (d ++ r) (length d) a) (length d + 1) b) (length d + 2) c ≡ d ++ (a ∷ b ∷ c ∷ drop 3 r)
-set-three [] [] a b c h = absurd (omega arith)
-set-three [] (x ∷ []) a b c h = absurd (omega arith)
-set-three [] (x ∷ y ∷ []) a b c h = absurd (omega arith)
-set-three [] (x ∷ y ∷ z ∷ r) a b c h = refl
-set-three (x ∷ d) r a b c h =
-    let p : suc (length d) + 1 ≡ suc (length d + 1) = omega arith in
-    let q : suc (length d) + 2 ≡ suc (length d + 2) = omega arith in
-    rw (p, q) (ap (λ (l : List ℕ). x ∷ l) (set-three d r a b c h))
-
--- the spans l at the front, and then one more
-front-more : (l : List Span) (x : Span) (out : List ℕ) → length l * 3 + 3 ≤ length out
-    → set (set (set (front (triples l) out) (length l * 3) (x .first)) (length l * 3 + 1) (x .last)) (length l * 3 + 2) (x .marks)
-    ≡ front (triples (l ++ (x ∷ []))) out
-front-more l x out h =
-    let d = triples l in
-    let n = triples-size l in
-    let three = x .first ∷ x .last ∷ x .marks ∷ [] in
-    let m : length (d ++ three) ≡ length d + 3 = length-append d three in
-    let tail : d ++ (three ++ drop 3 (drop (length d) out)) ≡ front (d ++ three) out
-    = ap (λ (r : List ℕ). d ++ (three ++ r)) (drop-drop 3 (length d) out ∙ ap (λ (k : ℕ). drop k out) (sym m))
-    ∙ sym (append-assoc d three (drop (length (d ++ three)) out)) in
-    rw (← n, triples-snoc l x) (set-three d (drop (length d) out) (x .first) (x .last) (x .marks) (omega (arith, length-drop (length d) out, n)) ∙ tail)
+-- the spans l stand at the front, and then one more
+sets-span : (l : List Span) (x : Span) (out : List ℕ)
+    → set (set (set (sets out 0 (triples l)) (length l * 3) (x .first)) (length l * 3 + 1) (x .last)) (length l * 3 + 2) (x .marks)
+    ≡ sets out 0 (triples (l ++ (x ∷ [])))
+sets-span l x out =
+    let k : 0 + length (triples l) ≡ length l * 3 = omega (arith, triples-size l) in
+    let a : length l * 3 + 1 ≡ suc (length l * 3) = omega arith in
+    let b : length l * 3 + 2 ≡ suc (suc (length l * 3)) = omega arith in
+    rw (a, b, triples-snoc l x, ← k) (sets-append (triples l) (x .first ∷ x .last ∷ x .marks ∷ []) out 0)
 
 -- of the spans l, those done are written and the others are left
 record Laid (s : List ℕ) (L : ℕ) (before after : List ℕ) (w : Walk) (k : ℕ) (l : List Span) : Type 0 where
@@ -64,7 +49,7 @@ record Laid (s : List ℕ) (L : ℕ) (before after : List ℕ) (w : Walk) (k : �
   all : l ≡ done ++ others
   many : length done ≡ k
   left : Left s L w others
-  holds : after ≡ front (triples done) before
+  holds : after ≡ sets before 0 (triples done)
 
 -- the loop's invariant, for whichever spans are left at the start
 pub record Laying (s : List ℕ) (L : ℕ) (from : Walk) (count : ℕ) (before after : List ℕ) (w : Walk) (k : ℕ) : Type 0 where
@@ -93,7 +78,10 @@ module _ {s : List ℕ} {L : ℕ} {from : Walk} {count : ℕ} {before : List ℕ
     laying-end h l x e = let z = y .laid l x e in go z (z .others) (z .all)
       where
         go : (z : Laid s L before after w k l) (r : List Span) → l ≡ z .done ++ r → after ≡ front (triples l) before
-        go z [] q = z .holds ∙ ap (λ (m : List Span). front (triples m) before) (sym (q ∙ append-nil (z .done)))
+        go z [] q =
+            z .holds
+            ∙ ap (λ (m : List Span). sets before 0 (triples m)) (sym (q ∙ append-nil (z .done)))
+            ∙ sets-front (triples l) before (omega (arith, triples-size l, e, y .room))
         go z (a ∷ r) q = absurd (omega (arith, ap length q, length-append (z .done) (a ∷ r), z .many))
 
     pub laying-next : (x : Given) (v : Walk) → k < count → Steps s L w (next.Is x v)
@@ -113,7 +101,7 @@ module _ {s : List ℕ} {L : ℕ} {from : Walk} {count : ℕ} {before : List ℕ
                 all = z .all ∙ ap (λ (r : List Span). z .done ++ r) (u .1) ∙ sym (append-assoc (z .done) (spanIs x ∷ []) (u .0));
                 many = omega (arith, length-append (z .done) (spanIs x ∷ []), m);
                 left = u .2;
-                holds = rw (z .holds, ← m) (front-more (z .done) (spanIs x) before (omega (arith, y .room)));
+                holds = rw (z .holds, ← m) (sets-span (z .done) (spanIs x) before);
               };
         }
 
