@@ -1,12 +1,11 @@
 -- All translations of a sequence into lent bytes.
 use Prim.Native.Nat.{ℕ, _≤_}
 use native.Mathlib.Omega.{arith}
-use mathlib.Core.Path.{_≡_, refl, sym, ap, _∙_, subst, subst₂}
+use mathlib.Core.Path.{_≡_, refl, sym, _∙_, subst, subst₂}
 use mathlib.Core.Bool.{true, false, true≢false}
-use mathlib.Core.List.{List, [], _++_}
+use mathlib.Core.List.{List, []}
 use mathlib.Core.Option.{Option, none, some}
-use lib.ListN.{length, take, drop}
-use lib.Seq.{length-take-le}
+use lib.ListN.{length, drop}
 use Rattle.paper.specs.Form.{each}
 use Rattle.paper.specs.Layout.{child, feature}
 use Rattle.paper.specs.Tree.{Feature, Table, featuresIn}
@@ -32,9 +31,6 @@ table-missing : (s : List ℕ) (t : FoundTable) (o : Option (Table ℕ)) → t .
 table-missing s t none h i = refl
 table-missing s t (some x) h i = absurd (true≢false (sym (i .0) ∙ h))
 
-pub size-within : {s : List ℕ} {first room n : ℕ} {known : Known} {x : Lined} → MeasuresLines s first known room x → x ≡ Is n → n ≤ room
-size-within {s} {first} {room} {known = known} m e = subst (MeasuresLines s first known room) e m .within
-
 module _ {s out : List ℕ} {known : Known} {found : FoundTable} where
   pub all-none : found .present ≡ false → TranslatesAll s known found out (record { number = 0; size = 0 }) out
   all-none h =
@@ -56,20 +52,14 @@ module _ {s out : List ℕ} {known : Known} {found : FoundTable} where
               record { lines = y .lines; are = y .are; lent = Lent.short (y .size) };
         }
 
-    pub all-is : {n : ℕ} {ys : List ℕ} → x ≡ Is n → PutsLines s (found .first) known (take n out) ys
-        → TranslatesAll s known found out (record { number = 0; size = n }) (ys ++ drop n out)
-    all-is {n} {ys} e p =
+    pub all-is : {n : ℕ} {after : List ℕ} → x ≡ Is n → PutsLines s (found .first) known out after → TranslatesAll s known found out (record { number = 0; size = n }) after
+    all-is {n} {after} e p =
         record {
           says =
               λ q k i keep.
               let d = table-there s found (q .table) h i in
               let y = subst (MeasuresLines s (found .first) known (length out)) e m .says q k (featuresIn (q .table)) (d .0) (d .1) (d .2) keep in
-              let w = p .says q k (featuresIn (q .table)) (d .0) (d .1) (d .2) keep (y .lines) (y .are) (sym (y .size .0) ∙ sym (length-take-le n out (y .size .1))) in
-              record {
-                lines = y .lines;
-                are = y .are;
-                lent =
-                    subst₂ (Lent out (give (y .lines)) 0 0) (sym (y .size .0)) (ap (λ (a : List ℕ). a ++ drop (length (y .lines)) out) (sym w) ∙ ap (λ (j : ℕ). ys ++ drop j out) (sym (y .size .0)))
-                    (Lent.written (omega (arith, y .size .0, y .size .1)));
-              };
+              let fits : length (y .lines) ≤ length out = omega (arith, y .size .0, y .size .1) in
+              let w = p .says q k (featuresIn (q .table)) (d .0) (d .1) (d .2) keep (y .lines) (y .are) fits in
+              record { lines = y .lines; are = y .are; lent = subst₂ (Lent out (give (y .lines)) 0 0) (sym (y .size .0)) (sym w) (Lent.written fits) };
         }

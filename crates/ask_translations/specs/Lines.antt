@@ -2,14 +2,15 @@
 use Prim.Native.Nat.{ℕ, _≤_, _<_}
 use mathlib.Core.Path.{_≡_}
 use mathlib.Core.List.{List, [], _++_}
-use lib.ListN.{length, take, drop}
+use lib.ListN.{length, drop}
 use Rattle.paper.specs.Bytes.{bytes, isBlank}
 use Rattle.paper.specs.Lists.{_∈_}
 use Rattle.paper.specs.Form.{each}
 use Rattle.paper.specs.Layout.{child, feature}
 use Rattle.paper.specs.Tree.{Sequence, Feature, featuresOf}
-use Rattle.paper.specs.Answers.{refuse, give, Translates, Lent}
+use Rattle.paper.specs.Answers.{refuse, give, Translates, Lent, front}
 use Rattle.paper.specs.Answers as paper
+use Rattle.lent_room.specs.Room.{Puts}
 use Rattle.read_steps.specs.Follow.{Not, Starts, closing}
 use Rattle.walk_steps.specs.Stands.{Stands}
 use Rattle.walk_items.specs.Items.{IsFeature, TableIs}
@@ -81,23 +82,18 @@ pub record MeasuresLines (s : List ℕ) (first : ℕ) (known : Known) (room : �
 
 -- ---- written
 
-pub record PutsDash (out : List ℕ) (r : ℕ) (after : List ℕ) : Type 0 where
-  pub kept : length after ≡ length out
-  pub within : r ≤ length out
-  pub is : 2 ≤ length out → (r ≡ 2) × (take 2 after ≡ bytes "-\n")
-
--- where the line fits it stands at the front; what stands behind it isn't said, but for how much
+-- where the line fits it stands at the front, and the rest is as it was
 pub record PutsLine (s : List ℕ) (known : Known) (g : FoundFeature) (out : List ℕ) (r : ℕ) (after : List ℕ) : Type 0 where
   pub kept : length after ≡ length out
   pub within : r ≤ length out
   pub says : (q : Sequence ℕ) (f : Feature ℕ) (e : ℕ) → Knows s q known → IsFeature s f e g → Keeps q f
-      → (x : List ℕ) → Line q f x → length x ≤ length out → (r ≡ length x) × (take r after ≡ x)
+      → (x : List ℕ) → Line q f x → length x ≤ length out → Puts 0 x out r after
 
--- lines that are as long as out fill it
+-- and so do all the lines
 pub record PutsLines (s : List ℕ) (first : ℕ) (known : Known) (out after : List ℕ) : Type 0 where
   pub kept : length after ≡ length out
   pub says : (q : Sequence ℕ) → Knows s q known → (l : List (Feature ℕ)) (e : ℕ) → Stands (each (child feature) l) s first e → Starts closing (drop e s)
-      → KeepAll q l → (x : List ℕ) → paper.Lines q l x → length x ≡ length out → after ≡ x
+      → KeepAll q l → (x : List ℕ) → paper.Lines q l x → length x ≤ length out → after ≡ front x out
 
 -- ---- all translations of a sequence
 

@@ -6,6 +6,8 @@ use ask_translation::plan_of;
 use ask_translation::refused;
 use ask_translation::translate;
 use judge_faults::Known;
+use lent_room::Pass;
+use lent_room::lay_bytes;
 use protein_measure::Size;
 use protein_measure::measure;
 use read_steps::bytes_of;
@@ -13,7 +15,7 @@ use walk_items::FoundFeature;
 use walk_items::FoundTable;
 ghost use Rattle.paper.specs.Translation.{code1};
 ghost use Rattle.protein_code.specs.Tables.{CodeTable};
-ghost use Rattle.ask_translations.specs.Lines.{Dashes, MeasuresLine, PassesFeature, Adds, MeasuresLines, PutsDash, PutsLine, PutsLines, TranslatesAll};
+ghost use Rattle.ask_translations.specs.Lines.{Dashes, MeasuresLine, PassesFeature, Adds, MeasuresLines, PutsLine, PutsLines, TranslatesAll};
 
 // The length of some lines, or that they are longer than the room.
 pub enum Lined {
@@ -106,18 +108,6 @@ fn lines_size(s: &[u8], first: usize, known: Known, room: usize, code: &[u8; 512
     }
 }
 
-// The line `-` at the front of out: how many bytes.
-fn put_dash(out: &mut [u8]) -> usize
-    ensures { λ r. ⌜ PutsDash (now (out .entry)) r (now (out .exit)) ⌝ }
-{
-    if out.len() < 2 {
-        return 0;
-    }
-    out[0] = b'-';
-    out[1] = b'\n';
-    2
-}
-
 // A feature's line at the front of out, where it fits: how many bytes.
 fn put_line(
     s: &[u8],
@@ -134,14 +124,9 @@ fn put_line(
         return 0;
     }
     if text.number != 0 {
-        return put_dash(out);
+        return lay_bytes(Pass::Write, b"-\n", 0, b"", out).at;
     }
-    let end = text.size;
-    if out.len() <= end {
-        return 0;
-    }
-    out[end] = b'\n';
-    end + 1
+    lay_bytes(Pass::Write, b"\n", text.size, b"", out).at
 }
 
 // The lines of all features that stand from here on.
@@ -184,7 +169,7 @@ pub fn translate_all(
     match lines_size(s, found.first, known, out.len(), code) {
         Lined::Short => refused(34),
         Lined::Is(size) => {
-            put_lines(s, found.first, known, code, &mut out[..size]);
+            put_lines(s, found.first, known, code, out);
             Written { number: 0, size }
         }
     }

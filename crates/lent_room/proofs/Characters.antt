@@ -5,11 +5,11 @@ use native.Mathlib.Omega.{arith}
 use mathlib.Core.Path.{_≡_, refl, sym, ap, _∙_, subst}
 use mathlib.Core.Bool.{Bool, true, false, true≢false}
 use mathlib.Core.List.{List, [], _∷_, _++_, append-assoc, append-nil}
-use lib.ListN.{length, drop, getD, length-append, length-drop, drop-of-length-le}
+use lib.ListN.{length, drop, getD, length-drop, drop-of-length-le}
 use lib.Seq.{drop-drop, getD-drop}
 use lib.Dec.{eqb}
 use borrow.Author.Tests.{eq-eqb, ne-eqb}
-use Rattle.paper.specs.Bytes.{bytes, spell, raw}
+use Rattle.paper.specs.Bytes.{spell, raw}
 use Rattle.paper.proofs.Texts.{unspell, unspell-spell, spell-cases, spell-some}
 use Rattle.lent_room.specs.Room.{Lays, LaysRead}
 use Rattle.lent_room.specs.Spelled.{Firsts}

@@ -1,15 +1,13 @@
 -- Content stored in a room, one behind another; and how far texts begin alike.
-use Prim.Native.Nat.{ℕ, zero, suc, _+_, _-_, _≤_, _<_}
-use native.Mathlib.Numerals.{add-one}
+use Prim.Native.Nat.{ℕ, suc, _+_, _-_, _≤_, _<_}
 use native.Mathlib.Nat.{add-zero}
 use native.Mathlib.Omega.{arith}
-use mathlib.Core.Path.{_≡_, refl, sym, ap, _∙_, subst}
+use mathlib.Core.Path.{_≡_, refl, sym, ap, _∙_}
 use mathlib.Core.Bool.{Bool, true, false, cond}
-use mathlib.Core.List.{List, [], _∷_, _++_, append-assoc}
-use lib.ListN.{length, take, drop, set, getD, length-append, length-drop, length-set}
-use lib.Seq.{sets, sets-eq, length-sets, length-take-le, take-at, take-append-le}
+use mathlib.Core.List.{List, [], _∷_, _++_, append-nil}
+use lib.ListN.{length, take, drop, set, length-append, length-drop, take-append-drop, drop-of-length-le}
+use lib.Seq.{sets, sets-eq, length-take-le, take-all, take-at}
 use lib.Dec.{eqb}
-use borrow.Author.Tests.{eqb-true, ne-eqb, eq-eqb}
 use Rattle.paper.specs.Answers.{front}
 use Rattle.lent_room.specs.Room.{agree, Puts}
 
@@ -33,6 +31,54 @@ sets-take x room at h =
     let l : length (take at room ++ x) ≡ at + length x = length-append (take at room) x ∙ omega (arith, length-take-le at room (omega (arith, h))) in
     ap (take (at + length x)) (sets-eq x room at h)
     ∙ take-at (take at room ++ x) (drop (at + length x) room) (at + length x) l
+
+-- behind a
+pub sets-behind : (a z y : List ℕ) (i : ℕ) → sets (a ++ z) (length a + i) y ≡ a ++ sets z i y
+sets-behind a z [] i = refl
+sets-behind a z (b ∷ y) i =
+    let e : suc (length a + i) ≡ length a + suc i = omega arith in
+    rw (e, one a) (sets-behind a (set z i b) y (suc i))
+  where
+    one : (a : List ℕ) → set (a ++ z) (length a + i) b ≡ a ++ set z i b
+    one [] = ap (λ (k : ℕ). set z k b) (omega arith)
+    one (c ∷ a) = let e : suc (length a) + i ≡ suc (length a + i) = omega arith in rw e (ap (λ (l : List ℕ). c ∷ l) (one a))
+
+-- the room from `end` on, as it is lent
+abbrev pub lent : List ℕ → ℕ → List ℕ
+lent out end = take (length out - end) (drop end out)
+
+-- the room when that comes back as ys
+abbrev pub back : List ℕ → ℕ → List ℕ → List ℕ
+back out end ys = take end out ++ (ys ++ drop (length out - end) (drop end out))
+
+module _ (out : List ℕ) (end : ℕ) (h : end ≤ length out) where
+  lent-is : lent out end ≡ drop end out
+  lent-is = take-all (length out - end) (drop end out) (omega (arith, length-drop end out))
+
+  pub length-lent : length (lent out end) ≡ length out - end
+  length-lent = ap length lent-is ∙ length-drop end out
+
+  back-is : (ys : List ℕ) → back out end ys ≡ take end out ++ ys
+  back-is ys =
+      ap (λ (r : List ℕ). take end out ++ (ys ++ r)) (drop-of-length-le (drop end out) {i = length out - end} (omega (arith, length-drop end out)))
+      ∙ ap (_++_ (take end out)) (append-nil ys)
+
+  pub length-back : (ys : List ℕ) → length ys ≡ length (lent out end) → length (back out end ys) ≡ length out
+  length-back ys e =
+      ap length (back-is ys) ∙ omega (arith, length-append (take end out) ys, length-take-le end out h, e, length-lent, h)
+
+  -- y at the front of what was lent stands behind what was there
+  pub puts-lent : {r : ℕ} {ys y : List ℕ} → Puts 0 y (lent out end) r ys → Puts end y out (end + r) (back out end ys)
+  puts-lent {r} {ys} {y} p =
+      let l : length (take end out) + 0 ≡ end = omega (arith, length-take-le end out h) in
+      record {
+        ends = omega (arith, p .ends);
+        is = back-is ys
+            ∙ ap (_++_ (take end out)) (p .is ∙ ap (λ (z : List ℕ). sets z 0 y) lent-is)
+            ∙ sym (sets-behind (take end out) (drop end out) y 0)
+            ∙ ap (λ (k : ℕ). sets (take end out ++ drop end out) k y) l
+            ∙ ap (λ (z : List ℕ). sets z end y) (take-append-drop end out);
+      }
 
 module _ {at : ℕ} {room : List ℕ} where
   pub puts-none : Puts at [] room at room

@@ -1,13 +1,12 @@
 -- What a pass makes of contents, one behind another.
-use Prim.Native.Nat.{ℕ, _+_, _-_, _≤_, _<_}
+use Prim.Native.Nat.{ℕ, _+_, _-_, _≤_}
 use native.Mathlib.Omega.{arith}
 use mathlib.Core.Path.{_≡_, refl, sym, ap, _∙_, subst}
 use mathlib.Core.Bool.{Bool, true, false, true≢false}
-use mathlib.Core.List.{List, [], _∷_, _++_}
+use mathlib.Core.List.{List, [], _++_}
 use lib.ListN.{length, drop, length-append}
 use lib.Seq.{sets, length-sets, drop-drop}
 use Rattle.lent_room.specs.Room.{agree, Fits, fits, Agrees, same, differs, Lays, Puts}
-use Rattle.lent_room.specs.Room as Room
 use Rattle.lent_room.specs.declared.Pass.{Pass}
 use Rattle.lent_room.specs.declared.Pass.the-variants.{Measure, Write, Compare}
 use Rattle.lent_room.proofs.Laws.{sets-append, agree-on, agree-off}
@@ -24,6 +23,11 @@ module _ {given room x : List ℕ} {at : ℕ} where
   pub lays-written : {on : Bool} {end : ℕ} {after : List ℕ} → Lays given at x room Write on end after → length x ≤ length room - at → Puts at x room end after
   lays-written (Lays.written h) k = record { ends = refl; is = refl }
   lays-written (Lays.short h l) k = absurd (omega (arith, h, k))
+
+-- a pass that writes something ends in the room
+pub lays-within : {given room x after : List ℕ} {at end : ℕ} {on : Bool} → Lays given at x room Write on end after → 1 ≤ length x → end ≤ length room
+lays-within (Lays.written h) k = omega (arith, h, k)
+lays-within (Lays.short h l) k = omega arith
 
 -- the same content
 pub lays-as : {given room x y after : List ℕ} {at end : ℕ} {p : Pass} {on : Bool} → Lays given at x room p on end after → x ≡ y → Lays given at y room p on end after

@@ -1,5 +1,5 @@
--- `ask_translations::put_line` meets its contract.
-use Rattle.ask_translations.proofs.Puts.{put-none, put-dashed, put-full, put-is}
+-- No line, a dash, or the translation and byte 10 behind it.
+use Rattle.ask_translations.proofs.Puts.{line-none, line-dash, line-text}
 use borrow.Author.Needs.{needs}
 use Rattle.ask_translations.proofs.put_line.Statement.{statement}
 use Rattle.ask_translations.proofs.put_line.Tie as tie
@@ -11,42 +11,44 @@ same-length : tie.Need-same-length
 same-length c = search needs
 
 returns : tie.Need-returns
-returns c = put-none (c .before .before .before .before .translate .ensures) (search needs) (c .if1 .taken)
+returns c = line-none (c .before .before .before .before .translate .ensures) (search needs) (c .if1 .taken)
 
-put-dash-requires : tie.Need-put-dash-requires
-put-dash-requires c κs = search needs
+slice-aggregate-lay-bytes : tie.Need-slice-aggregate-lay-bytes
+slice-aggregate-lay-bytes c = search needs
+
+slice-aggregate-lay-bytes-2 : tie.Need-slice-aggregate-lay-bytes-2
+slice-aggregate-lay-bytes-2 c = search needs
+
+lay-bytes-requires : tie.Need-lay-bytes-requires
+lay-bytes-requires c κs = search needs
 
 same-length-2 : tie.Need-same-length-2
 same-length-2 c = search needs
 
 returns-2 : tie.Need-returns-2
 returns-2 c =
-    let translate = c .before .before .before .before .before .before .before .before .before .before .translate in
-    let if1 = c .before .before .before .before .before .before .if1 in
-    put-dashed (translate .ensures) (search needs) (if1 .left) (c .before .before .before .before .if2 .taken)
-    (c .before .before .put-dash .ensures)
+    let translate' = c .before .before .before .before .before .before .before .before .before .before .before .before .translate in
+    let if1 = c .before .before .before .before .before .before .before .before .if1 in
+    let if2 = c .before .before .before .before .before .before .if2 in
+    line-dash (translate' .ensures) (search needs) (if1 .left) (if2 .taken) (c .before .before .lay-bytes .ensures)
+
+slice-aggregate-lay-bytes-3 : tie.Need-slice-aggregate-lay-bytes-3
+slice-aggregate-lay-bytes-3 c = search needs
+
+slice-aggregate-lay-bytes-4 : tie.Need-slice-aggregate-lay-bytes-4
+slice-aggregate-lay-bytes-4 c = search needs
+
+lay-bytes-requires-2 : tie.Need-lay-bytes-requires-2
+lay-bytes-requires-2 c κs = search needs
 
 same-length-3 : tie.Need-same-length-3
 same-length-3 c = search needs
 
 returns-3 : tie.Need-returns-3
 returns-3 c =
-    let translate = c .before .before .before .before .before .before .before .translate in
-    put-full (translate .ensures) (search needs) (c .before .if2 .left) (c .if3 .taken)
-
-slice-write-out : tie.Need-slice-write-out
-slice-write-out c = search needs
-
-add-result : tie.Need-add-result
-add-result c = search needs
-
-same-length-4 : tie.Need-same-length-4
-same-length-4 c = search needs
-
-returns-4 : tie.Need-returns-4
-returns-4 c =
-    let translate = c .before .before .before .before .before .before .before .translate in
-    put-is (translate .ensures) (search needs) (c .before .if2 .left) (c .if3 .left)
+    let translate' = c .before .before .before .before .before .before .before .before .before .before .before .before .translate in
+    let if2 = c .before .before .before .before .before .before .if2 in
+    line-text (translate' .ensures) (search needs) (if2 .left) (c .before .before .lay-bytes2 .ensures)
 
 pub put-line-spec : {M : Type 1} → statement M
 put-line-spec =
@@ -55,12 +57,13 @@ put-line-spec =
     translate-requires
     same-length
     returns
-    put-dash-requires
+    slice-aggregate-lay-bytes
+    slice-aggregate-lay-bytes-2
+    lay-bytes-requires
     same-length-2
     returns-2
+    slice-aggregate-lay-bytes-3
+    slice-aggregate-lay-bytes-4
+    lay-bytes-requires-2
     same-length-3
-    returns-3
-    slice-write-out
-    add-result
-    same-length-4
-    returns-4)
+    returns-3)

@@ -1,10 +1,7 @@
--- `ask_translations::translate_all` meets its contract.
-use borrow.Author.Needs.{needs}
-use Rattle.ask_translations.proofs.Alls.{size-within, all-none, all-short, all-is}
-use lib.Seq.{length-take-le}
-use denote.Ref.{now}
+-- No lines, or they are measured and then written.
 use borrow.Author.Tests.{not-true, not-false}
-use mathlib.Core.Path.{sym}
+use Rattle.ask_translations.proofs.Alls.{all-none, all-short, all-is}
+use borrow.Author.Needs.{needs}
 use Rattle.ask_translations.proofs.translate_all.Statement.{statement}
 use Rattle.ask_translations.proofs.translate_all.Tie as tie
 
@@ -22,15 +19,6 @@ refused-requires c κs = search needs
 
 enum-known-size : tie.Need-enum-known-size
 enum-known-size c = search needs
-
-slice-relend-prefix-put-lines : tie.Need-slice-relend-prefix-put-lines
-slice-relend-prefix-put-lines c = size-within (c .before .before .before .lines-size .ensures) (c .before .size .given .1)
-
-slice-aggregate-put-lines : tie.Need-slice-aggregate-put-lines
-slice-aggregate-put-lines c =
-    let args = c .before .before .before .before .before .before .before .before .before .args in
-    sym
-    (length-take-le (c .before .before .size .given .0 .0) (now (args .out)) (size-within (c .before .before .before .before .lines-size .ensures) (c .before .before .size .given .1)))
 
 put-lines-requires : tie.Need-put-lines-requires
 put-lines-requires c κs = search needs
@@ -59,8 +47,6 @@ translate-all-spec =
     enum-told
     refused-requires
     enum-known-size
-    slice-relend-prefix-put-lines
-    slice-aggregate-put-lines
     put-lines-requires
     returns-2
     same-length

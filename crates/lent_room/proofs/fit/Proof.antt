@@ -3,7 +3,6 @@ use native.Mathlib.Omega.{arith}
 use Rattle.lent_room.specs.Room.{fits}
 use Rattle.lent_room.specs.Room.Fits.{short}
 use Rattle.lent_room.proofs.Leaves.{fits-none}
-use borrow.Author.Needs.{needs}
 use Rattle.lent_room.proofs.fit.Statement.{statement}
 use Rattle.lent_room.proofs.fit.Tie as tie
 

@@ -6,8 +6,6 @@ use Rattle.lent_room.proofs.Passes.{lays-written}
 use borrow.Author.Needs.{needs}
 use Rattle.program_page.proofs.put_line.Statement.{statement}
 use Rattle.program_page.proofs.put_line.Tie as tie
-use Rattle.lent_room.proofs.lay_decimal.Reads as lay-decimal-reads
-use Rattle.program_page.proofs.put_text.Reads as put-text-reads
 
 put-text-requires : tie.Need-put-text-requires
 put-text-requires c κs = search needs

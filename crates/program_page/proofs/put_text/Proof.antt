@@ -4,7 +4,6 @@ use Rattle.lent_room.proofs.Passes.{lays-written}
 use borrow.Author.Needs.{needs}
 use Rattle.program_page.proofs.put_text.Statement.{statement}
 use Rattle.program_page.proofs.put_text.Tie as tie
-use Rattle.lent_room.proofs.lay_bytes.Reads as lay-bytes-reads
 
 slice-aggregate-lay-bytes : tie.Need-slice-aggregate-lay-bytes
 slice-aggregate-lay-bytes c = search needs
