@@ -8,5 +8,6 @@ pub mod Locate
 pub mod Marks
 pub mod Inside
 pub mod Once
+pub mod Refusals
 pub mod Tries
 pub mod Samples

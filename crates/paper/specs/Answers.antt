@@ -202,7 +202,10 @@ pub record TranslationsSays (w : List ℕ) (k : ℕ) (out : List ℕ) (number pl
   pub finds : FindsTranslations w k outcome
   pub lent : Lent out outcome number place size after
 
--- ---- the program: "prints these lines, byte 10 after each"
+-- ---- the program: "reads standard input up to 65,536 bytes and prints these lines, byte 10 after each"
+
+abbrev pub programLimit : ℕ
+programLimit = 65536
 
 abbrev pub line : List ℕ → ℕ → List ℕ
 line word n = word ++ (bytes " " ++ (decimal n ++ bytes "\n"))
@@ -213,3 +216,8 @@ page (Accepted t s f j u) =
     ++ (line (bytes "total") t
     ++ (line (bytes "skipped") s ++ (line (bytes "features") f ++ (line (bytes "judged") j ++ line (bytes "unjudged") u))))
 page (Refused n p) = bytes "verdict refused\n" ++ (line (bytes "rule") n ++ line (bytes "place") p)
+
+-- what is printed for the bytes w: ".. More bytes give the one line `verdict too long for this program`."
+pub data Prints (w : List ℕ) : List ℕ → Type 0 where
+  too-long : programLimit < length w → Prints w (bytes "verdict too long for this program\n")
+  verdict : (v : Verdict) → length w ≤ programLimit → CheckSays w v → Prints w (page v)

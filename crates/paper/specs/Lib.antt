@@ -8,3 +8,4 @@ pub mod Locations
 pub mod Translation
 pub mod Rules
 pub mod Answers
+pub mod Demands

@@ -1,8 +1,9 @@
 -- The listing as a tree: "the tree of elements, attribute texts and element texts; blanks outside those texts aren't part of it."
 -- Each text carries a mark P: its place (ℕ), or nothing (Unit) in the bare listing of demand 3.
 use Prim.Native.Nat.{ℕ}
-use mathlib.Core.List.{List, [], map}
+use mathlib.Core.List.{List, [], _∷_, _++_, map}
 use mathlib.Core.Option.{Option, none, some}
+use Rattle.paper.specs.Lists.{gather, present}
 
 -- a text as read
 pub record Text (P : Type 0) : Type 0 where
@@ -157,3 +158,47 @@ listed (some l) = l
 
 abbrev pub qualifiersOf : {P : Type 0} → Feature P → List (Qualifier P)
 qualifiersOf f = listed (f .quals)
+
+-- ---- every text of a listing, in document order
+
+module _ {P : Type 0} where
+  abbrev pub spokenTexts : Spoken P → List (Text P)
+  spokenTexts x = x .languageCode ∷ x .words ∷ []
+
+  abbrev pub partyTexts : Party P → List (Text P)
+  partyTexts x = spokenTexts (x .name) ++ present (x .latin)
+
+  abbrev pub identificationTexts : Identification P → List (Text P)
+  identificationTexts x = present (x .office) ++ (x .number ∷ present (x .filed))
+
+  abbrev pub headingTexts : Heading P → List (Text P)
+  headingTexts (reference t) = t ∷ []
+  headingTexts (application x t) = identificationTexts x ++ present t
+
+  abbrev pub qualifierTexts : Qualifier P → List (Text P)
+  qualifierTexts q = q .name ∷ present (q .value)
+
+  abbrev pub featureTexts : Feature P → List (Text P)
+  featureTexts f = f .key ∷ f .location ∷ gather qualifierTexts (qualifiersOf f)
+
+  abbrev pub sequenceTexts : Sequence P → List (Text P)
+  sequenceTexts s =
+      (s .number ∷ s .declared ∷ s .moltype ∷ s .division ∷ [])
+      ++ gather (present {A = Text P}) (present (s .otherIds))
+      ++ gather featureTexts (featuresOf s)
+      ++ (s .residues ∷ [])
+
+  abbrev pub textsOf : Listing P → List (Text P)
+  textsOf l =
+      (l .dtdVersion ∷ [])
+      ++ present (l .fileName)
+      ++ present (l .softwareName)
+      ++ present (l .softwareVersion)
+      ++ present (l .productionDate)
+      ++ headingTexts (l .heading)
+      ++ gather identificationTexts (present (l .earliest))
+      ++ gather partyTexts (present (l .applicant))
+      ++ gather partyTexts (present (l .inventor))
+      ++ gather spokenTexts (l .titles)
+      ++ (l .total ∷ [])
+      ++ gather sequenceTexts (l .sequences)

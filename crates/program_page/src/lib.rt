@@ -5,6 +5,8 @@ use lent_room::lay_decimal;
 use paper::Verdict;
 ghost use Prim.Native.Nat.{_+_, _≤_};
 ghost use lib.ListN.{length};
+ghost use Rattle.paper.specs.Bytes.{bytes};
+ghost use Rattle.paper.specs.Answers.{page};
 ghost use Rattle.paper.specs.declared.Verdict.the-variants.{Accepted, Refused};
 ghost use Rattle.lent_room.specs.Room.{Puts};
 ghost use Rattle.program_page.specs.Pages.{PutsLine, Shows};
@@ -37,7 +39,7 @@ fn put_accepted(
     out: &mut [u8],
 ) -> usize
     requires { ⌜ 161 ≤ length (now out) ⌝ }
-    ensures { λ r. ⌜ Shows (Accepted total skipped features judged unjudged) r (now (out .exit)) ⌝ }
+    ensures { λ r. ⌜ Shows (page (Accepted total skipped features judged unjudged)) r (now (out .exit)) ⌝ }
 {
     let a = put_text(b"verdict accepted\n", 0, out);
     let b = put_line(b"total", total, a, out);
@@ -49,7 +51,7 @@ fn put_accepted(
 
 fn put_refused(rule: usize, place: usize, out: &mut [u8]) -> usize
     requires { ⌜ 161 ≤ length (now out) ⌝ }
-    ensures { λ r. ⌜ Shows (Refused rule place) r (now (out .exit)) ⌝ }
+    ensures { λ r. ⌜ Shows (page (Refused rule place)) r (now (out .exit)) ⌝ }
 {
     let a = put_text(b"verdict refused\n", 0, out);
     let b = put_line(b"rule", rule, a, out);
@@ -58,7 +60,7 @@ fn put_refused(rule: usize, place: usize, out: &mut [u8]) -> usize
 
 // The program's lines for a verdict, at the front of lent room: how many bytes.
 pub fn put_page(verdict: Verdict, out: &mut [u8; 256]) -> usize
-    ensures { λ r. ⌜ Shows verdict r (now (out .exit)) ⌝ }
+    ensures { λ r. ⌜ Shows (page verdict) r (now (out .exit)) ⌝ }
 {
     match verdict {
         Verdict::Accepted {
@@ -70,4 +72,11 @@ pub fn put_page(verdict: Verdict, out: &mut [u8; 256]) -> usize
         } => put_accepted(total, skipped, features, judged, unjudged, out),
         Verdict::Refused { rule, place } => put_refused(rule, place, out),
     }
+}
+
+// The line for a listing that has more bytes than the program reads, at the front of lent room: how many bytes.
+pub fn put_too_long(out: &mut [u8; 256]) -> usize
+    ensures { λ r. ⌜ Shows (bytes "verdict too long for this program\n") r (now (out .exit)) ⌝ }
+{
+    put_text(b"verdict too long for this program\n", 0, out)
 }

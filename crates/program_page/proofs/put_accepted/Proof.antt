@@ -1,8 +1,9 @@
 -- Six lines, one behind the other.
 use native.Mathlib.Omega.{arith}
+use Rattle.paper.specs.Answers.{page}
 use Rattle.paper.specs.declared.Verdict.the-variants.{Accepted}
 use Rattle.lent_room.proofs.Laws.{puts-next}
-use Rattle.program_page.proofs.Ends.{shows-page}
+use Rattle.program_page.proofs.Ends.{shows-text}
 use borrow.Author.Needs.{needs}
 use Rattle.program_page.proofs.put_accepted.Statement.{statement}
 use Rattle.program_page.proofs.put_accepted.Tie as tie
@@ -56,7 +57,7 @@ returns c =
     let put-line3 = c .before .before .before .before .before .before .before .before .before .before .before .before .put-line3 in
     let put-line4 = c .before .before .before .before .before .before .before .put-line4 in
     let stands = puts-next (put-text .ensures) (puts-next (put-line .ensures .stands) (puts-next (put-line2 .ensures .stands) (puts-next (put-line3 .ensures .stands) (puts-next (put-line4 .ensures .stands) (c .before .before .put-line5 .ensures .stands))))) in
-    shows-page (Accepted (args .total) (args .skipped) (args .features) (args .judged) (args .unjudged)) stands (omega (arith, put-text .ensures .ends, put-line .ensures .short, put-line2 .ensures .short, put-line3 .ensures .short, put-line4 .ensures .short, c .before .before .put-line5 .ensures .short)) (pre')
+    shows-text (page (Accepted (args .total) (args .skipped) (args .features) (args .judged) (args .unjudged))) stands (omega (arith, put-text .ensures .ends, put-line .ensures .short, put-line2 .ensures .short, put-line3 .ensures .short, put-line4 .ensures .short, c .before .before .put-line5 .ensures .short)) (pre')
 
 pub put-accepted-spec : {M : Type 1} → statement M
 put-accepted-spec =

@@ -1,8 +1,9 @@
 -- Three lines, one behind the other.
 use native.Mathlib.Omega.{arith}
+use Rattle.paper.specs.Answers.{page}
 use Rattle.paper.specs.declared.Verdict.the-variants.{Refused}
 use Rattle.lent_room.proofs.Laws.{puts-next}
-use Rattle.program_page.proofs.Ends.{shows-page}
+use Rattle.program_page.proofs.Ends.{shows-text}
 use borrow.Author.Needs.{needs}
 use Rattle.program_page.proofs.put_refused.Statement.{statement}
 use Rattle.program_page.proofs.put_refused.Tie as tie
@@ -35,7 +36,7 @@ returns c =
     let put-text = c .before .before .before .before .before .before .before .before .before .before .before .before .put-text in
     let put-line = c .before .before .before .before .before .before .before .put-line in
     let stands = puts-next (put-text .ensures) (puts-next (put-line .ensures .stands) (c .before .before .put-line2 .ensures .stands)) in
-    shows-page (Refused (args .rule) (args .place)) stands (omega (arith, put-text .ensures .ends, put-line .ensures .short, c .before .before .put-line2 .ensures .short)) (pre')
+    shows-text (page (Refused (args .rule) (args .place))) stands (omega (arith, put-text .ensures .ends, put-line .ensures .short, c .before .before .put-line2 .ensures .short)) (pre')
 
 pub put-refused-spec : {M : Type 1} → statement M
 put-refused-spec =

@@ -1,0 +1,94 @@
+-- The demands of document 00, for an auditor to print: each sentence that can be said of answers, and beside it the statement.
+-- It speaks of whatever answers the paper allows; that each call gives an allowed answer for every input is its promise. The proofs stand
+-- in crates/demands.
+use Prim.Native.Nat.{ℕ, _+_, _≤_}
+use mathlib.Core.Path.{_≡_}
+use mathlib.Core.Bool.{Bool, false}
+use mathlib.Core.Logic.{_⊎_, _↔_}
+use mathlib.Core.List.{List}
+use lib.ListN.{length}
+use Rattle.paper.specs.Bytes.{raw}
+use Rattle.paper.specs.Lists.{_∈_}
+use Rattle.paper.specs.Tree.{Text, Qualifier, Feature, Sequence, Listing, Bare, textsOf, featuresOf}
+use Rattle.paper.specs.Layout.{LaidOut, Writes}
+use Rattle.paper.specs.Locations.{Location, Locates, Span, spans}
+use Rattle.paper.specs.Rules.{L, Broken}
+use Rattle.paper.specs.Answers.{limit, give, Checked, CheckSays, Part, shown, noPart, partOf, SequenceSays, FeatureSays, QualifierSays, SpansSays, TranslationSays, TranslationsSays}
+use Rattle.paper.specs.declared.Verdict.{Verdict}
+use Rattle.paper.specs.declared.Verdict.the-variants.{Accepted, Refused}
+
+-- ---- demand 1
+
+-- ".. one of the numbered refusals of document 01", with the place that 01 gives it
+pub data Refusal : (number place : ℕ) → Type 0 where
+  -- "above 16,777,216 bytes | 0"
+  too-long : Refusal 1 0
+  -- "not of the layout | length of the longest beginning .."
+  not-laid-out : {p : ℕ} → Refusal 2 p
+  -- the value rules, at the place of a text or tag
+  value : {n p : ℕ} → 10 ≤ n → n ≤ 29 → Refusal n p
+  -- "30 no such sequence; .. 37 stop inside"
+  lookup : {n : ℕ} → 30 ≤ n → n ≤ 37 → Refusal n 0
+
+-- "Each call ends with an answer or one of the numbered refusals of document 01. A refused call leaves lent output as it found it and
+-- shows an empty part.": number 0, or a refusal and then nothing is shown or changed
+abbrev pub Ends : (number place : ℕ) → Type 0 → Type 0
+Ends number place nothing = ((number ≡ 0) × (place ≡ 0)) ⊎ (Refusal number place × nothing)
+
+pub record Demand1 : Type 0 where
+  pub check : (w : List ℕ) (n p : ℕ) → CheckSays w (Refused n p) → Refusal n p
+  pub sequence : (w : List ℕ) (k n p kind : ℕ) (residues : Part) → SequenceSays w k n p kind residues → Ends n p ((kind ≡ 0) × (residues ≡ noPart))
+  pub feature : (w : List ℕ) (k j n p : ℕ) (key location : Part) → FeatureSays w k j n p key location → Ends n p ((key ≡ noPart) × (location ≡ noPart))
+  pub qualifier : (w : List ℕ) (k j i n p : ℕ) (name value : Part) (present : Bool) → QualifierSays w k j i n p name present value
+      → Ends n p ((name ≡ noPart) × (present ≡ false) × (value ≡ noPart))
+  pub spans : (w : List ℕ) (k j n p operator count : ℕ) (out after : List ℕ) → SpansSays w k j out n p operator count after
+      → Ends n p ((operator ≡ 0) × (count ≡ 0) × (after ≡ out))
+  pub translation : (w : List ℕ) (k j n p size : ℕ) (out after : List ℕ) → TranslationSays w k j out n p size after → Ends n p ((size ≡ 0) × (after ≡ out))
+  pub translations : (w : List ℕ) (k n p size : ℕ) (out after : List ℕ) → TranslationsSays w k out n p size after → Ends n p ((size ≡ 0) × (after ≡ out))
+
+-- ---- demand 2: verdict, counts, spans and translations, the first broken rule and its place stand in Answers
+
+-- a part shown is the text, inside the listing
+pub record Stretch (w : List ℕ) (t : Text ℕ) : Type 0 where
+  pub inside : partOf t .start + partOf t .size ≤ length w
+  pub holds : shown w (partOf t) ≡ raw (t .read)
+
+-- a span lies in 1 to n
+pub record Inside (n : ℕ) (x : Span) : Type 0 where
+  pub first-low : 1 ≤ x .first
+  pub first-high : x .first ≤ n
+  pub last-low : 1 ≤ x .last
+  pub last-high : x .last ≤ n
+
+pub record Demand2 : Type 0 where
+  -- "Every part shown is the stated stretch of the lent listing."
+  pub parts : (w : List ℕ) (l : Listing ℕ) → LaidOut l w → (t : Text ℕ) → t ∈ textsOf l → Stretch w t
+  -- "No accepted location points outside its sequence .."
+  pub locations : (w : List ℕ) (l : Listing ℕ) → Checked w (give l) → (s : Sequence ℕ) → s ∈ l .sequences → (f : Feature ℕ) → f ∈ featuresOf s
+      → (t : Location) → Locates t (f .location .read) → (x : Span) → x ∈ spans t → Inside (L s) x
+  -- ".. and the total counts skipped sequences too."
+  pub total : (w : List ℕ) (t s f j u : ℕ) (c : CheckSays w (Accepted t s f j u)) → t ≡ length (c .0 .sequences)
+
+-- ---- demand 3
+
+-- the verdict is that the listing is accepted
+pub record IsAccepted (r : Verdict) : Type 0 where
+  pub total : ℕ
+  pub skipped : ℕ
+  pub features : ℕ
+  pub judged : ℕ
+  pub unjudged : ℕ
+  pub is : r ≡ Accepted total skipped features judged unjudged
+
+-- "bytes, at most 16,777,216 of them", that "01's layout writes .. from some listing whose values break none of rules 10 to 29"
+pub record Good (w : List ℕ) : Type 0 where
+  pub short : length w ≤ limit
+  pub bare : Bare
+  pub writes : Writes bare w
+  pub keeps : (n : ℕ) → ¬ Broken bare n tt
+
+pub record Demand3 : Type 0 where
+  -- "They are accepted exactly when 01's layout writes them from some listing whose values break none of rules 10 to 29, .."
+  pub exactly : (w : List ℕ) (r : Verdict) → CheckSays w r → IsAccepted r ↔ Good w
+  -- ".. and then no other listing is written by those bytes."
+  pub no-other : (w : List ℕ) (a b : Bare) → Writes a w → Writes b w → a ≡ b
