@@ -7,18 +7,18 @@ use mathlib.Core.List.{List}
 use lib.ListN.{length}
 use Rattle.paper.specs.Tree.{Listing}
 use Rattle.paper.specs.Values.{Number}
-use Rattle.paper.specs.Rules.{InHeader, InSequence, Broken, header, rule-14, sequence, Least, Earlier}
+use Rattle.paper.specs.Rules.{InHeader, InSequence, Broken, header, rule-14, sequence}
 use Rattle.paper.specs.Answers.{CheckSays}
 use Rattle.paper.specs.Answers as paper
-use Rattle.paper.specs.declared.Fault.{Fault}
-use Rattle.paper.specs.declared.Fault.the-variants.{Clean, At}
+use Rattle.judge_faults.specs.declared.Fault.{Fault}
+use Rattle.judge_faults.specs.declared.Fault.the-variants.{Clean, At}
 use Rattle.paper.specs.declared.Verdict.the-variants.{Accepted}
 use Rattle.paper.specs.declared.Verdict.the-variants as verdict
-use Rattle.paper.proofs.Firsts.{_or_}
+use Rattle.judge_faults.proofs.Parts.{_or_}
 use Rattle.read_steps.specs.Parts.{Shows}
 use Rattle.value_words.specs.Reading.{OfRead}
 use Rattle.read_layout.specs.Says.{Lays, Refuses, too-long, strays}
-use Rattle.judge_faults.specs.Sets.{Faults, Firsts, Bad, Some, unlessOf}
+use Rattle.judge_faults.specs.Sets.{Least, Earlier, Faults, Firsts, Bad, Some, unlessOf}
 use Rattle.judge_faults.proofs.Faults.{firsts-or, firsts-as}
 use Rattle.judge_faults.proofs.Values.{text-fault}
 use Rattle.judge_header.specs.Headers.{JudgesHeader}

@@ -1,7 +1,7 @@
 // The check: rules 1, 2 and 10 to 29, and the counts. Relies on the layout, and on the parts of the judge.
+use judge_faults::Fault;
 use judge_header::Headed;
 use judge_sequences::Total;
-use paper::Fault;
 use paper::Verdict;
 use read_layout::Shape;
 ghost use Rattle.paper.specs.Answers.{CheckSays};

@@ -14,8 +14,8 @@ use Rattle.paper.specs.Locations.{Location, Locates, breaks25}
 use Rattle.paper.specs.Translation.{Code, code1, dropStop, hasStopInside}
 use Rattle.paper.specs.Rules.{L, Kind, isSymbol, valuePlace, Before, CodonStart, Judged, InCoding, rule-27, rule-28}
 use Rattle.paper.specs.Answers.{Translates}
-use Rattle.paper.specs.declared.Fault.{Fault}
-use Rattle.paper.specs.declared.Fault.the-variants.{Clean, At}
+use Rattle.judge_faults.specs.declared.Fault.{Fault}
+use Rattle.judge_faults.specs.declared.Fault.the-variants.{Clean, At}
 use Rattle.paper.proofs.Locate.{locates-once}
 use Rattle.paper.proofs.Once.{translates-once}
 use Rattle.read_steps.specs.Parts.{Shows}

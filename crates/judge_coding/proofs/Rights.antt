@@ -12,9 +12,9 @@ use Rattle.paper.specs.Tree.{Text, Qualifier, opt}
 use Rattle.paper.specs.Layout.{child, qualifier}
 use Rattle.paper.specs.Locations.{Location}
 use Rattle.paper.specs.Translation.{Code, dropStop, hasStopInside}
-use Rattle.paper.specs.Rules.{Named, valueRead, valuePlace, Earlier}
-use Rattle.paper.specs.declared.Fault.{Fault}
-use Rattle.paper.specs.declared.Fault.the-variants.{Clean, At}
+use Rattle.paper.specs.Rules.{Named, valueRead, valuePlace}
+use Rattle.judge_faults.specs.declared.Fault.{Fault}
+use Rattle.judge_faults.specs.declared.Fault.the-variants.{Clean, At}
 use Rattle.paper.proofs.Texts.{raw-once}
 use Rattle.read_steps.specs.Follow.{closing}
 use Rattle.read_steps.specs.Parts.{Shows}
@@ -30,7 +30,7 @@ use Rattle.walk_items.specs.declared.FoundQualifier.{FoundQualifier}
 use Rattle.protein_codons.specs.Reading.{Codes}
 use Rattle.protein_codons.specs.Letters.{lettersOf}
 use Rattle.protein_compare.specs.Comparing.{RightValue, RightIf, Compares}
-use Rattle.judge_faults.specs.Sets.{Firsts, Some}
+use Rattle.judge_faults.specs.Sets.{Earlier, Firsts, Some}
 use Rattle.judge_faults.proofs.Bytes.{part-shows}
 use Rattle.judge_faults.proofs.Faults.{firsts-none, some-none, some-more, some-later}
 use Rattle.judge_faults.proofs.Seen.{seen-none}

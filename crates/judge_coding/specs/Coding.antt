@@ -15,7 +15,7 @@ use Rattle.location_judge.specs.declared.judging.Verdict.{Verdict}
 use Rattle.judge_faults.specs.Sets.{Firsts}
 use Rattle.judge_faults.specs.Known.{Knows}
 use Rattle.judge_faults.specs.declared.Known.{Known}
-use Rattle.paper.specs.declared.Fault.{Fault}
+use Rattle.judge_faults.specs.declared.Fault.{Fault}
 use Rattle.judge_qualifiers.specs.Qualifiers.{RestIs, IsNoted}
 use Rattle.judge_qualifiers.specs.declared.Noted.{Noted}
 use Rattle.judge_coding.specs.declared.Region.{Region}

@@ -20,8 +20,8 @@ use Rattle.protein_codons.specs.Reading.{Codes}
 use Rattle.protein_codons.specs.Letters.{lettersOf}
 use Rattle.protein_compare.specs.Comparing.{RightValue, RightIf}
 use Rattle.judge_faults.specs.Sets.{Firsts, Some}
-use Rattle.paper.specs.declared.Fault.{Fault}
-use Rattle.paper.specs.declared.Fault.the-variants.{Clean, At}
+use Rattle.judge_faults.specs.declared.Fault.{Fault}
+use Rattle.judge_faults.specs.declared.Fault.the-variants.{Clean, At}
 use Rattle.judge_coding.specs.declared.Checked.{Checked}
 
 -- rule 28 of the qualifier y, number k, where x are the letters of the codons

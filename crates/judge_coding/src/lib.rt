@@ -1,12 +1,12 @@
 // One coding region of DNA or RNA: rules 27 and 28, and whether it is judged. Relies on what is noted of its qualifiers, the walk along
 // its translations, the values, the judged location and the comparison with the translation.
+use judge_faults::Fault;
 use judge_faults::Known;
 use judge_faults::earlier;
 use judge_qualifiers::Frame;
 use judge_qualifiers::Noted;
 use judge_qualifiers::is_unjudged;
 use location_judge::judging::Verdict;
-use paper::Fault;
 use protein_compare::is_right;
 use read_steps::bytes_of;
 use value_words::same;

@@ -7,12 +7,12 @@ use mathlib.Core.Logic.{_⊎_, inl, inr}
 use mathlib.Core.List.{List, [], _∷_, _++_}
 use lib.ListN.{length}
 use Rattle.paper.specs.Lists.{Nth}
-use Rattle.paper.specs.Rules.{Earlier, Before}
-use Rattle.paper.specs.declared.Fault.{Fault}
-use Rattle.paper.specs.declared.Fault.the-variants.{Clean, At}
-use Rattle.paper.proofs.Firsts.{_or_, least-or, least-as}
+use Rattle.paper.specs.Rules.{Before}
+use Rattle.judge_faults.specs.declared.Fault.{Fault}
+use Rattle.judge_faults.specs.declared.Fault.the-variants.{Clean, At}
+use Rattle.judge_faults.proofs.Parts.{_or_, least-or, least-as}
 use Rattle.value_words.specs.Reading.{Tells}
-use Rattle.judge_faults.specs.Sets.{Faults, Firsts, Bad, Some, unlessOf}
+use Rattle.judge_faults.specs.Sets.{Earlier, Faults, Firsts, Bad, Some, unlessOf}
 
 pub firsts-or : (S T : Faults) {a b r : Fault} → Firsts S a → Firsts T b → Earlier a b r → Firsts (_or_ S T) r
 firsts-or S T {a} {b} {r} f g e = record { is = least-or S T a b r (f .is) (g .is) e }

@@ -1,3 +1,4 @@
+pub mod Parts
 pub mod Faults
 pub mod Bytes
 pub mod Seen

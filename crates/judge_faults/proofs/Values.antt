@@ -4,7 +4,7 @@ use mathlib.Core.Path.{_≡_, ap, _∙_}
 use mathlib.Core.Bool.{Bool}
 use mathlib.Core.List.{List}
 use Rattle.paper.specs.Tree.{Text}
-use Rattle.paper.specs.declared.Fault.{Fault}
+use Rattle.judge_faults.specs.declared.Fault.{Fault}
 use Rattle.read_steps.specs.Parts.{Shows}
 use Rattle.value_words.specs.Reading.{OfRead}
 use Rattle.walk_steps.specs.Stands.{IsPart}

@@ -1,12 +1,16 @@
 // What the parts of the judge share: the earlier of two faults, the fault of a test, counters with a cap, and what is known of a sequence
 // while its features are judged. Relies on the paper, the walk and the values.
-use paper::Fault;
 use value_words::Kind;
 use walk_steps::Part;
 ghost use mathlib.Core.Path.{_≡_};
-ghost use Rattle.paper.specs.Rules.{Earlier};
-ghost use Rattle.judge_faults.specs.Sets.{unlessOf};
+ghost use Rattle.judge_faults.specs.Sets.{Earlier, unlessOf};
 ghost use Rattle.judge_faults.specs.Counters.{upTo, upToTwo};
+
+// The first broken rule of some part of a listing, if one is broken.
+pub enum Fault {
+    Clean,
+    At { rule: usize, place: usize },
+}
 
 // What is known of a sequence while its features are judged: the kind that its moltype names, L, whether every residue is a symbol of the
 // kind, and where its residues stand.

@@ -10,7 +10,7 @@ use Rattle.paper.specs.Bytes.{bytes, raw}
 use Rattle.paper.specs.Tree.{Text, Sequence, Feature}
 use Rattle.paper.specs.Locations.{Location, Locates, breaks25, hasComplement}
 use Rattle.paper.specs.Rules.{L, Kind, dna, rna, aa, IsKind, Keyed, upperIn, sourceName, Coding, InLocation, rule-24, rule-25, rule-26}
-use Rattle.paper.specs.declared.Fault.the-variants.{Clean, At}
+use Rattle.judge_faults.specs.declared.Fault.the-variants.{Clean, At}
 use Rattle.paper.proofs.Locate.{locates-once}
 use Rattle.value_words.specs.Reading.{Tells, KindIs, Names}
 use Rattle.value_words.specs.declared.Kind as code

@@ -7,9 +7,9 @@ use mathlib.Core.List.{List}
 use lib.ListN.{drop}
 use Rattle.paper.specs.Bytes.{isBlank, raw}
 use Rattle.paper.specs.Tree.{Sequence, Feature, qualifiersOf}
-use Rattle.paper.specs.Rules.{L, Kind, upperIn, Coding, Unjudged, Earlier, InLocation, InCoding, rule-27, rule-28, InFeature}
-use Rattle.paper.specs.declared.Fault.{Fault}
-use Rattle.paper.specs.declared.Fault.the-variants.{Clean}
+use Rattle.paper.specs.Rules.{L, Kind, upperIn, Coding, Unjudged, InLocation, InCoding, rule-27, rule-28, InFeature}
+use Rattle.judge_faults.specs.declared.Fault.{Fault}
+use Rattle.judge_faults.specs.declared.Fault.the-variants.{Clean}
 use Rattle.read_steps.specs.Follow.{Not}
 use Rattle.read_steps.specs.Parts.{Shows}
 use Rattle.walk_steps.specs.Stands.{Ends}
@@ -23,7 +23,7 @@ use Rattle.value_words.proofs.Tests.{told}
 use Rattle.location_judge.specs.Judging.{Judged, JudgesPart}
 use Rattle.location_judge.specs.declared.judging.Verdict.{Verdict}
 use Rattle.location_judge.proofs.Verdicts.{judged-by}
-use Rattle.judge_faults.specs.Sets.{Firsts}
+use Rattle.judge_faults.specs.Sets.{Earlier, Firsts}
 use Rattle.judge_faults.specs.Known.{Knows, CodeOf}
 use Rattle.judge_faults.specs.declared.Known.{Known}
 use Rattle.judge_faults.proofs.Bytes.{part-shows, text-shown}

@@ -8,10 +8,10 @@ use mathlib.Core.List.{List, [], _∷_}
 use Rattle.paper.specs.Lists.{Nth, _∈_, Count, end, has, lacks}
 use Rattle.paper.specs.Tree.{Sequence, Feature, featuresOf}
 use Rattle.paper.specs.Rules.{Kind, dna, rna, aa, IsKind, Keyed, upperIn, sourceName, OneSource, Source, tablePlace, InSource, InFeature, InTable}
-use Rattle.paper.specs.declared.Fault.{Fault}
-use Rattle.paper.specs.declared.Fault.the-variants.{Clean, At}
+use Rattle.judge_faults.specs.declared.Fault.{Fault}
+use Rattle.judge_faults.specs.declared.Fault.the-variants.{Clean, At}
 use Rattle.paper.proofs.Lists.{count-once}
-use Rattle.paper.proofs.Firsts.{_or_}
+use Rattle.judge_faults.proofs.Parts.{_or_}
 use Rattle.value_words.specs.Reading.{KindIs}
 use Rattle.value_words.specs.declared.Kind as code
 use Rattle.value_words.specs.declared.Kind.the-variants as kind

@@ -8,8 +8,8 @@ use lib.ListN.{length, length-append}
 use Rattle.paper.specs.Lists.{Nth, _∈_, Count, end, has, lacks}
 use Rattle.paper.specs.Tree.{Sequence, Feature}
 use Rattle.paper.specs.Rules.{Kind, IsKind, Keyed, upperIn, sourceName, Unjudged, Source, InSource, InFeature}
-use Rattle.paper.specs.declared.Fault.{Fault}
-use Rattle.paper.proofs.Firsts.{_or_}
+use Rattle.judge_faults.specs.declared.Fault.{Fault}
+use Rattle.judge_faults.proofs.Parts.{_or_}
 use Rattle.judge_faults.specs.Sets.{Firsts, Some}
 use Rattle.judge_faults.proofs.Faults.{some-none, some-more, nth-split}
 use Rattle.judge_faults.proofs.Seen.{count-has, count-lacks}

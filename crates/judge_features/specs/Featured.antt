@@ -9,9 +9,9 @@ use Rattle.paper.specs.Lists.{_∈_, Count}
 use Rattle.paper.specs.Form.{each}
 use Rattle.paper.specs.Layout.{child, feature}
 use Rattle.paper.specs.Tree.{Sequence, Feature, featuresOf}
-use Rattle.paper.specs.Rules.{Kind, IsKind, Keyed, upperIn, sourceName, Coding, Unjudged, Earlier, InSource, InFeature, InTable}
-use Rattle.paper.specs.declared.Fault.{Fault}
-use Rattle.paper.specs.declared.Fault.the-variants.{Clean, At}
+use Rattle.paper.specs.Rules.{Kind, IsKind, Keyed, upperIn, sourceName, Coding, Unjudged, InSource, InFeature, InTable}
+use Rattle.judge_faults.specs.declared.Fault.{Fault}
+use Rattle.judge_faults.specs.declared.Fault.the-variants.{Clean, At}
 use Rattle.read_steps.specs.Follow.{Not, Starts, closing}
 use Rattle.walk_steps.specs.Stands.{Stands}
 use Rattle.walk_items.specs.Items.{TableIs}
@@ -21,7 +21,7 @@ use Rattle.value_words.specs.declared.Kind as code
 use Rattle.value_words.specs.declared.Kind.the-variants as kind
 use Rattle.location_judge.specs.declared.judging.Verdict.{Verdict}
 use Rattle.location_judge.specs.declared.judging.Verdict.the-variants.{Bad, Is}
-use Rattle.judge_faults.specs.Sets.{Firsts, Some}
+use Rattle.judge_faults.specs.Sets.{Earlier, Firsts, Some}
 use Rattle.judge_faults.specs.Known.{Knows}
 use Rattle.judge_faults.specs.declared.Known.{Known}
 use Rattle.judge_faults.specs.Counters.{upTo, Capped}

@@ -1,10 +1,10 @@
 // The features of a sequence: rules 21 to 28, and the counts of features and coding regions.
 // Relies on the walk along the table, the judged location, one pass over the qualifiers, and the crates for a source and a coding region.
 use judge_coding::Region;
+use judge_faults::Fault;
 use judge_faults::Known;
 use judge_faults::more;
 use location_judge::judging::Verdict;
-use paper::Fault;
 use value_words::Kind;
 use walk_items::FoundFeature;
 use walk_items::FoundTable;

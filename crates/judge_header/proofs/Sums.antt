@@ -11,10 +11,10 @@ use Rattle.paper.specs.Lists.{Nth, _∈_, gather, present}
 use Rattle.paper.specs.Tree.{Text, Spoken, Party, Identification, Heading, reference, application, Listing}
 use Rattle.paper.specs.Layout.{child, leaf, spoken, sequence}
 use Rattle.paper.specs.Values.{Date, Two, isUpper, isLower}
-use Rattle.paper.specs.Rules.{Earlier, identifiedIn, dates, offices, languages, InHeader, rule-10, rule-11, rule-12, rule-13}
-use Rattle.paper.specs.declared.Fault.{Fault}
-use Rattle.paper.specs.declared.Fault.the-variants.{Clean}
-use Rattle.paper.proofs.Firsts.{_or_}
+use Rattle.paper.specs.Rules.{identifiedIn, dates, offices, languages, InHeader, rule-10, rule-11, rule-12, rule-13}
+use Rattle.judge_faults.specs.declared.Fault.{Fault}
+use Rattle.judge_faults.specs.declared.Fault.the-variants.{Clean}
+use Rattle.judge_faults.proofs.Parts.{_or_}
 use Rattle.value_words.specs.Reading.{Tells, OfRead}
 use Rattle.value_words.proofs.Read.{tells-word}
 use Rattle.read_steps.specs.Follow.{Not, closing}
@@ -31,7 +31,7 @@ use Rattle.walk_steps.proofs.Elements.{leaf-leads}
 use Rattle.walk_items.proofs.Sequences.{sequence-leads}
 use Rattle.walk_header.specs.Header.{officeIn, filedIn, languageIn, identifiedBy, FindsSpoken, Behind, FindsHeader}
 use Rattle.walk_header.specs.declared.FoundHeader.{FoundHeader}
-use Rattle.judge_faults.specs.Sets.{Firsts, Bad, unlessOf}
+use Rattle.judge_faults.specs.Sets.{Earlier, Firsts, Bad, unlessOf}
 use Rattle.judge_faults.proofs.Faults.{firsts-or, firsts-as, firsts-none}
 use Rattle.judge_faults.proofs.Values.{text-fault}
 use Rattle.judge_header.specs.Headers.{Wrong, JudgesMaybe, JudgesVersion, JudgesDates, JudgesOffices, codes, JudgesTitles, JudgesLanguages, JudgesHeader}

@@ -11,7 +11,7 @@ use Rattle.paper.specs.Layout.{LaidOut, child, spoken, sequence}
 use Rattle.paper.specs.Tree.{Text, Spoken, Listing}
 use Rattle.paper.specs.Values.{Date, Two, isUpper, isLower}
 use Rattle.paper.specs.Rules.{dates, offices, languages, InHeader}
-use Rattle.paper.specs.declared.Fault.{Fault}
+use Rattle.judge_faults.specs.declared.Fault.{Fault}
 use Rattle.read_steps.specs.Follow.{Starts, closing}
 use Rattle.walk_steps.specs.Stands.{Stands, IsPart, MaybeIs}
 use Rattle.walk_steps.specs.declared.Part.{Part}

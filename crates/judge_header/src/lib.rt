@@ -1,5 +1,5 @@
 // The header: rules 10 to 13. Relies on the walk along it, the values and what the judge's parts share.
-use paper::Fault;
+use judge_faults::Fault;
 use walk_header::FoundHeader;
 use walk_steps::Found;
 use walk_steps::Maybe;

@@ -11,16 +11,16 @@ use Rattle.paper.specs.Lists.{Count, end}
 use Rattle.paper.specs.Layout.{sequence}
 use Rattle.paper.specs.Tree.{Sequence, Table, featuresIn}
 use Rattle.paper.specs.Values.{Number}
-use Rattle.paper.specs.Rules.{Skipped, Earlier, InTexts, InTable, InSequence, rule-15, rule-29, texts, table, Empty}
-use Rattle.paper.specs.declared.Fault.{Fault}
-use Rattle.paper.proofs.Firsts.{_or_}
+use Rattle.paper.specs.Rules.{Skipped, InTexts, InTable, InSequence, rule-15, rule-29, texts, table, Empty}
+use Rattle.judge_faults.specs.declared.Fault.{Fault}
+use Rattle.judge_faults.proofs.Parts.{_or_}
 use Rattle.walk_steps.specs.Stands.{isThere}
 use Rattle.walk_items.specs.Items.{FindsSequence, TableIs}
 use Rattle.walk_items.specs.declared.FoundSequence.{FoundSequence}
 use Rattle.walk_items.specs.declared.FoundTable.{FoundTable}
 use Rattle.value_words.specs.Reading.{Tells}
 use Rattle.value_words.proofs.Tests.{told}
-use Rattle.judge_faults.specs.Sets.{Firsts, Bad, unlessOf}
+use Rattle.judge_faults.specs.Sets.{Earlier, Firsts, Bad, unlessOf}
 use Rattle.judge_faults.specs.declared.Known.{Known}
 use Rattle.judge_faults.proofs.Faults.{firsts-or, firsts-as, firsts-unless}
 use Rattle.judge_texts.specs.Texts.{KnowsOf, JudgesNumber, TellsSkipped, TellsEmpty, JudgesTexts}

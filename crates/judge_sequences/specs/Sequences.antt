@@ -9,13 +9,13 @@ use Rattle.paper.specs.Lists.{Count, gather}
 use Rattle.paper.specs.Form.{each}
 use Rattle.paper.specs.Layout.{child, sequence}
 use Rattle.paper.specs.Tree.{Sequence, Feature, featuresOf}
-use Rattle.paper.specs.Rules.{Skipped, Earlier, InSequence}
+use Rattle.paper.specs.Rules.{Skipped, InSequence}
 use Rattle.paper.specs.Answers.{limit, JudgedCds, UnjudgedCds}
-use Rattle.paper.specs.declared.Fault.the-variants.{Clean}
+use Rattle.judge_faults.specs.declared.Fault.the-variants.{Clean}
 use Rattle.read_steps.specs.Follow.{Not, Starts, closing}
 use Rattle.walk_steps.specs.Stands.{Stands}
 use Rattle.value_words.specs.Reading.{Tells}
-use Rattle.judge_faults.specs.Sets.{Firsts, Some}
+use Rattle.judge_faults.specs.Sets.{Earlier, Firsts, Some}
 use Rattle.judge_features.specs.Featured.{JudgedIn, UnjudgedIn}
 use Rattle.judge_sequences.specs.declared.One.{One}
 use Rattle.judge_sequences.specs.declared.Total.{Total}

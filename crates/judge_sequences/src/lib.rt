@@ -1,7 +1,7 @@
 // The sequences of a listing: rules 15 to 29, and the counts. Relies on the walk along them, and on the judges of their texts and
 // features.
+use judge_faults::Fault;
 use judge_features::Tabled;
-use paper::Fault;
 use walk_items::FoundSequence;
 ghost use mathlib.Core.Path.{_≡_};
 ghost use Rattle.paper.specs.Translation.{code1};

@@ -7,14 +7,14 @@ use mathlib.Core.Logic.{inl, inr}
 use mathlib.Core.List.{List}
 use Rattle.paper.specs.Lists.{Count}
 use Rattle.paper.specs.Tree.{Sequence, Feature, Qualifier, qualifiersOf}
-use Rattle.paper.specs.Rules.{L, Named, organismName, molTypeName, Whole, Earlier, InSource, rule-22, rule-23}
-use Rattle.paper.specs.declared.Fault.{Fault}
+use Rattle.paper.specs.Rules.{L, Named, organismName, molTypeName, Whole, InSource, rule-22, rule-23}
+use Rattle.judge_faults.specs.declared.Fault.{Fault}
 use Rattle.paper.proofs.Lists.{count-once}
-use Rattle.paper.proofs.Firsts.{_or_}
+use Rattle.judge_faults.proofs.Parts.{_or_}
 use Rattle.read_steps.specs.Parts.{Shows}
 use Rattle.value_words.specs.Reading.{Tells, OfRead}
 use Rattle.walk_steps.specs.declared.Part.{Part}
-use Rattle.judge_faults.specs.Sets.{Firsts, Bad, Faults, unlessOf}
+use Rattle.judge_faults.specs.Sets.{Earlier, Firsts, Bad, Faults, unlessOf}
 use Rattle.judge_faults.specs.declared.Known.{Known}
 use Rattle.judge_faults.proofs.Counters.{capped-one, one-capped}
 use Rattle.judge_faults.proofs.Faults.{firsts-or, firsts-as, firsts-unless}

@@ -5,7 +5,7 @@ use mathlib.Core.Bool.{Bool}
 use mathlib.Core.List.{List}
 use Rattle.paper.specs.Tree.{Sequence, Feature, qualifiersOf}
 use Rattle.paper.specs.Rules.{InSource}
-use Rattle.paper.specs.declared.Fault.{Fault}
+use Rattle.judge_faults.specs.declared.Fault.{Fault}
 use Rattle.walk_steps.specs.Stands.{IsPart}
 use Rattle.walk_steps.specs.declared.Part.{Part}
 use Rattle.value_words.specs.Reading.{Tells}

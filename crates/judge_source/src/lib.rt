@@ -1,7 +1,7 @@
 // A source feature: rules 22 and 23. Relies on what is noted of its qualifiers, the values and what the judge's parts share.
+use judge_faults::Fault;
 use judge_faults::Known;
 use judge_qualifiers::Noted;
-use paper::Fault;
 use walk_steps::Part;
 ghost use Rattle.judge_source.specs.Sources.{TellsOnce, JudgesSource};
 

@@ -9,11 +9,11 @@ use Rattle.paper.specs.Bytes.{bytes, raw, all}
 use Rattle.paper.specs.Lists.{Count}
 use Rattle.paper.specs.Tree.{Sequence}
 use Rattle.paper.specs.Values.{Number}
-use Rattle.paper.specs.Rules.{L, Kind, dna, rna, aa, IsKind, isSymbol, undefined, fewest, Earlier, InResidues, InTexts, rule-16, rule-17, residues, rule-18, rule-19, rule-20}
-use Rattle.paper.specs.declared.Fault.{Fault}
-use Rattle.paper.specs.declared.Fault.the-variants.{Clean, At}
+use Rattle.paper.specs.Rules.{L, Kind, dna, rna, aa, IsKind, isSymbol, undefined, fewest, InResidues, InTexts, rule-16, rule-17, residues, rule-18, rule-19, rule-20}
+use Rattle.judge_faults.specs.declared.Fault.{Fault}
+use Rattle.judge_faults.specs.declared.Fault.the-variants.{Clean, At}
 use Rattle.paper.proofs.Lists.{count-once}
-use Rattle.paper.proofs.Firsts.{_or_}
+use Rattle.judge_faults.proofs.Parts.{_or_}
 use Rattle.read_steps.specs.Parts.{Shows}
 use Rattle.value_words.specs.Reading.{Tells, OfRead, KindIs, Names}
 use Rattle.value_words.specs.declared.Kind as code
@@ -22,7 +22,7 @@ use Rattle.value_words.proofs.Read.{tells-word, raw-symbols}
 use Rattle.value_words.proofs.Tests.{told}
 use Rattle.value_residues.specs.Residues.{HasDefined}
 use Rattle.walk_steps.specs.declared.Part.{Part}
-use Rattle.judge_faults.specs.Sets.{Firsts, Bad, unlessOf}
+use Rattle.judge_faults.specs.Sets.{Earlier, Firsts, Bad, unlessOf}
 use Rattle.judge_faults.specs.declared.Known.{Known}
 use Rattle.judge_faults.proofs.Bytes.{part-shows}
 use Rattle.judge_faults.proofs.Faults.{firsts-or, firsts-as, firsts-none, firsts-unless}

@@ -11,7 +11,7 @@ use Rattle.paper.specs.Values.{Number}
 use Rattle.paper.specs.Rules.{Skipped, IsKind, isSymbol, undefined, fewest, InResidues, InTexts, Empty}
 use Rattle.paper.specs.Rules as Rules
 use Rattle.paper.specs.Answers.{limit}
-use Rattle.paper.specs.declared.Fault.{Fault}
+use Rattle.judge_faults.specs.declared.Fault.{Fault}
 use Rattle.value_words.specs.Reading.{Tells, KindIs}
 use Rattle.value_words.specs.declared.Kind.{Kind}
 use Rattle.value_words.specs.declared.Kind.the-variants.{Dna, Rna, Aa, Other}

@@ -1,7 +1,7 @@
 // The texts of a sequence: its number, length, kind, division and residues. Rules 15 to 20 and 29, and what is known of a sequence for the
 // judgement of its features. Relies on the walk, the values, the residues and what the judge's parts share.
+use judge_faults::Fault;
 use judge_faults::Known;
-use paper::Fault;
 use value_words::Kind;
 use walk_steps::Part;
 ghost use mathlib.Core.Path.{_≡_};

@@ -9,7 +9,7 @@ use Rattle.paper.specs.Bytes.{raw}
 use Rattle.paper.specs.Locations.{Piece, pieceText, complement, Location, Locates, isWrong, breaks25, spanOf, spans}
 use Rattle.paper.specs.Locations as paper
 use Rattle.paper.proofs.Locate.Pieces.{Follow}
-use Rattle.paper.proofs.Inside.{Inside}
+use Rattle.paper.specs.Demands.{Inside}
 use Rattle.location_judge.specs.Places.{Stands}
 use Rattle.location_spans.specs.declared.walking.Span.{Span}
 use Rattle.location_spans.specs.declared.walking.Walk.{Walk}

@@ -15,15 +15,9 @@ use Rattle.paper.specs.Tree.{Feature, Table, Sequence, Listing, features
 use Rattle.paper.specs.Locations.{Piece, point, before, after, range, site, Member, Location, one, many, pieceText, complement, memberText, membersText, locationText, Locates, Span, spanOf, memberSpan, spans, membersOf, any, isWrong, breaks25}
 use Rattle.paper.specs.Rules.{L, Skipped, sequence, table, feature, rule-25, rule-29}
 use Rattle.paper.specs.Answers.{give, Checked, accepted}
+use Rattle.paper.specs.Demands.{Inside}
 use Rattle.paper.proofs.Decimal.{number-positive}
 use Rattle.paper.proofs.Lists.{of-map}
-
--- a span lies in 1 to n
-pub record Inside (n : ℕ) (x : Span) : Type 0 where
-  pub first-low : 1 ≤ x .first
-  pub first-high : x .first ≤ n
-  pub last-low : 1 ≤ x .last
-  pub last-high : x .last ≤ n
 
 or-false : (a b : Bool) → (a || b) ≡ false → (a ≡ false) × (b ≡ false)
 or-false true b e = absurd (let z : _≡_ {A = Bool} true false = e in let y : _≡_ {A = ℕ} 0 1 = cc in omega arith)

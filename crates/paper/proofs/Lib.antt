@@ -9,5 +9,6 @@ pub mod Marks
 pub mod Inside
 pub mod Once
 pub mod Refusals
+pub mod Shown
 pub mod Tries
 pub mod Samples

@@ -169,7 +169,7 @@ module _ {P : Type 0} where
   partyTexts x = spokenTexts (x .name) ++ present (x .latin)
 
   abbrev pub identificationTexts : Identification P → List (Text P)
-  identificationTexts x = present (x .office) ++ (x .number ∷ present (x .filed))
+  identificationTexts x = present (x .office) ++ (x .number ∷ []) ++ present (x .filed)
 
   abbrev pub headingTexts : Heading P → List (Text P)
   headingTexts (reference t) = t ∷ []
@@ -188,17 +188,20 @@ module _ {P : Type 0} where
       ++ gather featureTexts (featuresOf s)
       ++ (s .residues ∷ [])
 
-  abbrev pub textsOf : Listing P → List (Text P)
-  textsOf l =
+  abbrev pub attributeTexts : Listing P → List (Text P)
+  attributeTexts l =
       (l .dtdVersion ∷ [])
       ++ present (l .fileName)
       ++ present (l .softwareName)
       ++ present (l .softwareVersion)
       ++ present (l .productionDate)
-      ++ headingTexts (l .heading)
+
+  abbrev pub partiesTexts : Listing P → List (Text P)
+  partiesTexts l =
+      headingTexts (l .heading)
       ++ gather identificationTexts (present (l .earliest))
       ++ gather partyTexts (present (l .applicant))
       ++ gather partyTexts (present (l .inventor))
-      ++ gather spokenTexts (l .titles)
-      ++ (l .total ∷ [])
-      ++ gather sequenceTexts (l .sequences)
+
+  abbrev pub textsOf : Listing P → List (Text P)
+  textsOf l = attributeTexts l ++ (partiesTexts l ++ gather spokenTexts (l .titles) ++ (l .total ∷ []) ++ gather sequenceTexts (l .sequences))

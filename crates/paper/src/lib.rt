@@ -1,12 +1,6 @@
 // The paper: document 01 as definitions (specs/), and laws about them (proofs/). It relies on nothing but the kit's libraries.
 // No function stands here. An answer that is an enum is declared here, so that a definition gives its numbers.
 
-// The first broken rule of some part of a listing, if one is broken.
-pub enum Fault {
-    Clean,
-    At { rule: usize, place: usize },
-}
-
 // What a check answers.
 pub enum Verdict {
     Accepted {

@@ -10,7 +10,7 @@ use Rattle.paper.specs.Bytes.{bytes}
 use Rattle.paper.specs.Tree.{Spoken}
 use Rattle.paper.specs.Layout.{child, spoken}
 use Rattle.paper.specs.Values.{Two, isLower}
-use Rattle.paper.specs.declared.Fault.the-variants.{Clean}
+use Rattle.judge_faults.specs.declared.Fault.the-variants.{Clean}
 use Rattle.walk_steps.proofs.Loops.{there-inside}
 use Rattle.walk_header.proofs.Entries.{spoken-leads}
 use Rattle.judge_faults.specs.Sets.{Firsts}
