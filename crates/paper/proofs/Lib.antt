@@ -10,5 +10,6 @@ pub mod Inside
 pub mod Once
 pub mod Refusals
 pub mod Shown
+pub mod Demands
 pub mod Tries
 pub mod Samples

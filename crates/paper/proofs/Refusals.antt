@@ -1,14 +1,13 @@
--- Demand 1: whatever is answered is an answer, or one of the numbered refusals with nothing shown and nothing changed.
+-- Whatever is refused is refused with one of document 01's numbers, and with the place that it gives.
 use Prim.Native.Nat.{ℕ, _≤_}
 use native.Mathlib.Omega.{arith}
-use mathlib.Core.Path.{_≡_, refl, subst}
-use mathlib.Core.Bool.{Bool, false}
+use mathlib.Core.Path.{_≡_, refl}
 use mathlib.Core.Logic.{inl, inr}
 use mathlib.Core.List.{List}
 use Rattle.paper.specs.Tree.{Sequence, Feature, Listing}
 use Rattle.paper.specs.Rules.{Broken, header, rule-14, sequence, InHeader, InResidues, InTexts, InSource, InLocation, InCoding, InTable, InSequence}
-use Rattle.paper.specs.Answers.{Outcome, refuse, give, Checked, FindsSequence, FindsFeature, FindsQualifier, FindsLocation, FindsTranslation, FindsTranslations, Translates, Lent, Part, noPart, SequenceSays, FeatureSays, QualifierSays, SpansSays, TranslationSays, TranslationsSays}
-use Rattle.paper.specs.Demands.{Refusal, Ends, Demand1}
+use Rattle.paper.specs.Answers.{Outcome, refuse, give, Checked, FindsSequence, FindsFeature, FindsQualifier, FindsLocation, FindsTranslation, FindsTranslations, Translates, Lent}
+use Rattle.paper.specs.Demands.{Refusal, Ends}
 
 -- the value rules
 broken-value : {l : Listing ℕ} {n p : ℕ} → Broken l n p → (10 ≤ n) × (n ≤ 29)
@@ -42,31 +41,31 @@ broken-value (sequence k q i h) = in-sequence h
     in-sequence (InSequence.table u h) = in-table h
     in-sequence (InSequence.rule-29 u h) = (omega arith, omega arith)
 
-checked : {w : List ℕ} {n p : ℕ} → Checked w (refuse n p) → Refusal n p
+pub checked : {w : List ℕ} {n p : ℕ} → Checked w (refuse n p) → Refusal n p
 checked (Checked.too-long h) = Refusal.too-long
 checked (Checked.strays h s) = Refusal.not-laid-out
 checked (Checked.breaks l h d f) = let b = broken-value (f .broken) in Refusal.value (b .0) (b .1)
 
 -- one of the lookups' own
-own : (n : ℕ) → 30 ≤ n → n ≤ 37 → Refusal n 0
+pub own : (n : ℕ) → 30 ≤ n → n ≤ 37 → Refusal n 0
 own n h k = Refusal.lookup h k
 
 -- ---- what is found
 
-sequence-refused : {w : List ℕ} {k n p : ℕ} → FindsSequence w k (refuse n p) → Refusal n p
+pub sequence-refused : {w : List ℕ} {k n p : ℕ} → FindsSequence w k (refuse n p) → Refusal n p
 sequence-refused (FindsSequence.own c) = checked c
 sequence-refused (FindsSequence.no-sequence c h) = own 30 (omega arith) (omega arith)
 sequence-refused (FindsSequence.skipped s c i h) = own 31 (omega arith) (omega arith)
 
-feature-refused : {w : List ℕ} {k j n p : ℕ} → FindsFeature w k j (refuse n p) → Refusal n p
+pub feature-refused : {w : List ℕ} {k j n p : ℕ} → FindsFeature w k j (refuse n p) → Refusal n p
 feature-refused (FindsFeature.earlier c) = sequence-refused c
 feature-refused (FindsFeature.no-feature c h) = own 32 (omega arith) (omega arith)
 
-qualifier-refused : {w : List ℕ} {k j i n p : ℕ} → FindsQualifier w k j i (refuse n p) → Refusal n p
+pub qualifier-refused : {w : List ℕ} {k j i n p : ℕ} → FindsQualifier w k j i (refuse n p) → Refusal n p
 qualifier-refused (FindsQualifier.earlier c) = feature-refused c
 qualifier-refused (FindsQualifier.no-qualifier c h) = own 33 (omega arith) (omega arith)
 
-location-refused : {w : List ℕ} {k j n p : ℕ} → FindsLocation w k j (refuse n p) → Refusal n p
+pub location-refused : {w : List ℕ} {k j n p : ℕ} → FindsLocation w k j (refuse n p) → Refusal n p
 location-refused (FindsLocation.earlier c) = feature-refused c
 
 translates-refused : {s : Sequence ℕ} {f : Feature ℕ} {n p : ℕ} → Translates s f (refuse n p) → Refusal n p
@@ -74,51 +73,20 @@ translates-refused (Translates.no-cds h) = own 35 (omega arith) (omega arith)
 translates-refused (Translates.unjudged c h) = own 36 (omega arith) (omega arith)
 translates-refused (Translates.stop-inside j h) = own 37 (omega arith) (omega arith)
 
-translation-refused : {w : List ℕ} {k j n p : ℕ} → FindsTranslation w k j (refuse n p) → Refusal n p
+pub translation-refused : {w : List ℕ} {k j n p : ℕ} → FindsTranslation w k j (refuse n p) → Refusal n p
 translation-refused (FindsTranslation.earlier c) = feature-refused c
 translation-refused (FindsTranslation.feature c t) = translates-refused t
 
-translations-refused : {w : List ℕ} {k n p : ℕ} → FindsTranslations w k (refuse n p) → Refusal n p
+pub translations-refused : {w : List ℕ} {k n p : ℕ} → FindsTranslations w k (refuse n p) → Refusal n p
 translations-refused (FindsTranslations.earlier c) = sequence-refused c
 
 -- ---- what is answered
 
-lent-ends : {out : List ℕ} {n p size : ℕ} {after : List ℕ} (o : Outcome (List ℕ)) → ((m q : ℕ) → o ≡ refuse m q → Refusal m q) → Lent out o n p size after
+pub lent-ends : {out : List ℕ} {n p size : ℕ} {after : List ℕ} (o : Outcome (List ℕ)) → ((m q : ℕ) → o ≡ refuse m q → Refusal m q) → Lent out o n p size after
     → Ends n p ((size ≡ 0) × (after ≡ out))
 lent-ends (refuse n p) h Lent.refused = inr (h n p refl, (refl, refl))
 lent-ends (give x) h (Lent.short l) = inr (own 34 (omega arith) (omega arith), (refl, refl))
 lent-ends (give x) h (Lent.written l) = inl (refl, refl)
-
-pub demand1 : Demand1
-demand1 =
-    record {
-      check = λ w n p c. checked c;
-      sequence = λ w k n p kind x c. sequence-ends c;
-      feature = λ w k j n p x y c. feature-ends c;
-      qualifier = λ w k j i n p x y b c. qualifier-ends c;
-      spans = λ w k j n p o m out after c. spans-ends c;
-      translation = λ w k j n p m out after c. lent-ends (c .outcome) (λ m q e. translation-refused (subst (FindsTranslation w k j) e (c .finds))) (c .lent);
-      translations = λ w k n p m out after c. lent-ends (c .outcome) (λ m q e. translations-refused (subst (FindsTranslations w k) e (c .finds))) (c .lent);
-    }
-  where
-    sequence-ends : {w : List ℕ} {k n p d : ℕ} {x : Part} → SequenceSays w k n p d x → Ends n p ((d ≡ 0) × (x ≡ noPart))
-    sequence-ends (SequenceSays.refused c) = inr (sequence-refused c, (refl, refl))
-    sequence-ends (SequenceSays.found d c i) = inl (refl, refl)
-
-    feature-ends : {w : List ℕ} {k j n p : ℕ} {x y : Part} → FeatureSays w k j n p x y → Ends n p ((x ≡ noPart) × (y ≡ noPart))
-    feature-ends (FeatureSays.refused c) = inr (feature-refused c, (refl, refl))
-    feature-ends (FeatureSays.found c) = inl (refl, refl)
-
-    qualifier-ends : {w : List ℕ} {k j i n p : ℕ} {x y : Part} {b : Bool} → QualifierSays w k j i n p x b y
-        → Ends n p ((x ≡ noPart) × (b ≡ false) × (y ≡ noPart))
-    qualifier-ends (QualifierSays.refused c) = inr (qualifier-refused c, (refl, refl, refl))
-    qualifier-ends (QualifierSays.found c) = inl (refl, refl)
-
-    spans-ends : {w : List ℕ} {k j : ℕ} {out after : List ℕ} {n p o c : ℕ} → SpansSays w k j out n p o c after
-        → Ends n p ((o ≡ 0) × (c ≡ 0) × (after ≡ out))
-    spans-ends (SpansSays.refused c) = inr (location-refused c, (refl, refl, refl))
-    spans-ends (SpansSays.short c l) = inr (own 34 (omega arith) (omega arith), (refl, refl, refl))
-    spans-ends (SpansSays.found c l) = inl (refl, refl)
 
 -- none is above 37
 pub refusal-most : {n p : ℕ} → Refusal n p → n ≤ 37

@@ -1,6 +1,6 @@
 -- The demands of document 00, for an auditor to print: each sentence that can be said of answers, and beside it the statement.
--- It speaks of whatever answers the paper allows; that each call gives an allowed answer for every input is its promise. The proofs stand
--- in crates/demands.
+-- They speak of whatever answers the paper allows; that a call gives such an answer for every input is its own promise. Proofs: demands 1
+-- and 2 in proofs/Demands.antt, demand 3 in ask_check's.
 use Prim.Native.Nat.{ℕ, _+_, _≤_}
 use mathlib.Core.Path.{_≡_}
 use mathlib.Core.Bool.{Bool, false}
@@ -9,7 +9,7 @@ use mathlib.Core.List.{List}
 use lib.ListN.{length}
 use Rattle.paper.specs.Bytes.{raw}
 use Rattle.paper.specs.Lists.{_∈_}
-use Rattle.paper.specs.Tree.{Text, Qualifier, Feature, Sequence, Listing, Bare, textsOf, featuresOf}
+use Rattle.paper.specs.Tree.{Text, Feature, Sequence, Listing, Bare, textsOf, featuresOf}
 use Rattle.paper.specs.Layout.{LaidOut, Writes}
 use Rattle.paper.specs.Locations.{Location, Locates, Span, spans}
 use Rattle.paper.specs.Rules.{L, Broken}
@@ -48,9 +48,13 @@ pub record Demand1 : Type 0 where
 
 -- ---- demand 2: verdict, counts, spans and translations, the first broken rule and its place stand in Answers
 
--- a part shown is the text, inside the listing
+-- a part lies in the listing
+abbrev pub InListing : List ℕ → Part → Type 0
+InListing w x = x .start + x .size ≤ length w
+
+-- the part of a text lies in the listing and is the text as it is written
 pub record Stretch (w : List ℕ) (t : Text ℕ) : Type 0 where
-  pub inside : partOf t .start + partOf t .size ≤ length w
+  pub inside : InListing w (partOf t)
   pub holds : shown w (partOf t) ≡ raw (t .read)
 
 -- a span lies in 1 to n
@@ -63,6 +67,11 @@ pub record Inside (n : ℕ) (x : Span) : Type 0 where
 pub record Demand2 : Type 0 where
   -- "Every part shown is the stated stretch of the lent listing."
   pub parts : (w : List ℕ) (l : Listing ℕ) → LaidOut l w → (t : Text ℕ) → t ∈ textsOf l → Stretch w t
+  -- the same of the calls that show parts, refused ones too: whoever reads start and size never leaves the listing
+  pub sequence : (w : List ℕ) (k n p kind : ℕ) (residues : Part) → SequenceSays w k n p kind residues → InListing w residues
+  pub feature : (w : List ℕ) (k j n p : ℕ) (key location : Part) → FeatureSays w k j n p key location → InListing w key × InListing w location
+  pub qualifier : (w : List ℕ) (k j i n p : ℕ) (name value : Part) (present : Bool) → QualifierSays w k j i n p name present value
+      → InListing w name × InListing w value
   -- "No accepted location points outside its sequence .."
   pub locations : (w : List ℕ) (l : Listing ℕ) → Checked w (give l) → (s : Sequence ℕ) → s ∈ l .sequences → (f : Feature ℕ) → f ∈ featuresOf s
       → (t : Location) → Locates t (f .location .read) → (x : Span) → x ∈ spans t → Inside (L s) x

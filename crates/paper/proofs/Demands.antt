@@ -1,0 +1,125 @@
+-- Demands 1 and 2.
+use Prim.Native.Nat.{ℕ, zero, suc, _≤_}
+use native.Mathlib.Omega.{arith}
+use mathlib.Core.Path.{_≡_, refl, subst}
+use mathlib.Core.Bool.{Bool, false}
+use mathlib.Core.Logic.{inl, inr}
+use mathlib.Core.Option.{Option, none, some}
+use mathlib.Core.List.{List, [], _∷_, _++_}
+use Rattle.paper.specs.Lists.{_∈_, Numbered, gather, present}
+use Rattle.paper.specs.Tree.{Text, Qualifier, Feature, Sequence, Listing, featuresOf, qualifiersOf, qualifierTexts, featureTexts, sequenceTexts, attributeTexts, partiesTexts, spokenTexts, textsOf}
+use Rattle.paper.specs.Layout.{LaidOut}
+use Rattle.paper.specs.Answers.{Checked, give, FindsSequence, FindsFeature, FindsQualifier, FindsTranslation, FindsTranslations, Part, noPart, partOf, valuePart, SequenceSays, FeatureSays, QualifierSays, SpansSays}
+use Rattle.paper.specs.Demands.{Ends, InListing, Demand1, Demand2}
+use Rattle.paper.proofs.Refusals.{checked, own, sequence-refused, feature-refused, qualifier-refused, location-refused, translation-refused, translations-refused, lent-ends}
+use Rattle.paper.proofs.Inside.{accepted-inside}
+use Rattle.paper.proofs.Shown.{parts-shown}
+
+pub demand1 : Demand1
+demand1 =
+    record {
+      check = λ w n p c. checked c;
+      sequence = λ w k n p kind x c. sequence-ends c;
+      feature = λ w k j n p x y c. feature-ends c;
+      qualifier = λ w k j i n p x y b c. qualifier-ends c;
+      spans = λ w k j n p o m out after c. spans-ends c;
+      translation = λ w k j n p m out after c. lent-ends (c .outcome) (λ m q e. translation-refused (subst (FindsTranslation w k j) e (c .finds))) (c .lent);
+      translations = λ w k n p m out after c. lent-ends (c .outcome) (λ m q e. translations-refused (subst (FindsTranslations w k) e (c .finds))) (c .lent);
+    }
+  where
+    sequence-ends : {w : List ℕ} {k n p d : ℕ} {x : Part} → SequenceSays w k n p d x → Ends n p ((d ≡ 0) × (x ≡ noPart))
+    sequence-ends (SequenceSays.refused c) = inr (sequence-refused c, (refl, refl))
+    sequence-ends (SequenceSays.found d c i) = inl (refl, refl)
+
+    feature-ends : {w : List ℕ} {k j n p : ℕ} {x y : Part} → FeatureSays w k j n p x y → Ends n p ((x ≡ noPart) × (y ≡ noPart))
+    feature-ends (FeatureSays.refused c) = inr (feature-refused c, (refl, refl))
+    feature-ends (FeatureSays.found c) = inl (refl, refl)
+
+    qualifier-ends : {w : List ℕ} {k j i n p : ℕ} {x y : Part} {b : Bool} → QualifierSays w k j i n p x b y
+        → Ends n p ((x ≡ noPart) × (b ≡ false) × (y ≡ noPart))
+    qualifier-ends (QualifierSays.refused c) = inr (qualifier-refused c, (refl, refl, refl))
+    qualifier-ends (QualifierSays.found c) = inl (refl, refl)
+
+    spans-ends : {w : List ℕ} {k j : ℕ} {out after : List ℕ} {n p o c : ℕ} → SpansSays w k j out n p o c after
+        → Ends n p ((o ≡ 0) × (c ≡ 0) × (after ≡ out))
+    spans-ends (SpansSays.refused c) = inr (location-refused c, (refl, refl, refl))
+    spans-ends (SpansSays.short c l) = inr (own 34 (omega arith) (omega arith), (refl, refl, refl))
+    spans-ends (SpansSays.found c l) = inl (refl, refl)
+
+-- ---- the texts of which parts are shown are texts of the listing
+
+module _ {A : Type 0} where
+  in-first : (l k : List A) (x : A) → x ∈ l → x ∈ (l ++ k)
+  in-first [] k x m = absurd (m .1)
+  in-first (y ∷ l) k x (zero, n) = (0, n)
+  in-first (y ∷ l) k x (suc i, n) = let m = in-first l k x (i, n) in (suc (m .0), m .1)
+
+  in-second : (l k : List A) (x : A) → x ∈ k → x ∈ (l ++ k)
+  in-second [] k x m = m
+  in-second (y ∷ l) k x m = let n = in-second l k x m in (suc (n .0), n .1)
+
+  in-gather : {B : Type 0} (f : B → List A) (l : List B) (b : B) → b ∈ l → (x : A) → x ∈ f b → x ∈ gather f l
+  in-gather f [] b m x h = absurd (m .1)
+  in-gather f (c ∷ l) b (zero, n) x h = in-first (f c) (gather f l) x (subst (λ (d : _). x ∈ f d) n h)
+  in-gather f (c ∷ l) b (suc i, n) x h = in-second (f c) (gather f l) x (in-gather f l b (i, n) x h)
+
+  number-in : (l : List A) (k : ℕ) (x : A) → Numbered l k x → x ∈ l
+  number-in l k x n = (n .0, n .2)
+
+-- those of a sequence before its features
+abbrev headTexts : Sequence ℕ → List (Text ℕ)
+headTexts s = (s .number ∷ s .declared ∷ s .moltype ∷ s .division ∷ []) ++ gather (present {A = Text ℕ}) (present (s .otherIds))
+
+module _ {w : List ℕ} where
+  laid : {l : Listing ℕ} → Checked w (give l) → LaidOut l w
+  laid (Checked.accepted short h clean) = h
+
+  -- a text of a sequence
+  text-inside : {l : Listing ℕ} → Checked w (give l) → (s : Sequence ℕ) → s ∈ l .sequences → (t : Text ℕ) → t ∈ sequenceTexts s → InListing w (partOf t)
+  text-inside {l} c s i t m =
+      let front = partiesTexts l ++ gather spokenTexts (l .titles) ++ (l .total ∷ []) in
+      let rest = gather sequenceTexts (l .sequences) in
+      parts-shown w l (laid c) t (in-second (attributeTexts l) (front ++ rest) t (in-second front rest t (in-gather sequenceTexts (l .sequences) s i t m))) .inside
+
+  residues-inside : {k : ℕ} {s : Sequence ℕ} → FindsSequence w k (give s) → InListing w (partOf (s .residues))
+  residues-inside {k} {s} (FindsSequence.sequence {l = l} c i u) =
+      text-inside c s (number-in (l .sequences) k s i) (s .residues)
+      (in-second (headTexts s ++ gather featureTexts (featuresOf s)) (s .residues ∷ []) (s .residues) (0, refl))
+
+  -- a text of a feature
+  feature-inside : {k j : ℕ} {s : Sequence ℕ} {f : Feature ℕ} → FindsFeature w k j (give (s, f)) → (t : Text ℕ) → t ∈ featureTexts f → InListing w (partOf t)
+  feature-inside {k} {j} {s} {f} (FindsFeature.feature (FindsSequence.sequence {l = l} c i u) n) t m =
+      let features = gather featureTexts (featuresOf s) in
+      text-inside c s (number-in (l .sequences) k s i) t
+      (in-first (headTexts s ++ features) (s .residues ∷ []) t (in-second (headTexts s) features t (in-gather featureTexts (featuresOf s) f (number-in (featuresOf s) j f n) t m)))
+
+  qualifier-inside : {k j i : ℕ} {q : Qualifier ℕ} → FindsQualifier w k j i (give q) → (t : Text ℕ) → t ∈ qualifierTexts q → InListing w (partOf t)
+  qualifier-inside {i = i} {q} (FindsQualifier.qualifier {f = f} c n) t m =
+      feature-inside c t (in-second (f .key ∷ f .location ∷ []) (gather qualifierTexts (qualifiersOf f)) t (in-gather qualifierTexts (qualifiersOf f) q (number-in (qualifiersOf f) i q n) t m))
+
+  sequence-part : {k n p kind : ℕ} {x : Part} → SequenceSays w k n p kind x → InListing w x
+  sequence-part (SequenceSays.refused c) = omega arith
+  sequence-part (SequenceSays.found d c i) = residues-inside c
+
+  feature-parts : {k j n p : ℕ} {x y : Part} → FeatureSays w k j n p x y → InListing w x × InListing w y
+  feature-parts (FeatureSays.refused c) = (omega arith, omega arith)
+  feature-parts (FeatureSays.found {f = f} c) = (feature-inside c (f .key) (0, refl), feature-inside c (f .location) (1, refl))
+
+  qualifier-parts : {k j i n p : ℕ} {x y : Part} {b : Bool} → QualifierSays w k j i n p x b y → InListing w x × InListing w y
+  qualifier-parts (QualifierSays.refused c) = (omega arith, omega arith)
+  qualifier-parts (QualifierSays.found {q = q} c) = (qualifier-inside c (q .name) (0, refl), of-value (q .value) (λ t m. qualifier-inside c t (suc (m .0), m .1)))
+    where
+      of-value : (o : Option (Text ℕ)) → ((t : Text ℕ) → t ∈ present o → InListing w (partOf t)) → InListing w (valuePart o)
+      of-value none h = omega arith
+      of-value (some t) h = h t (0, refl)
+
+pub demand2 : Demand2
+demand2 =
+    record {
+      parts = parts-shown;
+      sequence = λ w k n p d x c. sequence-part c;
+      feature = λ w k j n p x y c. feature-parts c;
+      qualifier = λ w k j i n p x y b c. qualifier-parts c;
+      locations = λ w l c. accepted-inside c;
+      total = λ w t s f j u c. c .2 .totals;
+    }
