@@ -6,6 +6,7 @@ pub mod Texts
 pub mod Decimal
 pub mod Locate
 pub mod Marks
+pub mod Kept
 pub mod Inside
 pub mod Once
 pub mod Tries
