@@ -1,5 +1,5 @@
--- Texts of the layout, built from their words, with the tree that each is a text of at whatever place it stands. Only what one small
--- listing needs is here: every child on lines of its own, no `<X/>`.
+-- Texts of the layout built from their words, each with the tree that it is a text of, at whatever place it stands. Here is what the
+-- one listing of Accepted.antt needs: each child begins a line, no element is written `<X/>`.
 use Prim.Native.Nat.{ℕ, _+_}
 use Prim.Native.String.{String}
 use mathlib.Core.Path.{_≡_, refl}
@@ -13,6 +13,7 @@ use Rattle.paper.specs.Tree.{Text, application, Qualifier}
 use Rattle.paper.specs.Layout.{blanks, gap, text, tag, close, attribute, content, leaf, spoken, child, child?, holding, heading, qualifier, quals, feature, table, otherIds, sequence, identification, party, doctype, document}
 use Rattle.paper.proofs.Forms.{Ever, ev-seq, ev-these, ev-run, ev-gap, ev-close, Evers, evs-then, evs-after, evs-both, evs-maybe, evs-each}
 
+-- one text and then another, of which none, the second, the first or both have a value
 infixl 60 _then_ _▷_ _◁_ _⊗_
 abbrev _then_ : {F G : Form} → Ever F → Ever G → Ever (F · G)
 _then_ {F} {G} = ev-seq F G
@@ -83,7 +84,7 @@ module _ {A : Type 0} {F : A → Form} where
   each-of (h ∷ l) = λ at. let y = (h ⊗ each-of l) at in (y .0 .0 ∷ y .0 .1, y .1, y .2)
 
   abbrev each⁺-of : Evers F → List (Evers F) → Evers (each⁺ F)
-  each⁺-of h l at = let y = (h ⊗ each-of l) at in (y .0 .0 ∷ y .0 .1, y .1, y .2)
+  each⁺-of h l at = let y = each-of (h ∷ l) at in (y .0, y .1, y .2)
 
   -- behind a start tag: the children and the end tag
   abbrev inside : (name : List ℕ) → Evers F → Evers (λ (a : A). lit ">" · blanks · F a · close name)
@@ -147,8 +148,7 @@ abbrev next : {F : Form} (x : List ℕ) → Ever F → Ever (F · gap · these x
 next x h = h then ev-gap then ev-these x
 
 abbrev doctype-of : Ever doctype
-doctype-of =
-    next _ (next _ (next _ (next _ (ev-these (bytes "<!DOCTYPE")))))
+doctype-of = next _ (next _ (next _ (next _ (ev-these (bytes "<!DOCTYPE")))))
 
 abbrev pub heading-of : (office number : String) → Evers heading
 heading-of office number at =
