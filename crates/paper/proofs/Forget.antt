@@ -2,7 +2,7 @@
 use mathlib.Core.Path.{_≡_, refl}
 use mathlib.Core.List.{List, [], _∷_, map}
 use mathlib.Core.Option.{Option, none, some}
-use Rattle.paper.specs.Tree.{Text, Party, Identification, Heading, reference, application, Qualifier, Feature, Table, Sequence, Listing, opt, markText, markSpoken, markParty, markIdentification, markHeading, markQualifier, markFeature, markTable, markSequence, markListing}
+use Rattle.paper.specs.Tree.{Text, Party, Identification, Heading, reference, application, Qualifier, Feature, Table, Sequence, Listing, Bare, forget, opt, markText, markSpoken, markParty, markIdentification, markHeading, markQualifier, markFeature, markTable, markSequence, markListing}
 
 module _ {A : Type 0} (f : A → A) (same : (a : A) → f a ≡ a) where
   opt-same : (o : Option A) → opt f o ≡ o
@@ -72,3 +72,7 @@ mark-same {P} l =
       total = l .total;
       sequences = map-same (markSequence as-is) sequence-same (l .sequences) i;
     }
+
+-- so of a bare listing nothing is forgotten
+pub forget-same : (b : Bare) → forget b ≡ b
+forget-same b = mark-same b
