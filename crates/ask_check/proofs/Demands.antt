@@ -15,6 +15,7 @@ use Rattle.paper.specs.Answers.{limit, CheckSays, Checked, refuse, give}
 use Rattle.paper.specs.Answers as paper
 use Rattle.paper.specs.declared.Verdict.{Verdict}
 use Rattle.paper.specs.declared.Verdict.the-variants.{Accepted, Refused}
+use Rattle.paper.proofs.Accepted.{listing, accepts}
 use Rattle.paper.proofs.Inside.{Inside, accepted-inside}
 use Rattle.paper.proofs.Marks.{bare-exactly}
 use Rattle.paper.proofs.Once.{check-once}
@@ -72,6 +73,14 @@ exactly w (Refused n p) c = (λ a. absurd (refused-not n p a), λ g. absurd (not
         isRefused : Verdict → Bool
         isRefused (Refused n p) = true
         isRefused (Accepted t s f j u) = false
+
+-- someone is accepted, whatever allowed answer is given: the listing of paper/proofs/Accepted.antt
+pub someone : (r : Verdict) → CheckSays listing r → r ≡ Accepted 3 1 3 1 0
+someone r c = answers-once listing r (Accepted 3 1 3 1 0) c accepts
+
+-- and it is good by demand 3's own words
+pub someone-good : Good listing
+someone-good = exactly listing (Accepted 3 1 3 1 0) accepts .0 (record { total = 3; skipped = 1; features = 3; judged = 1; unjudged = 0; is = refl })
 
 -- ".. and then no other is": any two that are written by the bytes are one
 pub no-other : (w : List ℕ) (a b : Bare) → Writes a w → Writes b w → a ≡ b

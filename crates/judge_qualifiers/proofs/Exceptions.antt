@@ -10,6 +10,7 @@ use Rattle.paper.specs.Lists.{_∈_}
 use Rattle.paper.specs.Tree.{Qualifier, Feature, qualifiersOf}
 use Rattle.paper.specs.Locations.{Location, Locates, leavesUnjudged}
 use Rattle.paper.specs.Rules.{Unjudged, excepted, other-code, located}
+use Rattle.paper.proofs.Lists.{every}
 use Rattle.paper.proofs.Locate.{locates-once}
 use Rattle.value_words.specs.Reading.{Tells, OfRead}
 use Rattle.value_words.proofs.Tests.{tells-true, tells-false}
@@ -20,7 +21,7 @@ use Rattle.location_judge.specs.declared.judging.Facts.{Facts}
 use Rattle.location_judge.specs.declared.judging.Verdict.{Verdict}
 use Rattle.location_judge.specs.declared.judging.Verdict.the-variants.{Bad, Is}
 use Rattle.judge_qualifiers.specs.Qualifiers.{ValueIs, Shown, exceptions, Excepted, OtherCode, HasExcepted, Excepts, LeavesOut}
-use Rattle.judge_qualifiers.proofs.Lists.{in-last, in-front, in-split, every}
+use Rattle.judge_qualifiers.proofs.Lists.{in-last, in-front, in-split}
 
 -- ---- the names
 

@@ -1,6 +1,6 @@
 -- A list and one element more.
 use Prim.Native.Nat.{ℕ, zero, suc}
-use mathlib.Core.Path.{_≡_, refl, sym, ap, subst}
+use mathlib.Core.Path.{_≡_, refl, ap, subst}
 use mathlib.Core.Logic.{_⊎_, inl, inr}
 use mathlib.Core.List.{List, [], _∷_, _++_}
 use lib.ListN.{length}
@@ -37,19 +37,6 @@ module _ {A : Type 0} where
           up : (y ∈ l) ⊎ (y ∈ k) → (y ∈ (x ∷ l)) ⊎ (y ∈ k)
           up (inl a) = inl (suc (a .0), a .1)
           up (inr a) = inr a
-
-  -- what holds of each element
-  abbrev pub Every : (A → Type 0) → List A → Type 0
-  Every P [] = Unit {0}
-  Every P (x ∷ l) = P x × Every P l
-
-  pub every : (P : A → Type 0) (l : List A) → Every P l → (x : A) → x ∈ l → P x
-  every P l h x m = at l h (m .0) (m .1)
-    where
-      at : (l : List A) → Every P l → (i : ℕ) → Nth l i x → P x
-      at [] h i n = absurd n
-      at (y ∷ l) h zero n = subst P (sym n) (h .0)
-      at (y ∷ l) h (suc i) n = at l (h .1) i n
 
 module _ {A : Type 0} {C : A → Type 0} where
   pub count-last : (l : List A) (x : A) {n : ℕ} → C x → Count C (l ++ (x ∷ [])) n → (m : ℕ) × Count C l m × (n ≡ suc m)

@@ -1,11 +1,13 @@
 pub mod Lists
 pub mod Tables
 pub mod Bits
+pub mod Forms
 pub mod Firsts
 pub mod Texts
 pub mod Decimal
 pub mod Locate
 pub mod Marks
+pub mod Forget
 pub mod Inside
 pub mod Once
 pub mod Refusals
@@ -13,3 +15,6 @@ pub mod Shown
 pub mod Demands
 pub mod Tries
 pub mod Samples
+pub mod Keeps
+pub mod Built
+pub mod Accepted

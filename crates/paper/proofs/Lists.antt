@@ -20,6 +20,23 @@ nth-inside (y ∷ l) (suc i) x h = omega (arith, nth-inside l i x h)
 pub numbered-once : {A : Type 0} (l : List A) (k : ℕ) (x y : A) → Numbered l k x → Numbered l k y → x ≡ y
 numbered-once l k x y a b = nth-once l (a .0) x y (a .2) (subst (λ (i : ℕ). Nth l i y) (omega (arith, a .1, b .1)) (b .2))
 
+-- what holds of each element, by its number from 0
+abbrev pub EachAt : {A : Type 0} → (ℕ → A → Type 0) → List A → Type 0
+EachAt R [] = Unit {0}
+EachAt R (x ∷ l) = R 0 x × EachAt (λ (i : ℕ). R (suc i)) l
+
+pub each-at : {A : Type 0} (R : ℕ → A → Type 0) (l : List A) → EachAt R l → (i : ℕ) (x : A) → Nth l i x → R i x
+each-at R [] h i x n = absurd n
+each-at R (y ∷ l) h zero x n = subst (R 0) (sym n) (h .0)
+each-at R (y ∷ l) h (suc i) x n = each-at (λ (i : ℕ). R (suc i)) l (h .1) i x n
+
+-- the same whatever the number
+abbrev pub Every : {A : Type 0} → (A → Type 0) → List A → Type 0
+Every P = EachAt (λ i. P)
+
+pub every : {A : Type 0} (P : A → Type 0) (l : List A) → Every P l → (x : A) → x ∈ l → P x
+every P l h x m = each-at (λ i. P) l h (m .0) x (m .1)
+
 -- a property counts once
 pub count-once : {A : Type 0} {C : A → Type 0} {l : List A} {n m : ℕ} → Count C l n → Count C l m → n ≡ m
 count-once end end = refl

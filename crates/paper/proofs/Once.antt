@@ -50,7 +50,7 @@ start-once (stated q c i h w v o k) (stated {n = m} r d j e x u a b) =
     let z : w ≡ x = cc in
     number-once k (subst (Number m) (sym z) b)
 
-codons-once : {P : Type 0} {s : Sequence P} {f : Feature P} {x y : List ℕ} → Codons s f x → Codons s f y → x ≡ y
+pub codons-once : {P : Type 0} {s : Sequence P} {f : Feature P} {x y : List ℕ} → Codons s f x → Codons s f y → x ≡ y
 codons-once {s = s} a b =
     let t : a .location ≡ b .location = locates-once (a .location) (b .location) (a .located) (b .located) in
     a .are ∙ (λ i. codonsFrom code1 (start-once (a .starts) (b .starts) i) (codingText (s .residues .read) (spans (t i)))) ∙ sym (b .are)
@@ -114,7 +114,7 @@ lines-once (Lines.translation a r) (Lines.translation b t) =
 
 -- ---- the calls
 
-kind-once : {P : Type 0} (s : Sequence P) (d e : Kind) → IsKind d s → IsKind e s → d ≡ e
+pub kind-once : {P : Type 0} (s : Sequence P) (d e : Kind) → IsKind d s → IsKind e s → d ≡ e
 kind-once s d e a b = go d e (sym a ∙ b)
   where
     go : (d e : Kind) → bytes (kindName d) ≡ bytes (kindName e) → d ≡ e

@@ -7,11 +7,12 @@ use mathlib.Core.Bool.{Bool, true, false, _&&_, not, and-eq-true-iff}
 use mathlib.Core.List.{List, [], _∷_}
 use mathlib.Core.Option.{Option, none, some}
 use lib.ListN.{length}
-use lib.Dec.{eqb}
-use borrow.Author.Tests.{eqb-true, not-true}
+use borrow.Author.Tests.{not-true}
 use Rattle.paper.specs.Bytes.{bytes}
 use Rattle.paper.specs.Locations.{Location, Locates, spans, breaks25}
 use Rattle.paper.specs.Translation.{code1, codingText, codonsFrom, letters, dropStop, hasStopInside}
+use Rattle.paper.proofs.Lists.{Every}
+use Rattle.paper.proofs.Texts.{same, same-is}
 use Rattle.paper.proofs.Locate.{locate-sound, locate-complete}
 use Rattle.paper.proofs.Locate.Model.{locate}
 
@@ -63,27 +64,7 @@ Holds (fits l) = Located l 12 (λ t. Unit {0})
 Holds (breaks-25 l) = (t : Location) × Locates t (bytes l) × (breaks25 12 t ≡ true)
 Holds (breaks-24 l) = (t : Location) → ¬ Locates t (bytes l)
 
-abbrev pub All : List Sample → Type 0
-All [] = Unit {0}
-All (x ∷ l) = Holds x × All l
-
 -- ---- the proof: a test that is computed over the list, and holds only of samples that hold
-
-abbrev same : List ℕ → List ℕ → Bool
-same [] [] = true
-same [] (b ∷ w) = false
-same (a ∷ v) [] = false
-same (a ∷ v) (b ∷ w) = eqb a b && same v w
-
-same-is : (v w : List ℕ) → same v w ≡ true → v ≡ w
-same-is [] [] e = refl
-same-is [] (b ∷ w) e = absurd (let z : _≡_ {A = ℕ} 0 1 = cc in omega arith)
-same-is (a ∷ v) [] e = absurd (let z : _≡_ {A = ℕ} 0 1 = cc in omega arith)
-same-is (a ∷ v) (b ∷ w) e =
-    let k = and-eq-true-iff (eqb a b) (same v w) .0 e in
-    let h = eqb-true a b (k .0) in
-    let t = same-is v w (k .1) in
-    λ i. h i ∷ t i
 
 abbrev found : Option Location → (Location → Bool) → Bool
 found none f = false
@@ -130,11 +111,11 @@ abbrev every : List Sample → Bool
 every [] = true
 every (x ∷ l) = test x && every l
 
-all-hold : (l : List Sample) → every l ≡ true → All l
+all-hold : (l : List Sample) → every l ≡ true → Every Holds l
 all-hold [] e = tt
 all-hold (x ∷ l) e = let k = and-eq-true-iff (test x) (every l) .0 e in (test-holds x (k .0), all-hold l (k .1))
 
 -- every starred case holds
-pub starred : All samples
+pub starred : Every Holds samples
 unfolding samples
 starred = all-hold samples refl

@@ -1,14 +1,40 @@
 -- Texts: bytes are written from at most one text.
 use Prim.Native.Nat.{ℕ}
+use native.Mathlib.Omega.{arith}
 use mathlib.Core.Path.{_≡_, refl, sym, ap, _∙_, subst}
-use mathlib.Core.Bool.{Bool, true, false, cond}
+use mathlib.Core.Bool.{Bool, true, false, _&&_, cond, and-eq-true-iff, true≢false}
 use mathlib.Core.List.{List, [], _∷_, _++_, append-assoc, cons≢nil}
 use lib.ListN.{getD, drop}
 use lib.Dec.{eqb}
-use borrow.Author.Tests.{eqb-true}
+use borrow.Author.Tests.{eqb-true, eq-eqb}
 use Rattle.paper.specs.Bytes.{bytes, spell, raw, all}
 use Rattle.paper.specs.Tree.{Text}
 use Rattle.paper.specs.Layout.{text}
+
+-- a test that two texts are one
+abbrev pub same : List ℕ → List ℕ → Bool
+same [] [] = true
+same [] (b ∷ w) = false
+same (a ∷ v) [] = false
+same (a ∷ v) (b ∷ w) = eqb a b && same v w
+
+pub same-is : (v w : List ℕ) → same v w ≡ true → v ≡ w
+same-is [] [] e = refl
+same-is [] (b ∷ w) e = absurd (let z : _≡_ {A = ℕ} 0 1 = cc in omega arith)
+same-is (a ∷ v) [] e = absurd (let z : _≡_ {A = ℕ} 0 1 = cc in omega arith)
+same-is (a ∷ v) (b ∷ w) e =
+    let k = and-eq-true-iff (eqb a b) (same v w) .0 e in
+    let h = eqb-true a b (k .0) in
+    let t = same-is v w (k .1) in
+    λ i. h i ∷ t i
+
+same-self : (w : List ℕ) → same w w ≡ true
+same-self [] = refl
+same-self (b ∷ w) = rw (eq-eqb b b refl, same-self w)
+
+-- two texts that differ are not one
+pub apart : {v w : List ℕ} → same v w ≡ false → ¬ (v ≡ w)
+apart {v} d e = true≢false (sym (same-self v) ∙ ap (same v) e ∙ d)
 
 -- what the first character of a written text is, and what follows it
 abbrev pub unspell : List ℕ → ℕ × List ℕ

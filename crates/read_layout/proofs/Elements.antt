@@ -7,11 +7,11 @@ use Rattle.paper.specs.Bytes.{bytes, isBlank}
 use Rattle.paper.specs.Form.{Form, _·_, each, each⁺}
 use Rattle.paper.specs.Tree.{Text, Qualifier, Feature, Table}
 use Rattle.paper.specs.Layout.{tag, leaf, child, child?, holding, holding?, qualifier, quals, feature, table, otherIds}
+use Rattle.paper.proofs.Forms.{Evers}
 use Rattle.read_steps.specs.Reads.{Reads, Passes, Tried}
 use Rattle.read_steps.specs.Follow.{Not, Starts, Before, anything, closing}
 use Rattle.read_steps.specs.declared.Step.{Step}
 use Rattle.read_steps.proofs.Steps.{as-reads}
-use Rattle.read_steps.proofs.Fronts.{Evers}
 use Rattle.read_tags.proofs.Tags.{Element, Children, leaf-element, holding?-element, ev-holding?, Void, optional-reads, some-reads, ev-holding}
 use Rattle.read_steps.proofs.Soles.{sole-as}
 use Rattle.read_layout.specs.Parts.{Enters, Leaves, Held, held}

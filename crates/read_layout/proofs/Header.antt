@@ -8,12 +8,13 @@ use Rattle.paper.specs.Bytes.{bytes, isBlank}
 use Rattle.paper.specs.Form.{Form, _·_, _∪_, maybe}
 use Rattle.paper.specs.Tree.{Text, Spoken, Party, Identification, Heading, reference, application, Sequence}
 use Rattle.paper.specs.Layout.{tag, attribute, leaf, spoken, child, child?, holding, identification, heading, party, sequence, attributes, root}
+use Rattle.paper.proofs.Forms.{ev-these, Evers, evs-both, evs-after}
 use Rattle.read_steps.specs.Reads.{Reads, Passes, Tried, stayed}
 use Rattle.read_steps.specs.Follow.{Not, Starts, Before, anything, closing}
 use Rattle.read_steps.specs.declared.Step.{Step}
 use Rattle.read_steps.specs.declared.Step.the-variants.{Ok, Fail}
 use Rattle.read_steps.proofs.Steps.{as-reads, before, seq, pass-then, either-first, either-second, tried, failed-at, failed-again, step-is, step-to}
-use Rattle.read_steps.proofs.Fronts.{ev-these, Evers, evs-both, evs-after, Leads, leads-seq, leads-all, leads-starts, starts-wider}
+use Rattle.read_steps.proofs.Fronts.{Leads, leads-seq, leads-all, leads-starts, starts-wider}
 use Rattle.read_tags.proofs.Tags.{Element, leaf-element, spoken-element, holding-reads, ev-holding, child-leads, child-ever, child-reads, sole-attribute, sole-holding, optional-reads, ev-attribute, apart-leads}
 use Rattle.read_steps.proofs.Soles.{sure-these, sole-seq, sole-after, sole-as, sole-of, sole-or}
 use Rattle.read_layout.specs.Parts.{Enters, Leaves, MaybeParty, Held, numbered, held, Parties, introduced, titled, earlier}

@@ -7,12 +7,13 @@ use mathlib.Core.List.{List, [], _∷_, _++_, append-assoc}
 use Rattle.paper.specs.Bytes.{bytes, isBlank}
 use Rattle.paper.specs.Form.{Form, _·_, maybe, each, each⁺}
 use Rattle.paper.specs.Layout.{blanks, tag, child, child?, holding}
+use Rattle.paper.proofs.Forms.{Evers, evs-both, evs-maybe, evs-each}
 use Rattle.read_steps.specs.Reads.{Reads, Passes, Tried, Followed, chosen}
 use Rattle.read_steps.specs.Follow.{Not, Starts, Before, anything, closing, clashes, sharp}
 use Rattle.read_steps.specs.declared.Step.{Step}
 use Rattle.read_steps.specs.declared.Step.the-variants.{Ok, Fail}
 use Rattle.read_steps.proofs.Steps.{before, seq, skip-tried, failed}
-use Rattle.read_steps.proofs.Fronts.{Evers, evs-both, evs-maybe, evs-each, starts-sharp, leads-starts, Leads, leads-by, whole, maybe-starts, not-there}
+use Rattle.read_steps.proofs.Fronts.{starts-sharp, leads-starts, Leads, leads-by, whole, maybe-starts, not-there}
 use Rattle.read_tags.proofs.Tags.{Element, Children, holding-element, holding-reads, tag-then, child-leads, child-ever, child-sole, child-reads, sole-optional, sole-items, sole-some-items, optional-starts, items-starts, some-starts, ev-some, ev-holding}
 use Rattle.read_steps.proofs.Soles.{Sole, sole-seq, sole-maybe, sole-before}
 use Rattle.read_layout.specs.Parts.{Enters, Leaves}

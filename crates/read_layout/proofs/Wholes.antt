@@ -13,13 +13,14 @@ use Rattle.paper.specs.Form.{Form, these, lit, _·_, each, each⁺}
 use Rattle.paper.specs.Tree.{Text, Spoken, Sequence, Listing, Bare, forget}
 use Rattle.paper.specs.Layout.{blanks, gap, tag, close, attribute, attribute?, leaf, spoken, child, holding, sequence, attributes, root, doctype, document, LaidOut, Writes}
 use Rattle.paper.specs.Answers.{Strays, Begins}
+use Rattle.paper.proofs.Forms.{Ever, ev-seq, ev-these, ev-run, ev-gap, Evers, evs-both, evs-after, evs-maybe}
 use Rattle.read_steps.specs.Reads.{Lost, Reads, Passes, Tried}
 use Rattle.read_steps.specs.Follow.{Not, Starts, Before, anything, nothing, closing, clashes, sharp, skip}
 use Rattle.read_steps.specs.declared.Step.{Step}
 use Rattle.read_steps.specs.declared.Step.the-variants.{Ok, Fail}
 use Rattle.read_steps.proofs.Laws.{agree-le}
 use Rattle.read_steps.proofs.Steps.{as-reads, before, seq, pass-then, then-pass}
-use Rattle.read_steps.proofs.Fronts.{Ever, ev-seq, ev-these, ev-run, ev-gap, Evers, evs-both, evs-after, evs-maybe, Leads, leads-seq, leads-all, leads-starts, leads-sharp, StartsBy, skip-blanks, skip-none}
+use Rattle.read_steps.proofs.Fronts.{Leads, leads-seq, leads-all, leads-starts, leads-sharp, StartsBy, skip-blanks, skip-none}
 use Rattle.read_tags.proofs.Tags.{leaf-element, spoken-element, holding-reads, ev-holding, some-reads, ev-attribute, sole-attribute, sole-attribute-optional, attribute-optional, attribute-starts, sole-holding, sure-gap, Inner, inner-leads}
 use Rattle.read_steps.proofs.Soles.{Sole, Sure, sure-these, sure-run, sure-seq, sole-seq, sole-then, sole-after, sole-as}
 use Rattle.read_layout.specs.Parts.{Enters, Attributes, Parties, listing, attributed, introduced, titled, totalled, close-tag}

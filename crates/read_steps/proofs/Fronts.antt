@@ -1,5 +1,5 @@
--- What the texts of a form start with, and that a form has a text: the side conditions of the laws of sequence, choice and repetition.
-use Prim.Native.Nat.{ℕ, _+_, _<_}
+-- What the texts of a form start with: the side conditions of the laws of sequence, choice and repetition.
+use Prim.Native.Nat.{ℕ, _<_}
 use native.Mathlib.Omega.{arith}
 use mathlib.Core.Path.{_≡_, refl, sym, ap, _∙_, subst}
 use mathlib.Core.Bool.{Bool, true, false, _&&_, _||_, not, cond, and-eq-true-iff}
@@ -9,55 +9,12 @@ use lib.ListN.{length}
 use lib.Dec.{eqb}
 use borrow.Author.Tests.{eq-eqb, eqb-true}
 use Rattle.paper.specs.Bytes.{all, isBlank}
-use Rattle.paper.specs.Form.{Form, these, _·_, one, run, maybe, each}
-use Rattle.paper.specs.Layout.{blanks, gap}
-use Rattle.read_steps.specs.Reads.{Viable}
+use Rattle.paper.specs.Form.{Form, these, _·_, maybe, each}
+use Rattle.paper.specs.Layout.{gap}
 use Rattle.read_steps.specs.Follow.{Not, Named, Starts, first, later, skip, clash, clashes, sharp}
 
 pub false-true : false ≡ true → ⊥
 false-true e = let z : _≡_ {A = ℕ} 0 1 = cc in omega arith
-
--- ---- a form has a text
-
-abbrev pub Ever : Form → Type 0
-Ever F = (at : ℕ) → (w : List ℕ) × F at w
-
-pub ev-seq : (F G : Form) → Ever F → Ever G → Ever (F · G)
-ev-seq F G h k at = let a = h at in let b = k (at + length (a .0)) in (a .0 ++ b .0, (a .0, b .0, refl, a .1, b .1))
-
-pub ev-these : (x : List ℕ) → Ever (these x)
-ev-these x at = (x, refl)
-
-pub ev-run : (f : ℕ → Bool) → Ever (run f)
-ev-run f at = ([], tt)
-
--- the same where the texts have values
-abbrev pub Evers : {A : Type 0} → (A → Form) → Type 0
-Evers L = (at : ℕ) → Viable L at []
-
-pub evs-then : {A : Type 0} (L : A → Form) (P : Form) → Evers L → Ever P → Evers (λ (a : A). L a · P)
-evs-then L P h k at =
-    let a = h at in
-    let b = k (at + length (a .1)) in
-    (a .0, a .1 ++ b .0, (a .1, b .0, refl, a .2, b .1))
-
-pub evs-after : {A : Type 0} (P : Form) (L : A → Form) → Ever P → Evers L → Evers (λ (a : A). P · L a)
-evs-after P L h k at =
-    let a = h at in
-    let b = k (at + length (a .0)) in
-    (b .0, a .0 ++ b .1, (a .0, b .1, refl, a .1, b .2))
-
-pub evs-both : {A B : Type 0} (L : A → Form) (M : B → Form) → Evers L → Evers M → Evers (λ (p : A × B). L (p .0) · M (p .1))
-evs-both L M h k at =
-    let a = h at in
-    let b = k (at + length (a .1)) in
-    ((a .0, b .0), a .1 ++ b .1, (a .1, b .1, refl, a .2, b .2))
-
-pub evs-maybe : {A : Type 0} (L : A → Form) → Evers (maybe L)
-evs-maybe L at = (none, [], refl)
-
-pub evs-each : {A : Type 0} (L : A → Form) → Evers (each L)
-evs-each L at = ([], [], refl)
 
 -- ---- each text of F starts with the word k
 
@@ -171,9 +128,6 @@ gap-blank at w d = subst (all isBlank) (sym (d .2 ∙ ap (λ (u : List ℕ). u +
 
 pub skip-gap : (at : ℕ) (w z : List ℕ) → gap at w → skip (w ++ z) ≡ skip z
 skip-gap at w z d = skip-blanks w z (gap-blank at w d)
-
-pub ev-gap : Ever gap
-ev-gap at = (32 ∷ [], (32 ∷ [], [], refl, (32, refl, refl), tt))
 
 -- ---- what may be missing, or repeated: M starts with k, seen by the view v (all of a text, or what is behind its blanks)
 

@@ -5,11 +5,11 @@ use mathlib.Core.List.{List, _++_}
 use Rattle.paper.specs.Bytes.{isBlank}
 use Rattle.paper.specs.Form.{these, _·_, one}
 use Rattle.paper.specs.Layout.{blanks, gap}
+use Rattle.paper.proofs.Forms.{ev-these, ev-run}
 use Rattle.read_steps.specs.Reads.{Passes}
 use Rattle.read_steps.specs.Follow.{Not, anything}
 use Rattle.read_steps.specs.declared.Step.{Step}
 use Rattle.read_steps.proofs.Steps.{as-reads, then-pass}
-use Rattle.read_steps.proofs.Fronts.{ev-these, ev-run}
 
 -- two words one after the other are one word
 pub these-join : {s x y : List ℕ} {a b c : Step} → Passes (these x) anything s a b → Passes (these y) anything s b c → Passes (these (x ++ y)) anything s a c

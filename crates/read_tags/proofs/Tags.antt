@@ -10,13 +10,14 @@ use Rattle.paper.specs.Bytes.{bytes, isBlank}
 use Rattle.paper.specs.Form.{Form, these, lit, _·_, _∪_, given, one, maybe, each, each⁺}
 use Rattle.paper.specs.Tree.{Text}
 use Rattle.paper.specs.Layout.{blanks, gap, text, tag, close, attribute, content, leaf, spoken, child, holding, holding?}
+use Rattle.paper.proofs.Forms.{ev-seq, ev-these, ev-run, ev-gap, ev-close, Evers, evs-then, evs-after, evs-both}
 use Rattle.read_steps.specs.Reads.{Viable, Reads, Passes, Tried}
 use Rattle.read_steps.specs.Follow.{Not, Starts, first, anything, skip, clashes, sharp, closing, Before}
 use Rattle.read_steps.specs.Texts.{allowedIn, isText}
 use Rattle.read_steps.specs.declared.Step.{Step}
 use Rattle.read_steps.specs.declared.Step.the-variants.{Ok, Fail}
 use Rattle.read_steps.proofs.Steps.{as-reads, as-reads-at, before, seq, pass-then, then-pass, either-first, either-second, skip-tried, stop, more, onwards, failed}
-use Rattle.read_steps.proofs.Fronts.{Ever, ev-seq, ev-these, ev-run, ev-gap, Evers, evs-then, evs-after, evs-both, Leads, leads-these, leads-all, leads-seq, leads-starts, leads-sharp, leads-long, leads-by, LeadsBy, whole, StartsBy, starts-sharp, skip-gap, skip-none, maybe-starts, each-starts, not-there}
+use Rattle.read_steps.proofs.Fronts.{Leads, leads-these, leads-all, leads-seq, leads-starts, leads-sharp, leads-long, leads-by, LeadsBy, whole, StartsBy, starts-sharp, skip-gap, skip-none, maybe-starts, each-starts, not-there}
 use Rattle.read_steps.proofs.Letters.{ev-text, sole-text}
 use Rattle.read_steps.proofs.Soles.{Sole, Sure, sure-these, sure-one, sure-run, sure-seq, sole-seq, sole-then, sole-after, sole-before, sole-or, sole-maybe, sole-each, sole-some}
 
@@ -27,9 +28,6 @@ pub close-reads : {s name : List ℕ} {x y v r : Step} → Passes (these (bytes 
 close-reads p b q =
     then-pass (λ at w z l g. leads-sharp isBlank (bytes ">") (lit ">") refl (leads-all (bytes ">")) at w z l) (ev-these (bytes ">"))
     (then-pass (λ at w z l g. tt) (ev-run isBlank) p b) q
-
-pub ev-close : (name : List ℕ) → Ever (close name)
-ev-close name = ev-seq _ _ (ev-seq _ _ (ev-these (bytes "</" ++ name)) (ev-run isBlank)) (ev-these (bytes ">"))
 
 pub close-leads : (name : List ℕ) → Leads (bytes "</") (close name)
 close-leads name =
