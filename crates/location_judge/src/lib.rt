@@ -5,4 +5,3 @@
 pub mod judging;
 pub mod operators;
 pub mod pieces;
-pub mod places;

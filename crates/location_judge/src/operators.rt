@@ -1,5 +1,5 @@
 // The words of operators at a place of a part.
-use crate::places::begins;
+use read_bytes::begins;
 ghost use Rattle.paper.specs.Bytes.{bytes};
 ghost use Rattle.location_judge.specs.Places.{Has};
 ghost use Rattle.location_judge.specs.Readings.{Lists};

@@ -4,6 +4,8 @@
 // a public call takes it there and lends it on.
 mod tables;
 
+use read_bytes::equal;
+use read_bytes::two;
 use std::num::wrapping_add_u8;
 ghost use mathlib.Core.Path.{_≡_};
 ghost use mathlib.Core.Bool.{false};
@@ -57,13 +59,6 @@ pub fn codon(a: u8, b: u8, c: u8, turned: bool, code: &[u8; 5128]) -> u8
 
 // ---- tests as numbers, with no branch, so that a loop that joins them is compiled to vector code
 
-// 1 where two bytes are the same.
-fn equal(a: u8, b: u8) -> u8
-    ensures { λ y. ⌜ y ≡ flag (eqb a b) ⌝ }
-{
-    if a == b { 1 } else { 0 }
-}
-
 // 0 only where the first byte isn't this one, or the sum of the two others is none of three.
 fn has_sum(x: u8, y: u8, z: u8, f: u8, p: u8, q: u8, r: u8) -> u8
     ensures { λ n. ⌜ (n ≡ 0 → hasSum f p q r x y z ≡ false) ⌝ }
@@ -94,13 +89,6 @@ pub fn no_plain(b: u8) -> u8
 }
 
 // ---- plain codons
-
-// Two bytes as one number, the first lowest.
-fn two(a: u8, b: u8) -> u64
-    ensures { λ n. ⌜ n ≡ a + 256 * b ⌝ }
-{
-    a as u64 + 256 * (b as u64)
-}
 
 // The letter of three plain residues x, y, z, as they stand, on a strand. The residue w behind them says nothing: with it the four are
 // compiled to one load.

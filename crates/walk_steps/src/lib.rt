@@ -39,16 +39,6 @@ pub fn past(s: &[u8], at: usize, n: usize) -> usize
     std::num::wrapping_add_usize(at, n)
 }
 
-// Whether the bytes x stand here.
-pub fn there(s: &[u8], at: usize, x: &[u8]) -> bool
-    ensures { λ r. ⌜ There (now (x .entry)) (now (s .entry)) at r ⌝ }
-{
-    match read_steps::lit(s, Step::Ok { next: at, far: at }, x) {
-        Step::Ok { next: _, far: _ } => true,
-        Step::Fail(_) => false,
-    }
-}
-
 // The first place from here on, before `end`, where this byte stands.
 fn seek(s: &[u8], at: usize, end: usize, stop: u8) -> usize
     requires { ⌜ end ≤ length (now s) ⌝ }
@@ -266,7 +256,7 @@ pub fn attribute(s: &[u8], at: usize, name: &[u8]) -> Found
 pub fn attribute_maybe(s: &[u8], at: usize, name: &[u8]) -> FoundMaybe
     ensures { λ r. ⌜ FindsAttributeMaybe (now (name .entry)) (now (s .entry)) at r ⌝ }
 {
-    if there(s, blanks(s, at), name) {
+    if read_bytes::begins(s, blanks(s, at), name) {
         let Found { part, next } = attribute(s, at, name);
         return FoundMaybe {
             part: Maybe::Present(part),
