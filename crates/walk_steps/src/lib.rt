@@ -9,9 +9,10 @@ ghost use mathlib.Core.Bool.{false};
 ghost use lib.ListN.{length, getD};
 ghost use Rattle.paper.specs.Bytes.{isBlank};
 ghost use Rattle.paper.specs.Layout as Form;
+ghost use Rattle.read_bytes.specs.Words.{There};
 ghost use Rattle.read_steps.specs.Follow.{Not, anything};
 ghost use Rattle.read_steps.specs.Texts.{allowedIn, isPlain, Scanned};
-ghost use Rattle.walk_steps.specs.Stands.{Past, There, others, tagOf, Ends, Finds, FindsContent, FindsMaybe, entering, leaving, shutting, OpensSo, FindsAttribute, FindsAttributeMaybe};
+ghost use Rattle.walk_steps.specs.Stands.{Past, others, tagOf, Ends, Finds, FindsContent, FindsMaybe, entering, leaving, shutting, OpensSo, FindsAttribute, FindsAttributeMaybe};
 
 // A text of the listing, from its first byte to the one behind its last.
 pub struct Part {
