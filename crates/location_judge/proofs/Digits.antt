@@ -13,10 +13,12 @@ use Rattle.paper.specs.Bytes.{spell, raw}
 use Rattle.paper.proofs.Decimal.{push, digit-is}
 use Rattle.paper.proofs.Locate.Model.{Got, more, num}
 use Rattle.paper.proofs.Locate.Pieces.{NoDigit}
-use Rattle.location_judge.specs.Places.{Stands, Stretch, Has}
+use Rattle.read_bytes.specs.Words.{There}
+use Rattle.read_bytes.proofs.Words.{is-there}
+use Rattle.location_judge.specs.Places.{Stands, Stretch}
 use Rattle.location_judge.specs.Readings.{Reads, kept, Numbers}
 use Rattle.location_judge.specs.declared.pieces.Num.the-variants.{No, At}
-use Rattle.location_judge.proofs.Stand.{at-end, suffix, begun, stretch-text, stretch-join, has, After}
+use Rattle.location_judge.proofs.Stand.{at-end, suffix, begun, stretch-text, stretch-join, After}
 
 -- b is one of lo to hi
 abbrev Among : ℕ → ℕ → ℕ → Bool
@@ -45,8 +47,8 @@ module _ (s : List ℕ) (i d : ℕ) (h : i < length s) (e : d ≡ getD s i 0) wh
     digit-raw : raw (d ∷ []) ≡ d ∷ []
     digit-raw = rw (plain-digit d p q)
 
-    digit-has : Has s i (raw (d ∷ [])) true
-    digit-has = rw digit-raw (has (omega arith) (suffix s i d h e))
+    digit-has : There (raw (d ∷ [])) s i true
+    digit-has = rw digit-raw (is-there (record { inside = omega arith; here = suffix s i d h e }))
 
     digit-there : (w : List ℕ) → Stands s i w → After s (d ∷ []) w (i + 1)
     digit-there w st = rw (ap length digit-raw) at (begun (d ∷ []) digit-has st refl)

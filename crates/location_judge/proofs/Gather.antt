@@ -13,7 +13,8 @@ use Rattle.paper.specs.Locations.{isOdd, isWrong, Member, Operator, Location, o
 use Rattle.paper.proofs.Locate.Model.{Got, then, memberOf, step, members, gathered, gather, read}
 use Rattle.paper.proofs.Locate.Rest.{ends-length}
 use Rattle.paper.proofs.Locate.Reads.{read-sound, read-nil, read-ends, allowed-member}
-use Rattle.location_judge.specs.Places.{Stands, Stretch, Has}
+use Rattle.read_bytes.specs.Words.{There}
+use Rattle.location_judge.specs.Places.{Stands, Stretch}
 use Rattle.location_judge.specs.Judging.{AreFacts}
 use Rattle.location_judge.specs.Readings.{Reads, OutSays, Outs, numberOf, Lists, withMember}
 use Rattle.location_judge.specs.declared.judging.Facts.{Facts}
@@ -162,10 +163,10 @@ module _ {s : List ℕ} {L d : ℕ} {c : Bool} where
               }
 
       -- the members so far, this one and what stands behind it
-      pub passed-by : (u : List ℕ) {t : Bool} → Has s n (raw u) t → t ≡ true → Stretch s at (n + length (raw u))
+      pub passed-by : (u : List ℕ) {t : Bool} → There (raw u) s n t → t ≡ true → Stretch s at (n + length (raw u))
       passed-by u x e = stretch-join (run .passed) (stretch-join (h .within) (stretch-text u x e))
 
-      module _ {t : Bool} (bracket : Has s n (raw (bytes ")")) t) where
+      module _ {t : Bool} (bracket : There (raw (bytes ")")) s n t) where
         -- the list ends
         closed : t ≡ true → (o : Operator) → op ≡ numberOf o → (w : List ℕ) → Stands s from w
             → (ms : List Member) × (z : List ℕ) × Stands s (n + 1) z × AreFacts L (many false o ms) (withMember f g)
@@ -195,7 +196,7 @@ module _ {s : List ℕ} {L d : ℕ} {c : Bool} where
             = p .4 ∙ rw (le-leb 2 (length (p .0)) (omega (arith, p .3 .count, spans-count (many false o (p .0))))) in
             record { value = many false o (p .0); rest = p .1; is = k; stands = p .2; holds = p .3 }
 
-        module _ {u : Bool} (comma : Has s n (raw (bytes ",")) u) where
+        module _ {u : Bool} (comma : There (raw (bytes ",")) s n u) where
           pub run-other : t ≡ false → u ≡ false
               → (o : Operator) → op ≡ numberOf o → (w : List ℕ) → Stands s from w → gather (read d c false) o w ≡ none
           run-other a b o e w st =

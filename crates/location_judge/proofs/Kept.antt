@@ -10,7 +10,8 @@ use Rattle.paper.specs.Bytes.{bytes, raw}
 use Rattle.paper.specs.Locations.{mark, after, range, site}
 use Rattle.paper.specs.Locations as paper
 use Rattle.paper.proofs.Locate.Model.{Got, then, num, lone, second, tail, plain, piece}
-use Rattle.location_judge.specs.Places.{Stands, Stretch, Has}
+use Rattle.read_bytes.specs.Words.{There}
+use Rattle.location_judge.specs.Places.{Stands, Stretch}
 use Rattle.location_judge.specs.Readings.{Reads, kept, Numbers, Keeps, pieceWithin, PieceSays, Pairs, Tails, Pieces}
 use Rattle.location_judge.specs.declared.pieces.Num.{Num}
 use Rattle.location_judge.specs.declared.pieces.Num.the-variants as num-is
@@ -80,7 +81,7 @@ module _ {s : List ℕ} {at x marks : ℕ} {less : Bool} where
             (p .says c (range less X more) (λ y. record { first = k; last = refl; marks = omega arith; odds = refl }) (z .0) (z .1));
       }
 
-  module _ {t u : Bool} (dots : Has s at (raw (bytes "..")) t) (a : t ≡ true) (sign : Has s (at + 2) (raw (bytes ">")) u) where
+  module _ {t u : Bool} (dots : There (raw (bytes "..")) s at t) (a : t ≡ true) (sign : There (raw (bytes ">")) s (at + 2) u) where
     pub tail-high : u ≡ true → (r : Found) → Pairs s (at + 2 + 4) x (marks + 4) false r → Tails s at x marks less r
     tail-high b =
         tail-range true (stretch-join (stretch-text (bytes "..") dots a) (stretch-text (bytes ">") sign b))
@@ -105,7 +106,7 @@ pub record Way (s : List ℕ) (at j : ℕ) (k : ℕ → List ℕ → Got paper.P
   pub goes : (w : List ℕ) → Stands s at w → (z : List ℕ) × Stands s j z × (piece w ≡ then (num z) k)
 
 -- a sign, and the number behind it
-way-sign : {s : List ℕ} {at : ℕ} {t : Bool} {k : ℕ → List ℕ → Got paper.Piece} (u : List ℕ) → Has s at (raw u) t → t ≡ true
+way-sign : {s : List ℕ} {at : ℕ} {t : Bool} {k : ℕ → List ℕ → Got paper.Piece} (u : List ℕ) → There (raw u) s at t → t ≡ true
     → ((z : List ℕ) → piece (u ++ z) ≡ then (num z) k) → Way s at (at + length (raw u)) k
 way-sign u sign e h =
     record {
@@ -113,11 +114,11 @@ way-sign u sign e h =
       goes = λ w st. let p = begun u sign st e in (p .0, p .2, ap piece (p .1) ∙ h (p .0));
     }
 
-module _ {s : List ℕ} {at : ℕ} {t : Bool} (high : Has s at (raw (bytes ">")) t) where
+module _ {s : List ℕ} {at : ℕ} {t : Bool} (high : There (raw (bytes ">")) s at t) where
   pub way-after : t ≡ true → Way s at (at + 4) (λ x r. some (after x, r))
   way-after e = way-sign (bytes ">") high e (λ z. refl)
 
-  module _ (e : t ≡ false) {u : Bool} (low : Has s at (raw (bytes "<")) u) where
+  module _ (e : t ≡ false) {u : Bool} (low : There (raw (bytes "<")) s at u) where
     pub way-before : u ≡ true → Way s at (at + 4) (tail true)
     way-before f = way-sign (bytes "<") low f (λ z. refl)
 
@@ -155,7 +156,7 @@ module _ {s : List ℕ} {at j n x base : ℕ} {c : Bool} (b : base ≡ mark c 1)
   pub piece-before : Way s at j (tail true) → (r : Found) → Tails s n x (base + 2) true r → Pieces s at c r
   piece-before way r p = piece-by way c r h (p .within) (λ X e. p .says c X e (omega arith))
 
-  module _ (way : Way s at j plain) {t : Bool} (caret : Has s n (raw (bytes "^")) t) where
+  module _ (way : Way s at j plain) {t : Bool} (caret : There (raw (bytes "^")) s n t) where
     pub piece-site : t ≡ true → (r : Found) → Pairs s (n + 1) x (base + 8) true r → Pieces s at c r
     piece-site e r p =
         piece-by way c r h (within-from (stretch-text (bytes "^") caret e) r (p .within))

@@ -14,7 +14,8 @@ use Rattle.paper.specs.Locations.{Piece, isWrong, Member, Operator, join, order
 use Rattle.paper.specs.Locations.{any, breaks25, Span, spanOf, memberSpan, spans}
 use Rattle.paper.proofs.Locate.Rest.{pieceRest, complementRest, memberRest, fittingRest, listRest, locationRest, locates-rest, same-piece, same-complement}
 use Rattle.paper.proofs.Locate.Pieces.{Follow, Low, piece-low}
-use Rattle.location_judge.specs.Places.{Stands, Has}
+use Rattle.read_bytes.specs.Words.{There}
+use Rattle.location_judge.specs.Places.{Stands}
 use Rattle.location_judge.specs.Readings.{Lists}
 use Rattle.location_spans.specs.Walking.{Written, Ahead, Behind, Starts}
 use Rattle.location_spans.specs.Walking as walking
@@ -120,7 +121,7 @@ low-list l order z e = low-letter l e (omega arith)
 
 -- ---- the starts
 
-module _ {s : List ℕ} {t : Bool} (word : Has s 0 (raw (bytes "complement(")) t) where
+module _ {s : List ℕ} {t : Bool} (word : There (raw (bytes "complement(")) s 0 t) where
   module _ (a : t ≡ true) where
     -- what stands in the complement
     within : {w z : List ℕ} → Stands s 0 w → w ≡ bytes "complement(" ++ z → Stands s 11 z

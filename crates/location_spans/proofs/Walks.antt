@@ -15,7 +15,8 @@ use Rattle.paper.specs.Locations.{Piece, pieceText, complement, isWrong, firstO
 use Rattle.paper.specs.Locations as paper
 use Rattle.paper.proofs.Locate.Rest.{pieceRest, complementRest, same-piece, same-complement}
 use Rattle.paper.proofs.Locate.Pieces.{Follow, Low, piece-low, piece-complete}
-use Rattle.location_judge.specs.Places.{Stands, Has}
+use Rattle.read_bytes.specs.Words.{There}
+use Rattle.location_judge.specs.Places.{Stands}
 use Rattle.location_judge.specs.Readings.{Keeps, Pieces, wrongOf}
 use Rattle.location_spans.specs.Walking.{Written, Ends, Ahead, Behind, Left, stepsLeft, stepWithin, Yields, Steps, spanIs}
 use Rattle.location_spans.specs.Walking as walking
@@ -53,7 +54,7 @@ rest-of c p u z x = same-complement c (same-piece p) .leaves 0 (u, refl, x)
 pub low-letter : {w : List ℕ} → Low w → {a : ℕ} {v : List ℕ} → w ≡ a ∷ v → 63 ≤ a → ⊥
 low-letter l e h = omega (arith, l .3, ap (λ (x : List ℕ). getD x 0 0) (sym (l .2) ∙ e))
 
-module _ {s : List ℕ} {at : ℕ} {t : Bool} (word : Has s at (raw (bytes "complement(")) t) where
+module _ {s : List ℕ} {at : ℕ} {t : Bool} (word : There (raw (bytes "complement(")) s at t) where
   pub member-plain : t ≡ false → (r : Found) → Pieces s at false r → Members s at r
   member-plain e r h = record { within = h .within; says = says }
     where
@@ -79,7 +80,7 @@ module _ {s : List ℕ} {at : ℕ} {t : Bool} (word : Has s at (raw (bytes "comp
     pub member-no : Pieces s (at + 11) true found-is.No → Members s at found-is.No
     member-no h = record { within = tt; says = λ c p u z x st f. inside found-is.No h c p u z x st .1 }
 
-    module _ {n : ℕ} {a : Reach} {odd u : Bool} (h : Pieces s (at + 11) true (found-is.At n a odd)) (bracket : Has s n (raw (bytes ")")) u) where
+    module _ {n : ℕ} {a : Reach} {odd u : Bool} (h : Pieces s (at + 11) true (found-is.At n a odd)) (bracket : There (raw (bytes ")")) s n u) where
       pub member-open : u ≡ false → Members s at found-is.No
       member-open b =
           record {
@@ -157,7 +158,7 @@ module _ {s : List ℕ} {L at : ℕ} where
       go (walking.Ahead.last {c} {p} {z = z} w e) = h .says c p (w .text) z (w .is) (w .from) (w .follow)
       go (walking.Ahead.more {c} {p} {z = z} w x) = h .says c p (w .text) (code "," ∷ z) (w .is) (w .from) (w .follow)
 
-  module _ (fits : L < 4294967296) {n : ℕ} {a : Reach} {odd t : Bool} (h : Members s at (found-is.At n a odd)) (comma : Has s n (raw (bytes ",")) t) where
+  module _ (fits : L < 4294967296) {n : ℕ} {a : Reach} {odd t : Bool} (h : Members s at (found-is.At n a odd)) (comma : There (raw (bytes ",")) s n t) where
     pub ahead-next : t ≡ true → (r : Next) → Gives L a (walk.Ahead (n + 1)) r → Steps s L (walk.Ahead at) r
     ahead-next b r g =
         let i = h .within in

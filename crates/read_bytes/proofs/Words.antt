@@ -40,11 +40,15 @@ module _ {x s : List ℕ} {at : ℕ} where
   stands-alike h k l =
       sym (getD-drop at s k 0) ∙ ap (λ (t : List ℕ). getD t k 0) (h .here) ∙ List·getD-append x (drop (at + length x) s) 0 k l
 
-  -- a word that isn't empty stands where the text goes on with it
-  pub stands-long : 0 < length x → (y : List ℕ) → drop at s ≡ x ++ y → StandsAt x s at
-  stands-long h y e =
+  -- a word stands where the text goes on with it
+  pub stands-here : at ≤ length s → (y : List ℕ) → drop at s ≡ x ++ y → StandsAt x s at
+  stands-here h y e =
       let rest : drop (at + length x) s ≡ y = sym (drop-drop (length x) at s) ∙ ap (drop (length x)) e ∙ drop-append-seam x y in
       record { inside = omega (arith, h, ap length e, length-append x y, length-drop at s); here = e ∙ ap (λ (z : List ℕ). x ++ z) (sym rest) }
+
+  -- no text goes on past its end with a word that isn't empty
+  pub stands-long : 0 < length x → (y : List ℕ) → drop at s ≡ x ++ y → StandsAt x s at
+  stands-long h y e = stands-here (omega (arith, h, ap length e, length-append x y, length-drop at s)) y e
 
   -- ---- what a test says
 

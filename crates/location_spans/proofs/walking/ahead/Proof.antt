@@ -19,11 +19,14 @@ returns c = ahead-no (members-are (c .before .before .member .ensures) (c .enum-
 enum-known-n : tie.Need-enum-known-n
 enum-known-n c = search needs
 
-byte-is-requires : tie.Need-byte-is-requires
-byte-is-requires c κs = search needs
+slice-aggregate-begins : tie.Need-slice-aggregate-begins
+slice-aggregate-begins c = search needs
+
+begins-requires : tie.Need-begins-requires
+begins-requires c κs = search needs
 
 add-t8 : tie.Need-add-t8
-add-t8 c = omega (arith, room (bytes ",") (c .before .byte-is .ensures) (c .if1 .taken))
+add-t8 c = omega (arith, room (bytes ",") (c .before .begins .ensures) (c .if1 .taken))
 
 give-requires : tie.Need-give-requires
 give-requires c κs = search needs
@@ -34,7 +37,7 @@ returns-2 c =
     let member = c .before .before .before .before .before .before .member in
     ahead-next (fits .top .fits)
     (members-are (member .ensures) (c .before .before .before .before .n .given .1))
-    (c .before .before .byte-is .ensures) (c .before .if1 .taken) (c .give .result) (c .give .ensures)
+    (c .before .before .begins .ensures) (c .before .if1 .taken) (c .give .result) (c .give .ensures)
 
 give-requires-2 : tie.Need-give-requires-2
 give-requires-2 c κs = search needs
@@ -45,7 +48,7 @@ returns-3 c =
     let member = c .before .before .before .before .before .before .member in
     ahead-last (fits .top .fits)
     (members-are (member .ensures) (c .before .before .before .before .n .given .1))
-    (c .before .before .byte-is .ensures) (c .before .if1 .left) (c .give2 .result) (c .give2 .ensures)
+    (c .before .before .begins .ensures) (c .before .if1 .left) (c .give2 .result) (c .give2 .ensures)
 
 pub ahead-spec : {M : Type 1} → statement M
 ahead-spec =
@@ -55,7 +58,8 @@ ahead-spec =
     enum-told
     returns
     enum-known-n
-    byte-is-requires
+    slice-aggregate-begins
+    begins-requires
     add-t8
     give-requires
     returns-2

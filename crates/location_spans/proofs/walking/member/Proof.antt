@@ -28,11 +28,14 @@ returns c =
 enum-known-n : tie.Need-enum-known-n
 enum-known-n c = search needs
 
-byte-is-requires : tie.Need-byte-is-requires
-byte-is-requires c κs = search needs
+slice-aggregate-begins : tie.Need-slice-aggregate-begins
+slice-aggregate-begins c = search needs
+
+begins-requires : tie.Need-begins-requires
+begins-requires c κs = search needs
 
 add-t10 : tie.Need-add-t10
-add-t10 c = omega (arith, room (bytes ")") (c .before .byte-is .ensures) (c .if2 .taken))
+add-t10 c = omega (arith, room (bytes ")") (c .before .begins .ensures) (c .if2 .taken))
 
 returns-2 : tie.Need-returns-2
 returns-2 c =
@@ -41,7 +44,7 @@ returns-2 c =
     let piece = c .before .before .before .before .before .piece in
     member-closed (complement-at .ensures)
     (if1 .taken)
-    (pieces-are (piece .ensures) (c .before .before .before .n .given .1)) (c .before .byte-is .ensures)
+    (pieces-are (piece .ensures) (c .before .before .before .n .given .1)) (c .before .begins .ensures)
     (c .if2 .taken)
 
 returns-3 : tie.Need-returns-3
@@ -51,7 +54,7 @@ returns-3 c =
     let piece = c .before .before .before .before .before .piece in
     member-open (complement-at .ensures)
     (if1 .taken)
-    (pieces-are (piece .ensures) (c .before .before .before .n .given .1)) (c .before .byte-is .ensures)
+    (pieces-are (piece .ensures) (c .before .before .before .n .given .1)) (c .before .begins .ensures)
     (c .if2 .left)
 
 piece-requires-2 : tie.Need-piece-requires-2
@@ -70,7 +73,8 @@ member-spec =
     enum-told
     returns
     enum-known-n
-    byte-is-requires
+    slice-aggregate-begins
+    begins-requires
     add-t10
     returns-2
     returns-3
