@@ -11,10 +11,11 @@ use lib.ListN.{getD}
 use borrow.Author.Tests.{eqb-true}
 use Rattle.paper.proofs.Tables.{listed, each-same}
 use Rattle.paper.specs.Translation.{Code}
-use Rattle.protein_code.specs.Stops.{flag, letterHere}
+use Rattle.read_bytes.specs.Numbers.{flag}
+use Rattle.read_bytes.proofs.Numbers.{or-flags, flag-none}
+use Rattle.protein_code.specs.Stops.{letterHere}
 use Rattle.protein_code.specs.Plain.{base, Plain, plainNumber}
 use Rattle.protein_code.specs.Tables.{plainFrom}
-use Rattle.protein_code.proofs.Stopping.{or-flags, flag-none}
 
 -- ---- one of four letters
 

@@ -9,11 +9,10 @@ use read_bytes::two;
 use std::num::wrapping_add_u8;
 ghost use mathlib.Core.Path.{_≡_};
 ghost use mathlib.Core.Bool.{false};
-ghost use Prim.Native.Nat.{_+_, _*_, _<_};
-ghost use lib.Dec.{eqb};
+ghost use Prim.Native.Nat.{_+_, _<_};
 ghost use lib.ListN.{getD};
 ghost use Rattle.paper.specs.Translation.{code1, codonLetter};
-ghost use Rattle.protein_code.specs.Stops.{flag, hasSum, isStop, letterHere};
+ghost use Rattle.protein_code.specs.Stops.{hasSum, isStop, letterHere};
 ghost use Rattle.protein_code.specs.Plain.{Plain, plainNumber};
 ghost use Rattle.protein_code.specs.Tables.{setsLetter, onStrand, SetAt, plainFrom, CodeTable, Coded, codeOf};
 

@@ -4,7 +4,7 @@
 use read_bytes::equal;
 ghost use Prim.Native.Nat.{_+_, _≤_};
 ghost use lib.ListN.{length};
-ghost use Rattle.value_residues.specs.Residues.{Characters, SymbolTable, Symbols, Differs, Strange, Block, Foreign, HasDefined};
+ghost use Rattle.value_residues.specs.Residues.{Characters, SymbolTable, Symbols, Strange, Block, Foreign, HasDefined};
 
 // The class of each byte, sixteen to a line: 1 for the symbols of DNA and RNA, 2 for those of AA, 0 for neither.
 const SYMBOLS: [u8; 256] = *b"\

@@ -25,18 +25,18 @@ slice-aggregate-begins c = search needs
 begins-requires : tie.Need-begins-requires
 begins-requires c κs = search needs
 
-add-t8 : tie.Need-add-t8
-add-t8 c = omega (arith, room (bytes ",") (c .before .begins .ensures) (c .if1 .taken))
+add-t11 : tie.Need-add-t11
+add-t11 c = omega (arith, room (bytes ",") (c .before .begins .ensures) (c .if1 .taken))
 
 give-requires : tie.Need-give-requires
 give-requires c κs = search needs
 
 returns-2 : tie.Need-returns-2
 returns-2 c =
-    let fits = c .before .before .before .before .before .before .before .before .fits in
-    let member = c .before .before .before .before .before .before .member in
+    let fits = c .before .before .before .before .before .before .before .before .before .fits in
+    let member = c .before .before .before .before .before .before .before .member in
     ahead-next (fits .top .fits)
-    (members-are (member .ensures) (c .before .before .before .before .n .given .1))
+    (members-are (member .ensures) (c .before .before .before .before .before .n .given .1))
     (c .before .before .begins .ensures) (c .before .if1 .taken) (c .give .result) (c .give .ensures)
 
 give-requires-2 : tie.Need-give-requires-2
@@ -44,10 +44,10 @@ give-requires-2 c κs = search needs
 
 returns-3 : tie.Need-returns-3
 returns-3 c =
-    let fits = c .before .before .before .before .before .before .before .before .fits in
-    let member = c .before .before .before .before .before .before .member in
+    let fits = c .before .before .before .before .before .before .before .before .before .fits in
+    let member = c .before .before .before .before .before .before .before .member in
     ahead-last (fits .top .fits)
-    (members-are (member .ensures) (c .before .before .before .before .n .given .1))
+    (members-are (member .ensures) (c .before .before .before .before .before .n .given .1))
     (c .before .before .begins .ensures) (c .before .if1 .left) (c .give2 .result) (c .give2 .ensures)
 
 pub ahead-spec : {M : Type 1} → statement M
@@ -60,7 +60,7 @@ ahead-spec =
     enum-known-n
     slice-aggregate-begins
     begins-requires
-    add-t8
+    add-t11
     give-requires
     returns-2
     give-requires-2

@@ -34,27 +34,27 @@ slice-aggregate-begins c = search needs
 begins-requires : tie.Need-begins-requires
 begins-requires c κs = search needs
 
-add-t10 : tie.Need-add-t10
-add-t10 c = omega (arith, room (bytes ")") (c .before .begins .ensures) (c .if2 .taken))
+add-t13 : tie.Need-add-t13
+add-t13 c = omega (arith, room (bytes ")") (c .before .begins .ensures) (c .if2 .taken))
 
 returns-2 : tie.Need-returns-2
 returns-2 c =
-    let complement-at = c .before .before .before .before .before .before .before .complement-at in
-    let if1 = c .before .before .before .before .before .before .if1 in
-    let piece = c .before .before .before .before .before .piece in
+    let complement-at = c .before .before .before .before .before .before .before .before .complement-at in
+    let if1 = c .before .before .before .before .before .before .before .if1 in
+    let piece = c .before .before .before .before .before .before .piece in
     member-closed (complement-at .ensures)
     (if1 .taken)
-    (pieces-are (piece .ensures) (c .before .before .before .n .given .1)) (c .before .begins .ensures)
+    (pieces-are (piece .ensures) (c .before .before .before .before .n .given .1)) (c .before .begins .ensures)
     (c .if2 .taken)
 
 returns-3 : tie.Need-returns-3
 returns-3 c =
-    let complement-at = c .before .before .before .before .before .before .before .complement-at in
-    let if1 = c .before .before .before .before .before .before .if1 in
-    let piece = c .before .before .before .before .before .piece in
+    let complement-at = c .before .before .before .before .before .before .before .before .complement-at in
+    let if1 = c .before .before .before .before .before .before .before .if1 in
+    let piece = c .before .before .before .before .before .before .piece in
     member-open (complement-at .ensures)
     (if1 .taken)
-    (pieces-are (piece .ensures) (c .before .before .before .n .given .1)) (c .before .begins .ensures)
+    (pieces-are (piece .ensures) (c .before .before .before .before .n .given .1)) (c .before .begins .ensures)
     (c .if2 .left)
 
 piece-requires-2 : tie.Need-piece-requires-2
@@ -75,7 +75,7 @@ member-spec =
     enum-known-n
     slice-aggregate-begins
     begins-requires
-    add-t10
+    add-t13
     returns-2
     returns-3
     piece-requires-2
