@@ -11,10 +11,24 @@ use borrow.Author.Tests.{eq-eqb}
 use Rattle.paper.specs.Translation.{Code, complementOf, codonLetter}
 use Rattle.paper.proofs.Tables.{listed, each-same}
 use Rattle.read_bytes.specs.Numbers.{flag}
-use Rattle.read_bytes.proofs.Numbers.{and-flags, or-flags, flag-none}
+use Rattle.read_bytes.proofs.Numbers.{flag-none}
 use Rattle.protein_code.specs.Tables.{setsLetter, answerAt, stopsFrom}
 use Rattle.protein_code.specs.Stops.{isStop, letterHere, hasSum, isTold}
 use Rattle.protein_code.proofs.Sets.{setOf, letterOf, set-small, set-bases, set-letter, turned-small, turned-twice}
+
+-- ---- tests as numbers
+
+and-flags : (p q : Bool) → bitAnd (flag p) (flag q) ≡ flag (p && q)
+and-flags true true = refl
+and-flags true false = refl
+and-flags false true = refl
+and-flags false false = refl
+
+or-flags : (p q : Bool) → bitOr (flag p) (flag q) ≡ flag (p || q)
+or-flags true true = refl
+or-flags true false = refl
+or-flags false true = refl
+or-flags false false = refl
 
 -- of a test and of three joined, as numbers
 module _ (p u v w : Bool) where

@@ -3,19 +3,19 @@ use Prim.Native.Nat.{ℕ, _+_, _≤_, _<_}
 use native.Mathlib.Decide.{decLe}
 use native.Mathlib.Omega.{arith}
 use mathlib.Core.Path.{_≡_, refl, sym, ap, _∙_, subst}
-use mathlib.Core.Bool.{Bool, true, false, true≢false, _||_}
+use mathlib.Core.Bool.{true, false, true≢false}
 use mathlib.Core.List.{List}
 use lib.ListN.{length, getD}
 use lib.Dec.{eqb}
 use lib.Bits.{bitOr}
-use borrow.Author.Tests.{le-leb, eq-eqb, ne-eqb, eqb-true}
-use Rattle.paper.specs.Bytes.{all, raw}
+use borrow.Author.Tests.{le-leb, eq-eqb, ne-eqb}
+use Rattle.paper.specs.Bytes.{bytes, all, raw}
 use Rattle.paper.specs.Rules.{dna, rna, aa, isSymbol}
 use Rattle.paper.specs.Rules as Rules
 use Rattle.paper.proofs.Tables.{Test, at-each}
 use Rattle.paper.proofs.Texts.{raw-once}
 use Rattle.read_bytes.specs.Numbers.{flag}
-use Rattle.read_bytes.proofs.Numbers.{or-flags, flag-none}
+use Rattle.read_bytes.proofs.Numbers.{one-of}
 use Rattle.value_words.proofs.Read.{raw-symbols}
 use Rattle.value_words.proofs.Tests.{all-at, at-all}
 use Rattle.value_residues.specs.Residues.{symbolClass, SymbolTable, OfClass, Strange, Between, Foreign, FirstForeign, Symbols}
@@ -32,36 +32,20 @@ symbols-right t low high = record { at-byte = at-byte }
 
 -- ---- the walk
 
--- most residues are a base or `n`: where one of these tests is 1
-module _ (b : ℕ) where
-  base-of : (p q r s u : Bool) → eqb b 97 ≡ p → eqb b 99 ≡ q → eqb b 103 ≡ r → eqb b 116 ≡ s → eqb b 110 ≡ u
-      → eqb (flag (p || q || r || s || u)) 0 ≡ false → isSymbol dna b ≡ true
-  base-of true q r s u e f g h k z = ap (isSymbol dna) (eqb-true b 97 e)
-  base-of false true r s u e f g h k z = ap (isSymbol dna) (eqb-true b 99 f)
-  base-of false false true s u e f g h k z = ap (isSymbol dna) (eqb-true b 103 g)
-  base-of false false false true u e f g h k z = ap (isSymbol dna) (eqb-true b 116 h)
-  base-of false false false false true e f g h k z = ap (isSymbol dna) (eqb-true b 110 k)
-  base-of false false false false false e f g h k z = absurd (true≢false z)
+-- most residues are a base or `n`
+pub base-among : (b : ℕ) {p q r s u n : ℕ} → p ≡ flag (eqb b 97) → q ≡ flag (eqb b 99) → r ≡ flag (eqb b 103) → s ≡ flag (eqb b 116)
+    → u ≡ flag (eqb b 110) → n ≡ flag (eqb (bitOr (bitOr (bitOr (bitOr p q) r) s) u) 0) → Strange b 1 n
+base-among b {n = n} e f g h k is = record { none = λ z. of-base (is-base z) }
+  where
+    is-base : n ≡ 0 → isSymbol dna b ≡ true
+    is-base z =
+        let o = one-of b (bytes "acgtn") (rw (e, f, g, h, k) at is) z in
+        ap (isSymbol dna) (o .2) ∙ all-at (isSymbol dna) (bytes "acgtn") (o .0) (o .1) (refl, (refl, (refl, (refl, (refl, tt)))))
 
-  pub base-among : (p q r s u : ℕ) {n : ℕ} → p ≡ flag (eqb b 97) → q ≡ flag (eqb b 99) → r ≡ flag (eqb b 103) → s ≡ flag (eqb b 116)
-      → u ≡ flag (eqb b 110) → n ≡ flag (eqb (bitOr (bitOr (bitOr (bitOr p q) r) s) u) 0) → Strange b 1 n
-  base-among p q r s u {n} e f g h k is = record { none = λ o c. of-base (base o) c }
-    where
-      of-base : isSymbol dna b ≡ true → OfClass 1 b
-      of-base y dna c = y
-      of-base y rna c = y
-      of-base y aa c = absurd (omega (arith, c))
-
-      base : n ≡ 0 → isSymbol dna b ≡ true
-      base o =
-          let A = eqb b 97 in
-          let C = eqb b 99 in
-          let G = eqb b 103 in
-          let T = eqb b 116 in
-          let N = eqb b 110 in
-          let all : bitOr (bitOr (bitOr (bitOr p q) r) s) u ≡ flag (A || C || G || T || N)
-          = rw (e, f, g, h, k, or-flags A C, or-flags (A || C) G, or-flags (A || C || G) T) (or-flags (A || C || G || T) N) in
-          base-of A C G T N refl refl refl refl refl (rw (← all) (flag-none _ (sym is ∙ o)))
+    of-base : isSymbol dna b ≡ true → OfClass 1 b
+    of-base y dna c = y
+    of-base y rna c = y
+    of-base y aa c = absurd (omega (arith, c))
 
 pub amino-among : {b : ℕ} → 65 ≤ b → b ≤ 90 → OfClass 2 b
 amino-among l h dna k = absurd (omega (arith, k))

@@ -26,7 +26,7 @@ returns : tie.Need-returns
 returns c =
     let args = c .before .before .before .before .before .before .args in
     let equal = c .before .before .before .before .before .equal in
-    base-among (args .b) _ _ _ _ _ (equal .ensures) (c .before .before .before .before .equal2 .ensures)
+    base-among (args .b) (equal .ensures) (c .before .before .before .before .equal2 .ensures)
     (c .before .before .before .equal3 .ensures) (c .before .before .equal4 .ensures) (c .before .equal5 .ensures) (c .equal6 .ensures)
 
 pub no-base-spec : {M : Type 1} → statement M
