@@ -10,7 +10,7 @@ use lib.Seq.{take-all, take-at, take-append-le, take-append-add, take-suc-set, l
 use Rattle.paper.specs.Bytes.{bytes}
 use Rattle.paper.specs.Tree.{Sequence, Feature}
 use Rattle.paper.specs.Answers.{Outcome, Translates, Lines, Lent, front}
-use Rattle.walk_steps.specs.Stands.{There}
+use Rattle.read_bytes.specs.Words.{There}
 use Rattle.walk_items.specs.Items.{IsFeature, FindsFeature}
 use Rattle.walk_items.specs.declared.FoundFeature.{FoundFeature}
 use Rattle.judge_faults.specs.Known.{Knows}
