@@ -11,7 +11,7 @@ use Rattle.paper.specs.Locations.{mark, after, range, site}
 use Rattle.paper.specs.Locations as paper
 use Rattle.paper.proofs.Locate.Model.{Got, then, num, lone, second, tail, plain, piece}
 use Rattle.read_bytes.specs.Words.{There}
-use Rattle.location_judge.specs.Places.{Stands, Stretch}
+use Rattle.location_judge.specs.Places.{RestIs, Stretch}
 use Rattle.location_judge.specs.Readings.{Reads, kept, Numbers, Keeps, pieceWithin, PieceSays, Pairs, Tails, Pieces}
 use Rattle.location_judge.specs.declared.pieces.Num.{Num}
 use Rattle.location_judge.specs.declared.pieces.Num.the-variants as num-is
@@ -59,7 +59,7 @@ keeps-lone c true X marks k m = record { first = k; last = k; marks = m; odds = 
 keeps-lone c false X marks k m = record { first = k; last = k; marks = m; odds = refl }
 
 module _ {s : List ℕ} {at x marks : ℕ} {less : Bool} where
-  pub tail-lone : 1 ≤ x → at ≤ length s → ((w : List ℕ) → Stands s at w → Lacks (bytes "..") w)
+  pub tail-lone : 1 ≤ x → at ≤ length s → ((w : List ℕ) → RestIs s at w → Lacks (bytes "..") w)
       → Tails s at x marks less (found-is.At at (record { first = x; last = x; marks = marks }) less)
   tail-lone low inside h =
       record {
@@ -70,7 +70,7 @@ module _ {s : List ℕ} {at x marks : ℕ} {less : Bool} where
 
   -- `..`, a sign or none, and the second number, at j
   tail-range : {j : ℕ} (more : Bool) → Stretch s at j
-      → ((w : List ℕ) → Stands s at w → (z : List ℕ) × Stands s j z × ((X : ℕ) → tail less X w ≡ then (num z) (λ y r. some (range less X more y, r))))
+      → ((w : List ℕ) → RestIs s at w → (z : List ℕ) × RestIs s j z × ((X : ℕ) → tail less X w ≡ then (num z) (λ y r. some (range less X more y, r))))
       → (r : Found) → Pairs s j x (marks + mark more 4) false r → Tails s at x marks less r
   tail-range more l h r p =
       record {
@@ -103,7 +103,7 @@ module _ {s : List ℕ} {at x marks : ℕ} {less : Bool} where
 -- a segment or site at `at` is what k makes of the number at j
 pub record Way (s : List ℕ) (at j : ℕ) (k : ℕ → List ℕ → Got paper.Piece) : Type 0 where
   pub passes : (n : ℕ) → Stretch s j n → Stretch s at n
-  pub goes : (w : List ℕ) → Stands s at w → (z : List ℕ) × Stands s j z × (piece w ≡ then (num z) k)
+  pub goes : (w : List ℕ) → RestIs s at w → (z : List ℕ) × RestIs s j z × (piece w ≡ then (num z) k)
 
 -- a sign, and the number behind it
 way-sign : {s : List ℕ} {at : ℕ} {t : Bool} {k : ℕ → List ℕ → Got paper.Piece} (u : List ℕ) → There (raw u) s at t → t ≡ true
@@ -135,7 +135,7 @@ module _ {s : List ℕ} {at j : ℕ} {k : ℕ → List ℕ → Got paper.Piece} 
       }
 
   pub piece-by : {n x : ℕ} (r : Found) → Numbers s j (num-is.At n x) → pieceWithin s n r
-      → ((X : ℕ) → x ≡ kept X → (w : List ℕ) → Stands s n w → PieceSays s c (k X w) r) → Pieces s at c r
+      → ((X : ℕ) → x ≡ kept X → (w : List ℕ) → RestIs s n w → PieceSays s c (k X w) r) → Pieces s at c r
   piece-by {n} r h i f =
       record {
         within = within-from (way .passes n (h .within .0)) r i;

@@ -12,7 +12,7 @@ use Rattle.paper.specs.Locations.{Piece, isSegment, isOdd, isWrong, Member, Ope
 use Rattle.paper.specs.Locations.{spans, membersOf, operatorNumber}
 use Rattle.paper.proofs.Locate.Model.{Got, then, uncomplemented, turn, leaf, close, gather, within, read}
 use Rattle.read_bytes.specs.Words.{There}
-use Rattle.location_judge.specs.Places.{Stands, Stretch}
+use Rattle.location_judge.specs.Places.{RestIs, Stretch}
 use Rattle.location_judge.specs.Judging.{AreFacts}
 use Rattle.location_judge.specs.Readings.{Keeps, Pieces, wrongOf, outWithin, OutSays, Outs, numberOf, Lists}
 use Rattle.location_judge.specs.declared.pieces.Reach.{Reach}
@@ -104,7 +104,7 @@ module _ {s : List ℕ} {at : ℕ} {t : Bool} (is-join : There (raw (bytes "join
     pub list-no : u ≡ false → Lists s at list-is.No
     list-no f = record { within = tt; says = λ w st. lacks w st }
       where
-        lacks : (w : List ℕ) → Stands s at w → (o : Operator) → Lacks (bytes (operatorName o)) w
+        lacks : (w : List ℕ) → RestIs s at w → (o : Operator) → Lacks (bytes (operatorName o)) w
         lacks w st join = not-begun (bytes "join(") is-join st e
         lacks w st order = not-begun (bytes "order(") is-order st f
 
@@ -153,7 +153,7 @@ module _ {s : List ℕ} {at top : ℕ} {c l : Bool} {fc fl : List ℕ → Got Lo
       }
 
   -- what is read inside, and `)`
-  comp-by : c ≡ true → (r : Out) → outWithin s at r → ((z : List ℕ) → Stands s (at + 11) z → OutSays s top (then (fc z) close) r)
+  comp-by : c ≡ true → (r : Out) → outWithin s at r → ((z : List ℕ) → RestIs s (at + 11) z → OutSays s top (then (fc z) close) r)
       → Outs s at top (within fc fl c l) r
   comp-by k r i f =
       record {
@@ -200,7 +200,7 @@ module _ {s : List ℕ} {at top : ℕ} {c l : Bool} {fc fl : List ℕ → Got Lo
 
 module _ {s : List ℕ} {at top : ℕ} {c l : Bool} {fc fl : List ℕ → Got Location} {op from : ℕ} (h : Lists s at (list-is.At op from)) where
   pub list-by : l ≡ true → (r : Out) → outWithin s at r
-      → ((o : Operator) → op ≡ numberOf o → (z : List ℕ) → Stands s from z → OutSays s top (gather fl o z) r) → Outs s at top (within fc fl c l) r
+      → ((o : Operator) → op ≡ numberOf o → (z : List ℕ) → RestIs s from z → OutSays s top (gather fl o z) r) → Outs s at top (within fc fl c l) r
   list-by k r i f =
       record {
         within = i;

@@ -11,7 +11,7 @@ use Rattle.paper.specs.Bytes.{spell, raw}
 use Rattle.paper.proofs.Texts.{unspell, unspell-spell, spell-some, raw-append}
 use Rattle.read_bytes.specs.Words.{There}
 use Rattle.read_bytes.proofs.Words.{stands-here}
-use Rattle.location_judge.specs.Places.{Stands, Stretch}
+use Rattle.location_judge.specs.Places.{RestIs, Stretch}
 
 -- a text whose bytes start with those of u starts with u
 raw-strip : (u w y : List ℕ) → raw w ≡ raw u ++ y → (z : List ℕ) × (w ≡ u ++ z) × (raw z ≡ y)
@@ -25,7 +25,7 @@ raw-strip (b ∷ u) (c ∷ w) y e =
 
 -- the text w starts with u, and what follows stands at n
 abbrev pub After : List ℕ → List ℕ → List ℕ → ℕ → Type 0
-After s u w n = (z : List ℕ) × (w ≡ u ++ z) × Stands s n z
+After s u w n = (z : List ℕ) × (w ≡ u ++ z) × RestIs s n z
 
 -- no text u stands at the start of w
 abbrev pub Lacks : List ℕ → List ℕ → Type 0
@@ -36,7 +36,7 @@ module _ (u : List ℕ) {s : List ℕ} {at : ℕ} {t : Bool} (h : There (raw u) 
   pub room : t ≡ true → at + length (raw u) ≤ length s
   room e = h .yes e .inside
 
-  module _ {w : List ℕ} (st : Stands s at w) where
+  module _ {w : List ℕ} (st : RestIs s at w) where
     pub begun : t ≡ true → After s u w (at + length (raw u))
     begun e =
         let p = raw-strip u w (drop (at + length (raw u)) s) (sym (st .is) ∙ h .yes e .here) in
@@ -65,7 +65,7 @@ stretch-join {s} {k = k} a b =
     }
 
 -- what stands behind a text
-pub behind-text : {s : List ℕ} {at : ℕ} (u z : List ℕ) → Stands s at (u ++ z) → Stands s (at + length (raw u)) z
+pub behind-text : {s : List ℕ} {at : ℕ} (u z : List ℕ) → RestIs s at (u ++ z) → RestIs s (at + length (raw u)) z
 behind-text {s} {at} u z st =
     let e = st .is ∙ raw-append u z in
     record {
@@ -74,7 +74,7 @@ behind-text {s} {at} u z st =
     }
 
 -- nothing stands at the end
-pub at-end : {s : List ℕ} {at : ℕ} (w : List ℕ) → Stands s at w → length s ≤ at → w ≡ []
+pub at-end : {s : List ℕ} {at : ℕ} (w : List ℕ) → RestIs s at w → length s ≤ at → w ≡ []
 at-end [] st h = refl
 at-end {s} (b ∷ w) st h = absurd (spell-some b (raw w) (sym (st .is) ∙ drop-of-length-le s h))
 

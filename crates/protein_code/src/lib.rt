@@ -1,7 +1,7 @@
 // Genetic codes: from three residues of a sequence to the letter of a protein, on either strand; and for speed from three plain bases to
 // it at once, with tests of stops and of plain bases. All of a code that is looked up is one lent table (tables.rt), with one promise. It
-// relies on the paper. A constant array is stored anew wherever it is named, so a table is named once, in the function that hands it out;
-// a public call takes it there and lends it on.
+// relies on the paper and on read_bytes. A constant array is stored anew wherever it is named, so a table is named once, in the function
+// that hands it out; a public call takes it there and lends it on.
 mod tables;
 
 use read_bytes::equal;

@@ -1,5 +1,5 @@
 // Reading bytes: words, blanks, texts and the end, each as a step from one place to the next; and the bytes of a part.
-// Relies on the definitions of the crate paper (forms and layout). Knows no tag.
+// Relies on the definitions of the crate paper (forms and layout) and on read_bytes. Knows no tag.
 use read_bytes::equal;
 use read_bytes::two;
 ghost use mathlib.Core.Path.{_≡_};
@@ -108,7 +108,8 @@ fn eight(s: &[u8], at: usize) -> u64
         + 281_474_976_710_656 * two(s[at + 6], s[at + 7])
 }
 
-// Whether the word x stands here, eight bytes at a time, for a word of eight bytes or more, and else a quick no. The last eight may overlap.
+// Whether the word x stands here, eight bytes at a time: only a yes says so, and a word of less than eight bytes gets a quick no. The last
+// eight may overlap.
 pub fn stands(s: &[u8], at: usize, x: &[u8]) -> bool
     ensures { λ r. ⌜ (r ≡ true → StandsAt (now (x .entry)) (now (s .entry)) at) ⌝ }
 {

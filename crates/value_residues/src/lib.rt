@@ -1,6 +1,6 @@
 // The residues of a sequence: how many characters they are, the first that is no symbol of its kind, and whether enough of them are
-// defined. Relies on the paper, and on the laws of value_words: what a test tells, and what is written as it reads. It calls none of its
-// functions.
+// defined. Relies on the paper, on read_bytes, and on the laws of value_words: what a test tells, and what is written as it reads. It
+// calls none of the functions of value_words.
 use read_bytes::equal;
 ghost use Prim.Native.Nat.{_+_, _≤_};
 ghost use lib.ListN.{length};

@@ -1,10 +1,10 @@
 -- A loop over items: what is left of the list stands at the place that the loop has reached.
 use Prim.Native.Nat.{ℕ, _≤_, _<_}
 use native.Mathlib.Omega.{arith}
-use mathlib.Core.Path.{_≡_, refl, sym, ap, _∙_, subst}
+use mathlib.Core.Path.{_≡_, refl, sym, ap, _∙_}
 use mathlib.Core.Bool.{Bool, true, false}
 use mathlib.Core.List.{List, [], _∷_, _++_}
-use lib.ListN.{length, drop, length-drop}
+use lib.ListN.{length, drop}
 use Rattle.paper.specs.Bytes.{isBlank}
 use Rattle.paper.specs.Form.{Form, each}
 use Rattle.read_bytes.specs.Words.{There}

@@ -1,7 +1,7 @@
 // A walk along a listing that is known to be laid out, by steps that know no element by name: a tag, a text, a leaf, an attribute, the
 // children of an element. Each says where its text stands, and what comes next. What is known to stand is passed by its length and not
-// compared again. A promise speaks of whatever stands at the place; of other bytes it says nothing. Relies on the paper, and in its
-// proofs on the laws of read_steps and read_tags of what may follow what.
+// compared again. A promise speaks of whatever stands at the place; of other bytes it says nothing. Relies on the paper, on
+// read_bytes, read_steps and read_tags for what it compares or passes, and in its proofs on their laws of what may follow what.
 use read_steps::Step;
 ghost use mathlib.Core.Path.{_≡_};
 ghost use Prim.Native.Nat.{_+_, _≤_};
