@@ -13,7 +13,7 @@ use Rattle.lent_room.specs.Room.{Lays, Puts}
 use Rattle.lent_room.specs.declared.Pass.the-variants.{Write}
 use Rattle.lent_room.proofs.Laws.{sets-front, puts-none, puts-next, puts-lent, lent, back, length-lent, length-back}
 use Rattle.lent_room.proofs.Passes.{lays-kept, lays-written, lays-within}
-use Rattle.walk_steps.specs.Stands.{There}
+use Rattle.read_bytes.specs.Words.{There}
 use Rattle.walk_items.specs.Items.{IsFeature, FindsFeature}
 use Rattle.walk_items.specs.declared.FoundFeature.{FoundFeature}
 use Rattle.judge_faults.specs.Known.{Knows}

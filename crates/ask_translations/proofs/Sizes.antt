@@ -10,8 +10,8 @@ use Rattle.paper.specs.Tree.{Sequence, Feature}
 use Rattle.paper.specs.Translation.{Code, code1, dropStop, hasStopInside}
 use Rattle.paper.specs.Answers.{Translates}
 use Rattle.paper.specs.Answers as paper
+use Rattle.read_bytes.specs.Words.{There}
 use Rattle.read_steps.specs.Parts.{Shows}
-use Rattle.walk_steps.specs.Stands.{There}
 use Rattle.walk_items.specs.Items.{FindsFeature}
 use Rattle.walk_items.specs.declared.FoundFeature.{FoundFeature}
 use Rattle.protein_codons.specs.Letters.{lettersOf}

@@ -8,8 +8,9 @@ use Rattle.paper.specs.Bytes.{bytes, isBlank}
 use Rattle.paper.specs.Form.{each}
 use Rattle.paper.specs.Layout.{child, qualifier, feature}
 use Rattle.paper.specs.Tree.{Sequence, Feature, qualifiersOf}
+use Rattle.read_bytes.specs.Words.{There}
 use Rattle.read_steps.specs.Follow.{Not, Starts, closing}
-use Rattle.walk_steps.specs.Stands.{Stands, There, Over, Ends}
+use Rattle.walk_steps.specs.Stands.{Stands, Over, Ends}
 use Rattle.walk_steps.proofs.Places.{from}
 use Rattle.walk_items.specs.Items.{FindsFeature, IsFeature, featureTail}
 use Rattle.walk_items.specs.declared.FoundFeature.{FoundFeature}

@@ -16,12 +16,13 @@ use Rattle.paper.specs.Rules.{Named, valueRead, valuePlace}
 use Rattle.judge_faults.specs.declared.Fault.{Fault}
 use Rattle.judge_faults.specs.declared.Fault.the-variants.{Clean, At}
 use Rattle.paper.proofs.Texts.{raw-once}
+use Rattle.read_bytes.specs.Words.{There}
 use Rattle.read_steps.specs.Follow.{closing}
 use Rattle.read_steps.specs.Parts.{Shows}
 use Rattle.value_words.specs.Reading.{Tells}
 use Rattle.value_words.proofs.Tests.{tells-true, tells-false}
 use Rattle.value_words.proofs.Read.{tells-word}
-use Rattle.walk_steps.specs.Stands.{There, IsPart, MaybeIs}
+use Rattle.walk_steps.specs.Stands.{IsPart, MaybeIs}
 use Rattle.walk_steps.specs.declared.Part.{Part}
 use Rattle.walk_steps.specs.declared.Maybe.{Maybe}
 use Rattle.walk_steps.specs.declared.Maybe.the-variants.{Absent, Present}

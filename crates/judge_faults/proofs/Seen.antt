@@ -8,9 +8,10 @@ use lib.ListN.{drop}
 use Rattle.paper.specs.Bytes.{isBlank}
 use Rattle.paper.specs.Lists.{Count, end, has, lacks}
 use Rattle.paper.specs.Form.{Form, each}
+use Rattle.read_bytes.specs.Words.{There}
 use Rattle.read_steps.specs.Follow.{Not, Starts, Before}
 use Rattle.read_steps.proofs.Fronts.{Leads}
-use Rattle.walk_steps.specs.Stands.{Stands, There, tagOf, Over}
+use Rattle.walk_steps.specs.Stands.{Stands, tagOf, Over}
 use Rattle.walk_steps.proofs.Places.{from}
 use Rattle.walk_steps.proofs.Loops.{left-none, left-some}
 

@@ -12,8 +12,9 @@ use Rattle.paper.specs.Lists.{Count}
 use Rattle.paper.specs.Layout.{child, feature}
 use Rattle.paper.specs.Tree.{Table, Sequence, Feature, featuresIn, featuresOf}
 use Rattle.paper.specs.Rules.{tablePlace}
+use Rattle.read_bytes.specs.Words.{There}
 use Rattle.read_steps.specs.Follow.{Not, closing}
-use Rattle.walk_steps.specs.Stands.{There, Over}
+use Rattle.walk_steps.specs.Stands.{Over}
 use Rattle.walk_items.specs.Items.{TableIs}
 use Rattle.walk_items.specs.declared.FoundTable.{FoundTable}
 use Rattle.walk_items.proofs.Sequences.{feature-leads}

@@ -8,8 +8,9 @@ use Rattle.paper.specs.Bytes.{bytes}
 use Rattle.paper.specs.Form.{each}
 use Rattle.paper.specs.Tree.{Qualifier}
 use Rattle.paper.specs.Layout.{child, qualifier}
+use Rattle.read_bytes.specs.Words.{There}
 use Rattle.read_steps.specs.Follow.{Starts, closing}
-use Rattle.walk_steps.specs.Stands.{Stands, There, IsPart, MaybeIs}
+use Rattle.walk_steps.specs.Stands.{Stands, IsPart, MaybeIs}
 use Rattle.walk_items.specs.Items.{FindsQualifier}
 use Rattle.walk_items.specs.declared.FoundQualifier.{FoundQualifier}
 use Rattle.walk_items.proofs.Features.{qualifier-leads}

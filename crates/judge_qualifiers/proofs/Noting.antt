@@ -10,12 +10,12 @@ use Rattle.paper.specs.Lists.{_∈_, end}
 use Rattle.paper.specs.Tree.{Qualifier, Feature, qualifiersOf}
 use Rattle.paper.specs.Layout.{child, qualifier}
 use Rattle.paper.specs.Rules.{Named, organismName, molTypeName, CodonStart}
+use Rattle.read_bytes.specs.Words.{There}
 use Rattle.read_steps.specs.Follow.{closing}
 use Rattle.read_steps.specs.Parts.{Shows}
 use Rattle.value_words.specs.Reading.{Tells}
 use Rattle.value_words.proofs.Tests.{tells-true, tells-false}
 use Rattle.value_words.proofs.Read.{tells-word}
-use Rattle.walk_steps.specs.Stands.{There}
 use Rattle.walk_items.specs.Items.{FindsQualifier}
 use Rattle.walk_items.specs.declared.FoundQualifier.{FoundQualifier}
 use Rattle.location_judge.specs.declared.judging.Verdict.{Verdict}

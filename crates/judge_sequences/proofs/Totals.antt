@@ -12,8 +12,9 @@ use Rattle.paper.specs.Tree.{Sequence, Feature, featuresOf}
 use Rattle.paper.specs.Rules.{Skipped, InSequence}
 use Rattle.paper.specs.Answers.{limit, JudgedCds, UnjudgedCds}
 use Rattle.paper.proofs.Lists.{count-map, length-map}
+use Rattle.read_bytes.specs.Words.{There}
 use Rattle.read_steps.specs.Follow.{Not, closing}
-use Rattle.walk_steps.specs.Stands.{There, Over}
+use Rattle.walk_steps.specs.Stands.{Over}
 use Rattle.walk_items.proofs.Sequences.{sequence-leads}
 use Rattle.value_words.specs.Reading.{Tells}
 use Rattle.judge_faults.specs.Sets.{Firsts, Some}

@@ -13,10 +13,12 @@ use Rattle.paper.specs.Bytes.{spell, raw}
 use Rattle.paper.proofs.Decimal.{push, digit-is}
 use Rattle.paper.proofs.Locate.Model.{Got, more, num}
 use Rattle.paper.proofs.Locate.Pieces.{NoDigit}
-use Rattle.location_judge.specs.Places.{Stands, Stretch, Has}
+use Rattle.read_bytes.specs.Words.{There}
+use Rattle.read_bytes.proofs.Words.{is-there}
+use Rattle.location_judge.specs.Places.{RestIs, Stretch}
 use Rattle.location_judge.specs.Readings.{Reads, kept, Numbers}
 use Rattle.location_judge.specs.declared.pieces.Num.the-variants.{No, At}
-use Rattle.location_judge.proofs.Stand.{at-end, suffix, begun, stretch-text, stretch-join, has, After}
+use Rattle.location_judge.proofs.Stand.{at-end, suffix, begun, stretch-text, stretch-join, After}
 
 -- b is one of lo to hi
 abbrev Among : ℕ → ℕ → ℕ → Bool
@@ -36,7 +38,7 @@ plain-digit d h k =
 
 module _ (s : List ℕ) (i d : ℕ) (h : i < length s) (e : d ≡ getD s i 0) where
   -- a digit that is read is the byte
-  same-byte : (c : ℕ) (z : List ℕ) → Stands s i (c ∷ z) → code "0" ≤ c → c ≤ code "9" → c ≡ d
+  same-byte : (c : ℕ) (z : List ℕ) → RestIs s i (c ∷ z) → code "0" ≤ c → c ≤ code "9" → c ≡ d
   same-byte c z st p q =
       let a : c ∷ raw z ≡ d ∷ drop (i + 1) s = ap (λ (l : List ℕ). l ++ raw z) (sym (plain-digit c p q)) ∙ sym (st .is) ∙ suffix s i d h e in
       ap (λ (l : List ℕ). getD l 0 0) a
@@ -45,27 +47,27 @@ module _ (s : List ℕ) (i d : ℕ) (h : i < length s) (e : d ≡ getD s i 0) wh
     digit-raw : raw (d ∷ []) ≡ d ∷ []
     digit-raw = rw (plain-digit d p q)
 
-    digit-has : Has s i (raw (d ∷ [])) true
-    digit-has = rw digit-raw (has (omega arith) (suffix s i d h e))
+    digit-has : There (raw (d ∷ [])) s i true
+    digit-has = rw digit-raw (is-there (record { inside = omega arith; here = suffix s i d h e }))
 
-    digit-there : (w : List ℕ) → Stands s i w → After s (d ∷ []) w (i + 1)
+    digit-there : (w : List ℕ) → RestIs s i w → After s (d ∷ []) w (i + 1)
     digit-there w st = rw (ap length digit-raw) at (begun (d ∷ []) digit-has st refl)
 
     digit-stretch : Stretch s i (i + 1)
     digit-stretch = rw (ap length digit-raw) at (stretch-text (d ∷ []) digit-has refl)
 
   -- where the byte is none of lo to hi, none of them is read
-  none-read : (lo hi : ℕ) → code "0" ≤ lo → hi ≤ code "9" → (lo ≤ d → d ≤ hi → ⊥) → (c : ℕ) (z : List ℕ) → Stands s i (c ∷ z) → Among lo hi c ≡ false
+  none-read : (lo hi : ℕ) → code "0" ≤ lo → hi ≤ code "9" → (lo ≤ d → d ≤ hi → ⊥) → (c : ℕ) (z : List ℕ) → RestIs s i (c ∷ z) → Among lo hi c ≡ false
   none-read lo hi p q n c z st = outside lo hi c (λ j k. let a = same-byte c z st (omega arith) (omega arith) in n (omega arith) (omega arith))
 
   pub no-number : (code "1" ≤ d → d ≤ code "9" → ⊥) → Numbers s i No
   no-number n = record { within = tt; says = says }
     where
-      says : (w : List ℕ) → Stands s i w → num w ≡ none
+      says : (w : List ℕ) → RestIs s i w → num w ≡ none
       says [] st = refl
       says (c ∷ z) st = rw (none-read (code "1") (code "9") (omega arith) (omega arith) n c z st)
 
-  no-digit : (code "0" ≤ d → d ≤ code "9" → ⊥) → (w : List ℕ) → Stands s i w → NoDigit w
+  no-digit : (code "0" ≤ d → d ≤ code "9" → ⊥) → (w : List ℕ) → RestIs s i w → NoDigit w
   no-digit n [] st = tt
   no-digit n (c ∷ z) st = none-read (code "0") (code "9") (omega arith) (omega arith) n c z st
 
@@ -74,13 +76,13 @@ number-past s at h = record { within = tt; says = λ w st. ap num (at-end w st h
 
 -- behind the digits so far, of which v is kept, more of them may stand at i
 abbrev Going : List ℕ → List ℕ → ℕ → ℕ → Type 0
-Going s w i v = (x : ℕ) × (z : List ℕ) × (num w ≡ some (more x z)) × Stands s i z × (v ≡ kept x)
+Going s w i v = (x : ℕ) × (z : List ℕ) × (num w ≡ some (more x z)) × RestIs s i z × (v ≡ kept x)
 
 pub record Counted (s : List ℕ) (at i v : ℕ) : Type 0 where
   pub passed : Stretch s at i
   pub least : 1 ≤ v
   pub most : v ≤ 4294967296
-  pub going : (w : List ℕ) → Stands s at w → Going s w i v
+  pub going : (w : List ℕ) → RestIs s at w → Going s w i v
 
 more-stops : (x : ℕ) (z : List ℕ) → NoDigit z → more x z ≡ (x, z)
 more-stops x [] n = refl
@@ -90,7 +92,7 @@ module _ (s : List ℕ) (at : ℕ) where
   pub counted-first : (b : ℕ) → at < length s → b ≡ getD s at 0 → code "1" ≤ b → b ≤ code "9" → Counted s at (at + 1) (b - code "0")
   counted-first b h e p q = record { passed = digit-stretch s at b h e (omega arith) q; least = omega arith; most = omega arith; going = going }
     where
-      going : (w : List ℕ) → Stands s at w → Going s w (at + 1) (b - code "0")
+      going : (w : List ℕ) → RestIs s at w → Going s w (at + 1) (b - code "0")
       going w st =
           let d = digit-there s at b h e (omega arith) q w st in
           let n : num (b ∷ d .0) ≡ some (more (push 0 b) (d .0)) = rw (le-leb 49 b p, le-leb 48 b (omega arith), le-leb b 57 q) in
@@ -102,7 +104,7 @@ module _ (s : List ℕ) (at : ℕ) where
       let low = c .least in
       record { passed = stretch-join (c .passed) (digit-stretch s i d h e p q); least = omega arith; most = omega arith; going = going }
     where
-      going : (w : List ℕ) → Stands s at w → Going s w (i + 1) v′
+      going : (w : List ℕ) → RestIs s at w → Going s w (i + 1) v′
       going w st =
           let g = c .going w st in
           let t = digit-there s i d h e p q (g .1) (g .3) in
@@ -110,10 +112,10 @@ module _ (s : List ℕ) (at : ℕ) where
           let n : more (g .0) (d ∷ t .0) ≡ more (push (g .0) d) (t .0) = rw (digit-is d p q) in
           (push (g .0) d, t .0, g .2 ∙ ap {B = Got ℕ} some (ap (more (g .0)) (t .1) ∙ n), t .2, omega arith)
 
-  counted-stops : (i v : ℕ) → Counted s at i v → ((w : List ℕ) → Stands s i w → NoDigit w) → Numbers s at (At i v)
+  counted-stops : (i v : ℕ) → Counted s at i v → ((w : List ℕ) → RestIs s i w → NoDigit w) → Numbers s at (At i v)
   counted-stops i v c n = record { within = (c .passed, c .least); says = says }
     where
-      says : (w : List ℕ) → Stands s at w → Reads s (λ (x : ℕ). v ≡ kept x) (num w) i
+      says : (w : List ℕ) → RestIs s at w → Reads s (λ (x : ℕ). v ≡ kept x) (num w) i
       says w st =
           let g = c .going w st in
           record { value = g .0; rest = g .1; is = g .2 ∙ ap {B = Got ℕ} some (more-stops (g .0) (g .1) (n (g .1) (g .3))); stands = g .3; holds = g .4 }

@@ -13,7 +13,8 @@ use Rattle.paper.specs.Locations.{isOdd, isWrong, Member, Operator, Location, o
 use Rattle.paper.proofs.Locate.Model.{Got, then, memberOf, step, members, gathered, gather, read}
 use Rattle.paper.proofs.Locate.Rest.{ends-length}
 use Rattle.paper.proofs.Locate.Reads.{read-sound, read-nil, read-ends, allowed-member}
-use Rattle.location_judge.specs.Places.{Stands, Stretch, Has}
+use Rattle.read_bytes.specs.Words.{There}
+use Rattle.location_judge.specs.Places.{RestIs, Stretch}
 use Rattle.location_judge.specs.Judging.{AreFacts}
 use Rattle.location_judge.specs.Readings.{Reads, OutSays, Outs, numberOf, Lists, withMember}
 use Rattle.location_judge.specs.declared.judging.Facts.{Facts}
@@ -76,7 +77,7 @@ record Going (s : List ℕ) (L d : ℕ) (c : Bool) (o : Operator) (w : List ℕ)
   ms : List Member
   fuel : ℕ
   rest : List ℕ
-  stands : Stands s i rest
+  stands : RestIs s i rest
   enough : length rest ≤ fuel
   facts : AreFacts L (many false o ms) f
   is : members (read d c false) (length w) w ≡ prepend ms (members (read d c false) fuel rest)
@@ -87,7 +88,7 @@ record Past (s : List ℕ) (L d : ℕ) (c : Bool) (o : Operator) (w : List ℕ) 
   m : Member
   fuel : ℕ
   rest : List ℕ
-  stands : Stands s n rest
+  stands : RestIs s n rest
   enough : length rest ≤ suc fuel
   facts : AreFacts L (many false o (ms ++ (m ∷ []))) f
   is : members (read d c false) (length w) w ≡ prepend ms (step (members (read d c false) fuel) (one m) rest)
@@ -96,7 +97,7 @@ record Past (s : List ℕ) (L d : ℕ) (c : Bool) (o : Operator) (w : List ℕ) 
 pub record Run (s : List ℕ) (L d : ℕ) (c : Bool) (at from op i : ℕ) (f : Facts) : Type 0 where
   pub passed : Stretch s at i
   pub few : f .count < i
-  going : (o : Operator) → op ≡ numberOf o → (w : List ℕ) → Stands s from w → Going s L d c o w i f
+  going : (o : Operator) → op ≡ numberOf o → (w : List ℕ) → RestIs s from w → Going s L d c o w i f
 
 empty : (w : List ℕ) → length w ≤ 0 → w ≡ []
 empty [] h = refl
@@ -122,7 +123,7 @@ module _ {s : List ℕ} {L d : ℕ} {c : Bool} where
 
   module _ {at from op i : ℕ} {f : Facts} (run : Run s L d c at from op i f) where
     pub run-bad : Outs s i L (read d c false) out-is.Bad
-        → (o : Operator) → op ≡ numberOf o → (w : List ℕ) → Stands s from w → gather (read d c false) o w ≡ none
+        → (o : Operator) → op ≡ numberOf o → (w : List ℕ) → RestIs s from w → gather (read d c false) o w ≡ none
     run-bad h o e w st =
         let k = run .going o e w st in
         let n : members (read d c false) (k .fuel) (k .rest) ≡ none = go (k .rest) (k .fuel) (h .says (k .rest) (k .stands)) in
@@ -133,7 +134,7 @@ module _ {s : List ℕ} {L d : ℕ} {c : Bool} where
         go z (suc n) q = rw q
 
     module _ {n : ℕ} {g : Facts} (h : Outs s i L (read d c false) (out-is.Read n g)) where
-      past : (o : Operator) → op ≡ numberOf o → (w : List ℕ) → Stands s from w → Past s L d c o w n (withMember f g)
+      past : (o : Operator) → op ≡ numberOf o → (w : List ℕ) → RestIs s from w → Past s L d c o w n (withMember f g)
       past o e w st =
           let k = run .going o e w st in
           let m = h .says (k .rest) (k .stands) in
@@ -162,13 +163,13 @@ module _ {s : List ℕ} {L d : ℕ} {c : Bool} where
               }
 
       -- the members so far, this one and what stands behind it
-      pub passed-by : (u : List ℕ) {t : Bool} → Has s n (raw u) t → t ≡ true → Stretch s at (n + length (raw u))
+      pub passed-by : (u : List ℕ) {t : Bool} → There (raw u) s n t → t ≡ true → Stretch s at (n + length (raw u))
       passed-by u x e = stretch-join (run .passed) (stretch-join (h .within) (stretch-text u x e))
 
-      module _ {t : Bool} (bracket : Has s n (raw (bytes ")")) t) where
+      module _ {t : Bool} (bracket : There (raw (bytes ")")) s n t) where
         -- the list ends
-        closed : t ≡ true → (o : Operator) → op ≡ numberOf o → (w : List ℕ) → Stands s from w
-            → (ms : List Member) × (z : List ℕ) × Stands s (n + 1) z × AreFacts L (many false o ms) (withMember f g)
+        closed : t ≡ true → (o : Operator) → op ≡ numberOf o → (w : List ℕ) → RestIs s from w
+            → (ms : List Member) × (z : List ℕ) × RestIs s (n + 1) z × AreFacts L (many false o ms) (withMember f g)
             × (gather (read d c false) o w ≡ cond (leb 2 (length ms)) (some (many false o ms, z)) none)
         closed b o e w st =
             let p = past o e w st in
@@ -182,12 +183,12 @@ module _ {s : List ℕ} {L d : ℕ} {c : Bool} where
             )
 
         pub run-one : t ≡ true → f .count + 1 < 2
-            → (o : Operator) → op ≡ numberOf o → (w : List ℕ) → Stands s from w → gather (read d c false) o w ≡ none
+            → (o : Operator) → op ≡ numberOf o → (w : List ℕ) → RestIs s from w → gather (read d c false) o w ≡ none
         run-one b l o e w st =
             let p = closed b o e w st in
             p .4 ∙ rw (lt-leb 2 (length (p .0)) (omega (arith, p .3 .count, spans-count (many false o (p .0)))))
 
-        pub run-closed : t ≡ true → 2 ≤ f .count + 1 → (o : Operator) → op ≡ numberOf o → (w : List ℕ) → Stands s from w
+        pub run-closed : t ≡ true → 2 ≤ f .count + 1 → (o : Operator) → op ≡ numberOf o → (w : List ℕ) → RestIs s from w
             → OutSays s L (gather (read d c false) o w) (out-is.Read (n + 1) (withMember f g))
         run-closed b l o e w st =
             let p = closed b o e w st in
@@ -195,9 +196,9 @@ module _ {s : List ℕ} {L d : ℕ} {c : Bool} where
             = p .4 ∙ rw (le-leb 2 (length (p .0)) (omega (arith, p .3 .count, spans-count (many false o (p .0))))) in
             record { value = many false o (p .0); rest = p .1; is = k; stands = p .2; holds = p .3 }
 
-        module _ {u : Bool} (comma : Has s n (raw (bytes ",")) u) where
+        module _ {u : Bool} (comma : There (raw (bytes ",")) s n u) where
           pub run-other : t ≡ false → u ≡ false
-              → (o : Operator) → op ≡ numberOf o → (w : List ℕ) → Stands s from w → gather (read d c false) o w ≡ none
+              → (o : Operator) → op ≡ numberOf o → (w : List ℕ) → RestIs s from w → gather (read d c false) o w ≡ none
           run-other a b o e w st =
               let p = past o e w st in
               ap (λ (x : Got (List Member)). then x (gathered o))

@@ -10,7 +10,8 @@ use Rattle.paper.specs.Bytes.{bytes, raw}
 use Rattle.paper.specs.Locations.{mark, after, range, site}
 use Rattle.paper.specs.Locations as paper
 use Rattle.paper.proofs.Locate.Model.{Got, then, num, lone, second, tail, plain, piece}
-use Rattle.location_judge.specs.Places.{Stands, Stretch, Has}
+use Rattle.read_bytes.specs.Words.{There}
+use Rattle.location_judge.specs.Places.{RestIs, Stretch}
 use Rattle.location_judge.specs.Readings.{Reads, kept, Numbers, Keeps, pieceWithin, PieceSays, Pairs, Tails, Pieces}
 use Rattle.location_judge.specs.declared.pieces.Num.{Num}
 use Rattle.location_judge.specs.declared.pieces.Num.the-variants as num-is
@@ -58,7 +59,7 @@ keeps-lone c true X marks k m = record { first = k; last = k; marks = m; odds = 
 keeps-lone c false X marks k m = record { first = k; last = k; marks = m; odds = refl }
 
 module _ {s : List ℕ} {at x marks : ℕ} {less : Bool} where
-  pub tail-lone : 1 ≤ x → at ≤ length s → ((w : List ℕ) → Stands s at w → Lacks (bytes "..") w)
+  pub tail-lone : 1 ≤ x → at ≤ length s → ((w : List ℕ) → RestIs s at w → Lacks (bytes "..") w)
       → Tails s at x marks less (found-is.At at (record { first = x; last = x; marks = marks }) less)
   tail-lone low inside h =
       record {
@@ -69,7 +70,7 @@ module _ {s : List ℕ} {at x marks : ℕ} {less : Bool} where
 
   -- `..`, a sign or none, and the second number, at j
   tail-range : {j : ℕ} (more : Bool) → Stretch s at j
-      → ((w : List ℕ) → Stands s at w → (z : List ℕ) × Stands s j z × ((X : ℕ) → tail less X w ≡ then (num z) (λ y r. some (range less X more y, r))))
+      → ((w : List ℕ) → RestIs s at w → (z : List ℕ) × RestIs s j z × ((X : ℕ) → tail less X w ≡ then (num z) (λ y r. some (range less X more y, r))))
       → (r : Found) → Pairs s j x (marks + mark more 4) false r → Tails s at x marks less r
   tail-range more l h r p =
       record {
@@ -80,7 +81,7 @@ module _ {s : List ℕ} {at x marks : ℕ} {less : Bool} where
             (p .says c (range less X more) (λ y. record { first = k; last = refl; marks = omega arith; odds = refl }) (z .0) (z .1));
       }
 
-  module _ {t u : Bool} (dots : Has s at (raw (bytes "..")) t) (a : t ≡ true) (sign : Has s (at + 2) (raw (bytes ">")) u) where
+  module _ {t u : Bool} (dots : There (raw (bytes "..")) s at t) (a : t ≡ true) (sign : There (raw (bytes ">")) s (at + 2) u) where
     pub tail-high : u ≡ true → (r : Found) → Pairs s (at + 2 + 4) x (marks + 4) false r → Tails s at x marks less r
     tail-high b =
         tail-range true (stretch-join (stretch-text (bytes "..") dots a) (stretch-text (bytes ">") sign b))
@@ -102,10 +103,10 @@ module _ {s : List ℕ} {at x marks : ℕ} {less : Bool} where
 -- a segment or site at `at` is what k makes of the number at j
 pub record Way (s : List ℕ) (at j : ℕ) (k : ℕ → List ℕ → Got paper.Piece) : Type 0 where
   pub passes : (n : ℕ) → Stretch s j n → Stretch s at n
-  pub goes : (w : List ℕ) → Stands s at w → (z : List ℕ) × Stands s j z × (piece w ≡ then (num z) k)
+  pub goes : (w : List ℕ) → RestIs s at w → (z : List ℕ) × RestIs s j z × (piece w ≡ then (num z) k)
 
 -- a sign, and the number behind it
-way-sign : {s : List ℕ} {at : ℕ} {t : Bool} {k : ℕ → List ℕ → Got paper.Piece} (u : List ℕ) → Has s at (raw u) t → t ≡ true
+way-sign : {s : List ℕ} {at : ℕ} {t : Bool} {k : ℕ → List ℕ → Got paper.Piece} (u : List ℕ) → There (raw u) s at t → t ≡ true
     → ((z : List ℕ) → piece (u ++ z) ≡ then (num z) k) → Way s at (at + length (raw u)) k
 way-sign u sign e h =
     record {
@@ -113,11 +114,11 @@ way-sign u sign e h =
       goes = λ w st. let p = begun u sign st e in (p .0, p .2, ap piece (p .1) ∙ h (p .0));
     }
 
-module _ {s : List ℕ} {at : ℕ} {t : Bool} (high : Has s at (raw (bytes ">")) t) where
+module _ {s : List ℕ} {at : ℕ} {t : Bool} (high : There (raw (bytes ">")) s at t) where
   pub way-after : t ≡ true → Way s at (at + 4) (λ x r. some (after x, r))
   way-after e = way-sign (bytes ">") high e (λ z. refl)
 
-  module _ (e : t ≡ false) {u : Bool} (low : Has s at (raw (bytes "<")) u) where
+  module _ (e : t ≡ false) {u : Bool} (low : There (raw (bytes "<")) s at u) where
     pub way-before : u ≡ true → Way s at (at + 4) (tail true)
     way-before f = way-sign (bytes "<") low f (λ z. refl)
 
@@ -134,7 +135,7 @@ module _ {s : List ℕ} {at j : ℕ} {k : ℕ → List ℕ → Got paper.Piece} 
       }
 
   pub piece-by : {n x : ℕ} (r : Found) → Numbers s j (num-is.At n x) → pieceWithin s n r
-      → ((X : ℕ) → x ≡ kept X → (w : List ℕ) → Stands s n w → PieceSays s c (k X w) r) → Pieces s at c r
+      → ((X : ℕ) → x ≡ kept X → (w : List ℕ) → RestIs s n w → PieceSays s c (k X w) r) → Pieces s at c r
   piece-by {n} r h i f =
       record {
         within = within-from (way .passes n (h .within .0)) r i;
@@ -155,7 +156,7 @@ module _ {s : List ℕ} {at j n x base : ℕ} {c : Bool} (b : base ≡ mark c 1)
   pub piece-before : Way s at j (tail true) → (r : Found) → Tails s n x (base + 2) true r → Pieces s at c r
   piece-before way r p = piece-by way c r h (p .within) (λ X e. p .says c X e (omega arith))
 
-  module _ (way : Way s at j plain) {t : Bool} (caret : Has s n (raw (bytes "^")) t) where
+  module _ (way : Way s at j plain) {t : Bool} (caret : There (raw (bytes "^")) s n t) where
     pub piece-site : t ≡ true → (r : Found) → Pairs s (n + 1) x (base + 8) true r → Pieces s at c r
     piece-site e r p =
         piece-by way c r h (within-from (stretch-text (bytes "^") caret e) r (p .within))

@@ -11,7 +11,8 @@ use Rattle.paper.specs.Bytes.{bytes, raw}
 use Rattle.paper.specs.Locations.{Piece, isSegment, isOdd, isWrong, Member, Operator, join, order, operatorName, Location, one, many, memberSpan, spanOf}
 use Rattle.paper.specs.Locations.{spans, membersOf, operatorNumber}
 use Rattle.paper.proofs.Locate.Model.{Got, then, uncomplemented, turn, leaf, close, gather, within, read}
-use Rattle.location_judge.specs.Places.{Stands, Stretch, Has}
+use Rattle.read_bytes.specs.Words.{There}
+use Rattle.location_judge.specs.Places.{RestIs, Stretch}
 use Rattle.location_judge.specs.Judging.{AreFacts}
 use Rattle.location_judge.specs.Readings.{Keeps, Pieces, wrongOf, outWithin, OutSays, Outs, numberOf, Lists}
 use Rattle.location_judge.specs.declared.pieces.Reach.{Reach}
@@ -84,7 +85,7 @@ module _ {s : List ℕ} {at top : ℕ} (far : Bool) where
 
 -- ---- an operator's word
 
-module _ {s : List ℕ} {at : ℕ} {t : Bool} (is-join : Has s at (raw (bytes "join(")) t) where
+module _ {s : List ℕ} {at : ℕ} {t : Bool} (is-join : There (raw (bytes "join(")) s at t) where
   pub list-join : t ≡ true → Lists s at (list-is.At 1 (at + 5))
   list-join e =
       record {
@@ -92,7 +93,7 @@ module _ {s : List ℕ} {at : ℕ} {t : Bool} (is-join : Has s at (raw (bytes "j
         says = λ w st. let p = begun (bytes "join(") is-join st e in (join, refl, p .0, p .1, p .2);
       }
 
-  module _ (e : t ≡ false) {u : Bool} (is-order : Has s at (raw (bytes "order(")) u) where
+  module _ (e : t ≡ false) {u : Bool} (is-order : There (raw (bytes "order(")) s at u) where
     pub list-order : u ≡ true → Lists s at (list-is.At 2 (at + 6))
     list-order f =
         record {
@@ -103,14 +104,14 @@ module _ {s : List ℕ} {at : ℕ} {t : Bool} (is-join : Has s at (raw (bytes "j
     pub list-no : u ≡ false → Lists s at list-is.No
     list-no f = record { within = tt; says = λ w st. lacks w st }
       where
-        lacks : (w : List ℕ) → Stands s at w → (o : Operator) → Lacks (bytes (operatorName o)) w
+        lacks : (w : List ℕ) → RestIs s at w → (o : Operator) → Lacks (bytes (operatorName o)) w
         lacks w st join = not-begun (bytes "join(") is-join st e
         lacks w st order = not-begun (bytes "order(") is-order st f
 
 -- ---- complements
 
-pub complement-stretch : {s : List ℕ} {at n : ℕ} {t u : Bool} → Has s at (raw (bytes "complement(")) t → t ≡ true → Stretch s (at + 11) n
-    → Has s n (raw (bytes ")")) u → u ≡ true → Stretch s at (n + 1)
+pub complement-stretch : {s : List ℕ} {at n : ℕ} {t u : Bool} → There (raw (bytes "complement(")) s at t → t ≡ true → Stretch s (at + 11) n
+    → There (raw (bytes ")")) s n u → u ≡ true → Stretch s at (n + 1)
 complement-stretch word e inside bracket b =
     stretch-join (stretch-text (bytes "complement(") word e) (stretch-join inside (stretch-text (bytes ")") bracket b))
 
@@ -141,7 +142,7 @@ turned-facts {L} (many c op ms) {f} h =
       unjudged = rw n at (h .unjudged);
     }
 
-module _ {s : List ℕ} {at top : ℕ} {c l : Bool} {fc fl : List ℕ → Got Location} {t : Bool} (word : Has s at (raw (bytes "complement(")) t) (e : t ≡ true) where
+module _ {s : List ℕ} {at top : ℕ} {c l : Bool} {fc fl : List ℕ → Got Location} {t : Bool} (word : There (raw (bytes "complement(")) s at t) (e : t ≡ true) where
   pub comp-not : c ≡ false → Outs s at top (within fc fl c l) out-is.Bad
   comp-not k =
       record {
@@ -152,7 +153,7 @@ module _ {s : List ℕ} {at top : ℕ} {c l : Bool} {fc fl : List ℕ → Got Lo
       }
 
   -- what is read inside, and `)`
-  comp-by : c ≡ true → (r : Out) → outWithin s at r → ((z : List ℕ) → Stands s (at + 11) z → OutSays s top (then (fc z) close) r)
+  comp-by : c ≡ true → (r : Out) → outWithin s at r → ((z : List ℕ) → RestIs s (at + 11) z → OutSays s top (then (fc z) close) r)
       → Outs s at top (within fc fl c l) r
   comp-by k r i f =
       record {
@@ -165,7 +166,7 @@ module _ {s : List ℕ} {at top : ℕ} {c l : Bool} {fc fl : List ℕ → Got Lo
   pub comp-bad : c ≡ true → Outs s (at + 11) top fc out-is.Bad → Outs s at top (within fc fl c l) out-is.Bad
   comp-bad k h = comp-by k out-is.Bad tt (λ z st. ap (λ (g : Got Location). then g close) (h .says z st))
 
-  module _ (k : c ≡ true) {n : ℕ} {f : Facts} (h : Outs s (at + 11) top fc (out-is.Read n f)) {u : Bool} (bracket : Has s n (raw (bytes ")")) u) where
+  module _ (k : c ≡ true) {n : ℕ} {f : Facts} (h : Outs s (at + 11) top fc (out-is.Read n f)) {u : Bool} (bracket : There (raw (bytes ")")) s n u) where
     pub comp-open : u ≡ false → Outs s at top (within fc fl c l) out-is.Bad
     comp-open b =
         comp-by k out-is.Bad tt
@@ -189,7 +190,7 @@ module _ {s : List ℕ} {at top : ℕ} {c l : Bool} {fc fl : List ℕ → Got Lo
 
 -- ---- no word, and a list
 
-module _ {s : List ℕ} {at top : ℕ} {c l : Bool} {fc fl : List ℕ → Got Location} {t : Bool} (word : Has s at (raw (bytes "complement(")) t) (e : t ≡ false) where
+module _ {s : List ℕ} {at top : ℕ} {c l : Bool} {fc fl : List ℕ → Got Location} {t : Bool} (word : There (raw (bytes "complement(")) s at t) (e : t ≡ false) where
   pub level-leaf : Lists s at list-is.No → {r : Out} → Outs s at top (leaf l) r → Outs s at top (within fc fl c l) r
   level-leaf h {r} k =
       record {
@@ -199,7 +200,7 @@ module _ {s : List ℕ} {at top : ℕ} {c l : Bool} {fc fl : List ℕ → Got Lo
 
 module _ {s : List ℕ} {at top : ℕ} {c l : Bool} {fc fl : List ℕ → Got Location} {op from : ℕ} (h : Lists s at (list-is.At op from)) where
   pub list-by : l ≡ true → (r : Out) → outWithin s at r
-      → ((o : Operator) → op ≡ numberOf o → (z : List ℕ) → Stands s from z → OutSays s top (gather fl o z) r) → Outs s at top (within fc fl c l) r
+      → ((o : Operator) → op ≡ numberOf o → (z : List ℕ) → RestIs s from z → OutSays s top (gather fl o z) r) → Outs s at top (within fc fl c l) r
   list-by k r i f =
       record {
         within = i;

@@ -3,13 +3,15 @@ use Prim.Native.Nat.{ℕ, _+_, _≤_, _<_}
 use native.Mathlib.Omega.{arith}
 use native.Mathlib.Numerals.{add-one}
 use mathlib.Core.Path.{_≡_, refl, sym, ap, _∙_}
-use mathlib.Core.Bool.{Bool, true, false, true≢false, false≢true}
-use mathlib.Core.List.{List, [], _∷_, _++_, append-assoc, cons≢nil}
+use mathlib.Core.Bool.{Bool, true, false}
+use mathlib.Core.List.{List, [], _∷_, _++_, append-assoc}
 use lib.ListN.{length, getD, drop, drop-of-length-le, length-append, length-drop}
 use lib.Seq.{drop-cons, drop-drop, drop-append-seam}
 use Rattle.paper.specs.Bytes.{spell, raw}
 use Rattle.paper.proofs.Texts.{unspell, unspell-spell, spell-some, raw-append}
-use Rattle.location_judge.specs.Places.{Stands, Stretch, Has}
+use Rattle.read_bytes.specs.Words.{There}
+use Rattle.read_bytes.proofs.Words.{stands-here}
+use Rattle.location_judge.specs.Places.{RestIs, Stretch}
 
 -- a text whose bytes start with those of u starts with u
 raw-strip : (u w y : List ℕ) → raw w ≡ raw u ++ y → (z : List ℕ) × (w ≡ u ++ z) × (raw z ≡ y)
@@ -23,29 +25,29 @@ raw-strip (b ∷ u) (c ∷ w) y e =
 
 -- the text w starts with u, and what follows stands at n
 abbrev pub After : List ℕ → List ℕ → List ℕ → ℕ → Type 0
-After s u w n = (z : List ℕ) × (w ≡ u ++ z) × Stands s n z
+After s u w n = (z : List ℕ) × (w ≡ u ++ z) × RestIs s n z
 
 -- no text u stands at the start of w
 abbrev pub Lacks : List ℕ → List ℕ → Type 0
 Lacks u w = (z : List ℕ) → w ≡ u ++ z → ⊥
 
 -- by a test whether the text u stands at a place
-module _ (u : List ℕ) {s : List ℕ} {at : ℕ} {t : Bool} (h : Has s at (raw u) t) where
+module _ (u : List ℕ) {s : List ℕ} {at : ℕ} {t : Bool} (h : There (raw u) s at t) where
   pub room : t ≡ true → at + length (raw u) ≤ length s
-  room e = h .yes e .0
+  room e = h .yes e .inside
 
-  module _ {w : List ℕ} (st : Stands s at w) where
+  module _ {w : List ℕ} (st : RestIs s at w) where
     pub begun : t ≡ true → After s u w (at + length (raw u))
     begun e =
-        let p = raw-strip u w (drop (at + length (raw u)) s) (sym (st .is) ∙ h .yes e .1) in
+        let p = raw-strip u w (drop (at + length (raw u)) s) (sym (st .is) ∙ h .yes e .here) in
         (p .0, p .1, record { inside = room e; is = sym (p .2) })
 
     pub not-begun : t ≡ false → Lacks u w
-    not-begun e z q = h .no e (st .inside) (raw z) (st .is ∙ ap raw q ∙ raw-append u z)
+    not-begun e z q = h .no e (stands-here (st .inside) (raw z) (st .is ∙ ap raw q ∙ raw-append u z))
 
   -- what a test has found is text
   pub stretch-text : t ≡ true → Stretch s at (at + length (raw u))
-  stretch-text e = record { onward = omega arith; inside = room e; text = u; is = h .yes e .1 }
+  stretch-text e = record { onward = omega arith; inside = room e; text = u; is = h .yes e .here }
 
 -- from a place to itself: no text
 pub stretch-none : {s : List ℕ} {at : ℕ} → at ≤ length s → Stretch s at at
@@ -63,7 +65,7 @@ stretch-join {s} {k = k} a b =
     }
 
 -- what stands behind a text
-pub behind-text : {s : List ℕ} {at : ℕ} (u z : List ℕ) → Stands s at (u ++ z) → Stands s (at + length (raw u)) z
+pub behind-text : {s : List ℕ} {at : ℕ} (u z : List ℕ) → RestIs s at (u ++ z) → RestIs s (at + length (raw u)) z
 behind-text {s} {at} u z st =
     let e = st .is ∙ raw-append u z in
     record {
@@ -72,68 +74,9 @@ behind-text {s} {at} u z st =
     }
 
 -- nothing stands at the end
-pub at-end : {s : List ℕ} {at : ℕ} (w : List ℕ) → Stands s at w → length s ≤ at → w ≡ []
+pub at-end : {s : List ℕ} {at : ℕ} (w : List ℕ) → RestIs s at w → length s ≤ at → w ≡ []
 at-end [] st h = refl
 at-end {s} (b ∷ w) st h = absurd (spell-some b (raw w) (sym (st .is) ∙ drop-of-length-le s h))
 
 pub suffix : (s : List ℕ) (i d : ℕ) → i < length s → d ≡ getD s i 0 → drop i s ≡ d ∷ drop (i + 1) s
 suffix s i d h e = rw (add-one, e, drop-cons s i 0)
-
--- ---- the tests
-
-module _ {s : List ℕ} {at : ℕ} {x : List ℕ} where
-  pub has : at + length x ≤ length s → drop at s ≡ x ++ drop (at + length x) s → Has s at x true
-  has h e = record { yes = λ _. (h, e); no = λ t. absurd (true≢false t) }
-
-  pub lacks : (at ≤ length s → (y : List ℕ) → drop at s ≡ x ++ y → ⊥) → Has s at x false
-  lacks h = record { yes = λ t. absurd (false≢true t); no = λ _. h }
-
-pub byte-past : {s : List ℕ} {at b : ℕ} → length s ≤ at → Has s at (b ∷ []) false
-byte-past {s} h = lacks (λ i y e. cons≢nil (sym e ∙ drop-of-length-le s h))
-
-pub byte-other : {s : List ℕ} {at b : ℕ} → at < length s → (getD s at 0 ≡ b → ⊥) → Has s at (b ∷ []) false
-byte-other {s} {at} h n = lacks (λ i y e. n (ap (λ (l : List ℕ). getD l 0 0) (sym (suffix s at (getD s at 0) h refl) ∙ e)))
-
--- the bytes at `at` are x exactly if those at i are x from k on
-pub record Matched (s : List ℕ) (at : ℕ) (x : List ℕ) (i k : ℕ) : Type 0 where
-  pub place : i ≡ at + k
-  pub inside : i ≤ length s
-  pub within : k ≤ length x
-  pub to : (y : List ℕ) → drop at s ≡ x ++ y → drop i s ≡ drop k x ++ y
-  pub from : (y : List ℕ) → drop i s ≡ drop k x ++ y → drop at s ≡ x ++ y
-
-pub matched-start : {s : List ℕ} {at : ℕ} {x : List ℕ} → at ≤ length s → Matched s at x at 0
-matched-start h = record { place = omega arith; inside = h; within = omega arith; to = λ y e. e; from = λ y e. e }
-
-module _ {s : List ℕ} {at : ℕ} {x : List ℕ} {i k : ℕ} (m : Matched s at x i k) where
-  module _ (h : k < length x) where
-    left : (y : List ℕ) → drop k x ++ y ≡ getD x k 0 ∷ drop (k + 1) x ++ y
-    left y = ap (λ (z : List ℕ). z ++ y) (suffix x k (getD x k 0) h refl)
-
-    pub matched-past : length s ≤ i → Has s at x false
-    matched-past l = lacks (λ a y e. cons≢nil (sym (left y) ∙ sym (m .to y e) ∙ drop-of-length-le s l))
-
-    module _ (l : i < length s) where
-      ahead : drop i s ≡ getD s i 0 ∷ drop (i + 1) s
-      ahead = suffix s i (getD s i 0) l refl
-
-      pub matched-not : (getD s i 0 ≡ getD x k 0 → ⊥) → Has s at x false
-      matched-not n = lacks (λ a y e. n (ap (λ (z : List ℕ). getD z 0 0) (sym ahead ∙ m .to y e ∙ left y)))
-
-      pub matched-next : getD s i 0 ≡ getD x k 0 → Matched s at x (i + 1) (k + 1)
-      matched-next q =
-          record {
-            place = omega (arith, m .place);
-            inside = omega arith;
-            within = omega arith;
-            to = λ y e. ap (drop 1) (sym ahead ∙ m .to y e ∙ left y);
-            from = λ y e. m .from y (ahead ∙ (λ j. q j ∷ e j) ∙ sym (left y));
-          }
-
-  pub matched-end : length x ≤ k → Has s at x true
-  matched-end h =
-      let e : i ≡ at + length x = omega (arith, m .place, m .within) in
-      let y : drop i s ≡ drop k x ++ drop i s = rw (drop-of-length-le x h) in
-      let p : (i ≤ length s) × (drop at s ≡ x ++ drop i s) = (m .inside, m .from (drop i s) y) in
-      let q = rw e at p in
-      has (q .0) (q .1)

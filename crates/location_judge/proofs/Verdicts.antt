@@ -11,7 +11,7 @@ use Rattle.paper.specs.Locations.{Location, Locates}
 use Rattle.paper.proofs.Texts.{raw-once}
 use Rattle.paper.proofs.Locate.{locate-sound, locate-complete, locates-once}
 use Rattle.paper.proofs.Locate.Model.{read, wholly, locate}
-use Rattle.location_judge.specs.Places.{Stands}
+use Rattle.location_judge.specs.Places.{RestIs}
 use Rattle.location_judge.specs.Judging.{AreFacts, Judged, Spells, Judges}
 use Rattle.location_judge.specs.Readings.{Outs}
 use Rattle.location_judge.specs.declared.judging.Facts.{Facts}
@@ -21,11 +21,11 @@ use Rattle.location_judge.specs.declared.judging.Verdict.the-variants.{B
 use Rattle.location_judge.proofs.Stand.{at-end}
 
 -- a whole text stands at the start
-pub whole : {s w : List ℕ} → s ≡ raw w → Stands s 0 w
+pub whole : {s w : List ℕ} → s ≡ raw w → RestIs s 0 w
 whole e = record { inside = omega arith; is = e }
 
 -- bytes are no location if the model reads none of any text that they are written from
-unlocated : {s : List ℕ} → ((w : List ℕ) → Stands s 0 w → locate w ≡ none) → (t : Location) → Spells s t → ⊥
+unlocated : {s : List ℕ} → ((w : List ℕ) → RestIs s 0 w → locate w ≡ none) → (t : Location) → Spells s t → ⊥
 unlocated h t x = Option·none-ne-some t (sym (h (x .text) (whole (x .written))) ∙ locate-complete (x .text) t (x .located))
 
 module _ {s : List ℕ} {top : ℕ} where
@@ -36,7 +36,7 @@ module _ {s : List ℕ} {top : ℕ} where
     pub judge-left : n < length s → Judges s top Bad
     judge-left l = unlocated (λ w st. let m = h .says w st in go w (m .value) (m .rest) (m .stands) (m .is))
       where
-        go : (w : List ℕ) (t : Location) (z : List ℕ) → Stands s n z → read 2 true true w ≡ some (t, z) → locate w ≡ none
+        go : (w : List ℕ) (t : Location) (z : List ℕ) → RestIs s n z → read 2 true true w ≡ some (t, z) → locate w ≡ none
         go w t [] st q = absurd (omega (arith, ap length (st .is), length-drop n s))
         go w t (b ∷ z) st q = ap wholly q
 

@@ -10,7 +10,7 @@ use Rattle.paper.specs.Bytes.{bytes}
 use Rattle.paper.specs.Locations.{mark, firstOf, lastOf, signs, isOdd, many, operatorName, operatorNumber}
 use Rattle.paper.specs.Locations as paper
 use Rattle.paper.proofs.Locate.Model.{Got, then, num, tail, piece}
-use Rattle.location_judge.specs.Places.{Stands, Stretch}
+use Rattle.location_judge.specs.Places.{RestIs, Stretch}
 use Rattle.location_judge.specs.Judging.{AreFacts}
 use Rattle.location_judge.specs.declared.pieces.Num.{Num}
 use Rattle.location_judge.specs.declared.pieces.Num.the-variants as num-is
@@ -28,7 +28,7 @@ pub record Reads {A : Type 0} (s : List ℕ) (P : A → Type 0) (g : Got A) (n :
   pub value : A
   pub rest : List ℕ
   pub is : g ≡ some (value, rest)
-  pub stands : Stands s n rest
+  pub stands : RestIs s n rest
   pub holds : P value
 
 -- what is kept of a number
@@ -45,7 +45,7 @@ NumSays s g (num-is.At n v) = Reads s (λ (x : ℕ). v ≡ kept x) g n
 
 pub record Numbers (s : List ℕ) (at : ℕ) (r : Num) : Type 0 where
   pub within : numWithin s at r
-  pub says : (w : List ℕ) → Stands s at w → NumSays s (num w) r
+  pub says : (w : List ℕ) → RestIs s at w → NumSays s (num w) r
 
 -- what is kept of a segment or site; c: it is complemented
 pub record Keeps (c : Bool) (p : paper.Piece) (a : Reach) (odd : Bool) : Type 0 where
@@ -66,16 +66,16 @@ PieceSays s c g (found-is.At n a odd) = Reads s (λ (p : paper.Piece). Keeps c p
 pub record Pairs (s : List ℕ) (at x marks : ℕ) (odd : Bool) (r : Found) : Type 0 where
   pub within : pieceWithin s at r
   pub says : (c : Bool) (f : ℕ → paper.Piece) → ((y : ℕ) → Keeps c (f y) (record { first = x; last = kept y; marks = marks }) odd)
-      → (w : List ℕ) → Stands s at w → PieceSays s c (then (num w) (λ y z. some (f y, z))) r
+      → (w : List ℕ) → RestIs s at w → PieceSays s c (then (num w) (λ y z. some (f y, z))) r
 
 -- whichever first number x is kept of
 pub record Tails (s : List ℕ) (at x marks : ℕ) (less : Bool) (r : Found) : Type 0 where
   pub within : pieceWithin s at r
-  pub says : (c : Bool) (X : ℕ) → x ≡ kept X → marks ≡ mark c 1 + mark less 2 → (w : List ℕ) → Stands s at w → PieceSays s c (tail less X w) r
+  pub says : (c : Bool) (X : ℕ) → x ≡ kept X → marks ≡ mark c 1 + mark less 2 → (w : List ℕ) → RestIs s at w → PieceSays s c (tail less X w) r
 
 pub record Pieces (s : List ℕ) (at : ℕ) (c : Bool) (r : Found) : Type 0 where
   pub within : pieceWithin s at r
-  pub says : (w : List ℕ) → Stands s at w → PieceSays s c (piece w) r
+  pub says : (w : List ℕ) → RestIs s at w → PieceSays s c (piece w) r
 
 -- rule 25, of what is kept of a segment or site
 abbrev pub wrongOf : ℕ → ℕ → ℕ → ℕ → Bool
@@ -94,7 +94,7 @@ OutSays s top g (out-is.Read n f) = Reads s (λ (t : paper.Location). AreFacts t
 -- r is what the model g reads
 pub record Outs (s : List ℕ) (at top : ℕ) (g : List ℕ → Got paper.Location) (r : Out) : Type 0 where
   pub within : outWithin s at r
-  pub says : (w : List ℕ) → Stands s at w → OutSays s top (g w) r
+  pub says : (w : List ℕ) → RestIs s at w → OutSays s top (g w) r
 
 -- an operator's number
 abbrev pub numberOf : paper.Operator → ℕ
@@ -107,12 +107,12 @@ listWithin s at (list-is.At operator from) = (at < from) × Stretch s at from
 abbrev pub ListSays : List ℕ → List ℕ → Listed → Type 0
 ListSays s w list-is.No = (o : paper.Operator) (z : List ℕ) → w ≡ bytes (operatorName o) ++ z → ⊥
 ListSays s w (list-is.At operator from) =
-    (o : paper.Operator) × (operator ≡ numberOf o) × (z : List ℕ) × (w ≡ bytes (operatorName o) ++ z) × Stands s from z
+    (o : paper.Operator) × (operator ≡ numberOf o) × (z : List ℕ) × (w ≡ bytes (operatorName o) ++ z) × RestIs s from z
 
 -- r is the operator that stands at a place
 pub record Lists (s : List ℕ) (at : ℕ) (r : Listed) : Type 0 where
   pub within : listWithin s at r
-  pub says : (w : List ℕ) → Stands s at w → ListSays s w r
+  pub says : (w : List ℕ) → RestIs s at w → ListSays s w r
 
 -- the facts of members and one more
 abbrev pub withMember : Facts → Facts → Facts

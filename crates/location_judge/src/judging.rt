@@ -5,7 +5,7 @@ use crate::operators::list_at;
 use crate::pieces::Found;
 use crate::pieces::is_wrong;
 use crate::pieces::piece;
-use crate::places::byte_is;
+use read_bytes::begins;
 ghost use mathlib.Core.Path.{_≡_};
 ghost use mathlib.Core.Bool.{_||_};
 ghost use Prim.Native.Nat.{_<_};
@@ -106,7 +106,7 @@ fn read(s: &[u8], at: usize, top: u32, depth: usize, turn: bool, far: bool) -> O
                     return Out::Bad;
                 }
                 Out::Read(n, f) => {
-                    if byte_is(s, n, b')') {
+                    if begins(s, n, b")") {
                         return Out::Read(
                             n + 1,
                             Facts {
@@ -145,13 +145,13 @@ fn read(s: &[u8], at: usize, top: u32, depth: usize, turn: bool, far: bool) -> O
                         }
                         Out::Read(n, f) => {
                             all = add_member(all, f);
-                            if byte_is(s, n, b')') {
+                            if begins(s, n, b")") {
                                 if all.count < 2 {
                                     return Out::Bad;
                                 }
                                 return Out::Read(n + 1, all);
                             }
-                            if byte_is(s, n, b',') {
+                            if begins(s, n, b",") {
                                 i = n + 1;
                             } else {
                                 return Out::Bad;

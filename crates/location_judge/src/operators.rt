@@ -1,7 +1,7 @@
 // The words of operators at a place of a part.
-use crate::places::begins;
+use read_bytes::begins;
 ghost use Rattle.paper.specs.Bytes.{bytes};
-ghost use Rattle.location_judge.specs.Places.{Has};
+ghost use Rattle.read_bytes.specs.Words.{There};
 ghost use Rattle.location_judge.specs.Readings.{Lists};
 
 // The operator that stands at a place, by its number, and the place of its first member.
@@ -12,7 +12,7 @@ pub enum Listed {
 
 // Whether a complement stands at a place.
 pub fn complement_at(s: &[u8], at: usize) -> bool
-    ensures { λ r. ⌜ Has (now (s .entry)) at (bytes "complement(") r ⌝ }
+    ensures { λ r. ⌜ There (bytes "complement(") (now (s .entry)) at r ⌝ }
 {
     begins(s, at, b"complement(")
 }

@@ -1,6 +1,5 @@
 // Numbers, segments and sites.
-use crate::places::begins;
-use crate::places::byte_is;
+use read_bytes::begins;
 ghost use mathlib.Core.Path.{_≡_};
 ghost use Prim.Native.Nat.{_≤_};
 ghost use lib.ListN.{length};
@@ -165,7 +164,7 @@ pub fn piece(s: &[u8], at: usize, complemented: bool) -> Found
             return Found::No;
         }
         Num::At(n, x) => {
-            if byte_is(s, n, b'^') {
+            if begins(s, n, b"^") {
                 return pair(s, n + 1, x, base + 8, true);
             }
             return tail(s, n, x, base, false);

@@ -14,7 +14,8 @@ use Rattle.paper.specs.Locations.{Piece, isWrong, Member, Operator, join, order
 use Rattle.paper.specs.Locations.{any, breaks25, Span, spanOf, memberSpan, spans}
 use Rattle.paper.proofs.Locate.Rest.{pieceRest, complementRest, memberRest, fittingRest, listRest, locationRest, locates-rest, same-piece, same-complement}
 use Rattle.paper.proofs.Locate.Pieces.{Follow, Low, piece-low}
-use Rattle.location_judge.specs.Places.{Stands, Has}
+use Rattle.read_bytes.specs.Words.{There}
+use Rattle.location_judge.specs.Places.{RestIs}
 use Rattle.location_judge.specs.Readings.{Lists}
 use Rattle.location_spans.specs.Walking.{Written, Ahead, Behind, Starts}
 use Rattle.location_spans.specs.Walking as walking
@@ -39,19 +40,19 @@ Right L ms = any (λ (m : Member). isWrong L (m .piece)) ms ≡ false
 plain : (m : Member) (v z : List ℕ) → fittingRest true m v z → pieceRest (m .piece) v z
 plain m v z x = subst (λ (c : Bool). complementRest c (pieceRest (m .piece)) v z) (x .0 .1) (x .1)
 
-comma-there : {s : List ℕ} {j : ℕ} {z : List ℕ} → Stands s j (code "," ∷ z) → getD s j 0 ≡ code ","
+comma-there : {s : List ℕ} {j : ℕ} {z : List ℕ} → RestIs s j (code "," ∷ z) → getD s j 0 ≡ code ","
 comma-there {s} {j} st =
     ap (λ (n : ℕ). getD s n 0) (sym (add-zero j)) ∙ sym (getD-drop j s 0 0) ∙ ap (λ (l : List ℕ). getD l 0 0) (st .is)
 
 module _ {s : List ℕ} (L : ℕ) where
-  written : (c : Bool) (p : Piece) {i : ℕ} (v z : List ℕ) → Stands s i v → complementRest c (pieceRest p) v z → Follow z → isWrong L p ≡ false
+  written : (c : Bool) (p : Piece) {i : ℕ} (v z : List ℕ) → RestIs s i v → complementRest c (pieceRest p) v z → Follow z → isWrong L p ≡ false
       → (j : ℕ) × Written s L c p i j z
   written c p {i} v z st x f q =
       let y = same-complement c (same-piece p) .before 0 x in
-      let from : Stands s i (y .0 ++ z) = subst (Stands s i) (y .1) st in
+      let from : RestIs s i (y .0 ++ z) = subst (RestIs s i) (y .1) st in
       (_, record { text = y .0; is = y .2; from = from; to = behind-text (y .0) z from; follow = f; keeps = q })
 
-  list-ahead : (ms : List Member) {i : ℕ} (v z : List ℕ) → Stands s i v → listRest (fittingRest false) ms v (code ")" ∷ z) → Right L ms
+  list-ahead : (ms : List Member) {i : ℕ} (v z : List ℕ) → RestIs s i v → listRest (fittingRest false) ms v (code ")" ∷ z) → Right L ms
       → Ahead s L i (map memberSpan ms)
   list-ahead [] v z st x q = absurd x
   list-ahead (m ∷ []) v z st x q =
@@ -66,8 +67,8 @@ module _ {s : List ℕ} (L : ℕ) where
 
   -- the spans l stand before a `,` at i, and the members ms behind it
   list-behind : {low : ℕ} (ms : List Member) (l : List Span) {i : ℕ} (v z : List ℕ) → Behind s L low i l → low ≤ i → getD s i 0 ≡ code ","
-      → Stands s (i + 1) v → listRest (fittingRest true) ms v (code ")" ∷ z) → Right L ms
-      → (j : ℕ) × Stands s j (code ")" ∷ z) × Behind s L low j (reverseAux (map (λ (m : Member). spanOf true (m .piece)) ms) l)
+      → RestIs s (i + 1) v → listRest (fittingRest true) ms v (code ")" ∷ z) → Right L ms
+      → (j : ℕ) × RestIs s j (code ")" ∷ z) × Behind s L low j (reverseAux (map (λ (m : Member). spanOf true (m .piece)) ms) l)
   list-behind [] l v z b h e st x q = absurd x
   list-behind (m ∷ []) l v z b h e st x q =
       let w = written false (m .piece) v (code ")" ∷ z) st (plain m v (code ")" ∷ z) x) (inr refl) (both-false (isWrong L (m .piece)) false q .0) in
@@ -81,8 +82,8 @@ module _ {s : List ℕ} (L : ℕ) where
       list-behind (n ∷ ms) (spanOf true (m .piece) ∷ l) (y .0) z (walking.Behind.more b h e (w .1)) (omega arith)
       (comma-there (w .1 .to)) (behind-text (bytes ",") (y .0) (w .1 .to)) (y .2) (r .1)
 
-  list-back : (ms : List Member) {low : ℕ} (v z : List ℕ) → Stands s low v → listRest (fittingRest true) ms v (code ")" ∷ z) → Right L ms
-      → (j : ℕ) × Stands s j (code ")" ∷ z) × Behind s L low j (reverseAux (map (λ (m : Member). spanOf true (m .piece)) ms) [])
+  list-back : (ms : List Member) {low : ℕ} (v z : List ℕ) → RestIs s low v → listRest (fittingRest true) ms v (code ")" ∷ z) → Right L ms
+      → (j : ℕ) × RestIs s j (code ")" ∷ z) × Behind s L low j (reverseAux (map (λ (m : Member). spanOf true (m .piece)) ms) [])
   list-back [] v z st x q = absurd x
   list-back (m ∷ []) v z st x q =
       let w = written false (m .piece) v (code ")" ∷ z) st (plain m v (code ")" ∷ z) x) (inr refl) (both-false (isWrong L (m .piece)) false q .0) in
@@ -95,7 +96,7 @@ module _ {s : List ℕ} (L : ℕ) where
       list-behind (n ∷ ms) (spanOf true (m .piece) ∷ []) (y .0) z (walking.Behind.first (w .1)) (written-order (w .1) .0)
       (comma-there (w .1 .to)) (behind-text (bytes ",") (y .0) (w .1 .to)) (y .2) (r .1)
 
-  one-ahead : (m : Member) {w : List ℕ} → Stands s 0 w → memberRest m w [] → Right L (m ∷ []) → Ahead s L 0 (memberSpan m ∷ [])
+  one-ahead : (m : Member) {w : List ℕ} → RestIs s 0 w → memberRest m w [] → Right L (m ∷ []) → Ahead s L 0 (memberSpan m ∷ [])
   one-ahead m {w} st x q =
       walking.Ahead.last (written (m .complemented) (m .piece) w [] st x tt (both-false (isWrong L (m .piece)) false q .0) .1) tt
 
@@ -120,19 +121,19 @@ low-list l order z e = low-letter l e (omega arith)
 
 -- ---- the starts
 
-module _ {s : List ℕ} {t : Bool} (word : Has s 0 (raw (bytes "complement(")) t) where
+module _ {s : List ℕ} {t : Bool} (word : There (raw (bytes "complement(")) s 0 t) where
   module _ (a : t ≡ true) where
     -- what stands in the complement
-    within : {w z : List ℕ} → Stands s 0 w → w ≡ bytes "complement(" ++ z → Stands s 11 z
-    within {w} {z} st e = let b = begun (bytes "complement(") word st a in subst (Stands s 11) (ap (drop 11) (sym (b .1) ∙ e)) (b .2)
+    within : {w z : List ℕ} → RestIs s 0 w → w ≡ bytes "complement(" ++ z → RestIs s 11 z
+    within {w} {z} st e = let b = begun (bytes "complement(") word st a in subst (RestIs s 11) (ap (drop 11) (sym (b .1) ∙ e)) (b .2)
 
-    no-list : {w : List ℕ} (z : List ℕ) (o : Operator) → Stands s 0 w → w ≡ bytes (operatorName o) ++ z → ⊥
+    no-list : {w : List ℕ} (z : List ℕ) (o : Operator) → RestIs s 0 w → w ≡ bytes (operatorName o) ++ z → ⊥
     no-list z o st e = let b = begun (bytes "complement(") word st a in complement-list o (b .0) z (sym (b .1) ∙ e)
 
     pub start-turned : Lists s 11 list-is.No → Starts s (walk.Ahead 0)
     start-turned h L w t e x q = go t (locates-rest x) q
       where
-        st : Stands s 0 w
+        st : RestIs s 0 w
         st = whole e
 
         go : (t : Location) → locationRest t w [] → breaks25 L t ≡ false → Ahead s L 0 (spans t)
@@ -143,7 +144,7 @@ module _ {s : List ℕ} {t : Bool} (word : Has s 0 (raw (bytes "complement(")) t
     pub start-back : {op from : ℕ} → Lists s 11 (list-is.At op from) → Starts s (walk.Behind from (length s - 2))
     start-back {op} {from} h L w t e x q = go t (locates-rest x) q
       where
-        st : Stands s 0 w
+        st : RestIs s 0 w
         st = whole e
 
         single : (c : Bool) (p : Piece) → complementRest c (pieceRest p) w [] → ⊥
@@ -159,7 +160,7 @@ module _ {s : List ℕ} {t : Bool} (word : Has s 0 (raw (bytes "complement(")) t
             let v : k .2 ≡ i .0 = same-list (k .0) o (k .2) (i .0) (sym (k .3) ∙ i .1) in
             let d = i .2 .2 ∙ ap (λ (z : List ℕ). code ")" ∷ z) (y .2 .2) in
             let u = subst (listRest (fittingRest true) ms (i .0)) d (i .2 .1 .1) in
-            let b = list-back L ms (i .0) (bytes ")") (subst (Stands s from) v (k .4)) u q in
+            let b = list-back L ms (i .0) (bytes ")") (subst (RestIs s from) v (k .4)) u q in
             let n : b .0 ≡ length s - 2 = omega (arith, b .1 .inside, ap length (b .1 .is), length-drop (b .0) s) in
             subst (λ (j : ℕ). Behind s L from j (spans (many true o ms))) n (b .2)
 
@@ -167,7 +168,7 @@ module _ {s : List ℕ} {t : Bool} (word : Has s 0 (raw (bytes "complement(")) t
     pub start-plain : Lists s 0 list-is.No → Starts s (walk.Ahead 0)
     start-plain h L w t e x q = go t (locates-rest x) q
       where
-        st : Stands s 0 w
+        st : RestIs s 0 w
         st = whole e
 
         go : (t : Location) → locationRest t w [] → breaks25 L t ≡ false → Ahead s L 0 (spans t)
@@ -178,7 +179,7 @@ module _ {s : List ℕ} {t : Bool} (word : Has s 0 (raw (bytes "complement(")) t
     pub start-list : {op from : ℕ} → Lists s 0 (list-is.At op from) → Starts s (walk.Ahead from)
     start-list {op} {from} h L w t e x q = go t (locates-rest x) q
       where
-        st : Stands s 0 w
+        st : RestIs s 0 w
         st = whole e
 
         single : (c : Bool) (p : Piece) → complementRest c (pieceRest p) w [] → ⊥
@@ -192,4 +193,4 @@ module _ {s : List ℕ} {t : Bool} (word : Has s 0 (raw (bytes "complement(")) t
             let k = h .says w st in
             let v : k .2 ≡ y .0 = same-list (k .0) o (k .2) (y .0) (sym (k .3) ∙ y .1) in
             let u = subst (listRest (fittingRest false) ms (y .0)) (y .2 .2) (y .2 .1 .1) in
-            list-ahead L ms (y .0) [] (subst (Stands s from) v (k .4)) u q
+            list-ahead L ms (y .0) [] (subst (RestIs s from) v (k .4)) u q

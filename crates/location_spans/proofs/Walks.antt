@@ -15,7 +15,8 @@ use Rattle.paper.specs.Locations.{Piece, pieceText, complement, isWrong, firstO
 use Rattle.paper.specs.Locations as paper
 use Rattle.paper.proofs.Locate.Rest.{pieceRest, complementRest, same-piece, same-complement}
 use Rattle.paper.proofs.Locate.Pieces.{Follow, Low, piece-low, piece-complete}
-use Rattle.location_judge.specs.Places.{Stands, Has}
+use Rattle.read_bytes.specs.Words.{There}
+use Rattle.location_judge.specs.Places.{RestIs}
 use Rattle.location_judge.specs.Readings.{Keeps, Pieces, wrongOf}
 use Rattle.location_spans.specs.Walking.{Written, Ends, Ahead, Behind, Left, stepsLeft, stepWithin, Yields, Steps, spanIs}
 use Rattle.location_spans.specs.Walking as walking
@@ -35,7 +36,7 @@ use Rattle.location_spans.proofs.Commas.{written-order, start-first, st
 -- ---- members
 
 -- a segment or site that is written is read
-reads-piece : {s : List ℕ} {at : ℕ} {c : Bool} (r : Found) → Pieces s at c r → (p : Piece) (v z : List ℕ) → pieceRest p v z → Stands s at v → Follow z
+reads-piece : {s : List ℕ} {at : ℕ} {c : Bool} (r : Found) → Pieces s at c r → (p : Piece) (v z : List ℕ) → pieceRest p v z → RestIs s at v → Follow z
     → MemberSays s c p z r
 reads-piece found-is.No h p v z x st f = Option·none-ne-some (p, z) (sym (h .says v st) ∙ piece-complete p v z x f)
 reads-piece {s} {c = c} (found-is.At n a odd) h p v z x st f =
@@ -44,7 +45,7 @@ reads-piece {s} {c = c} (found-is.At n a odd) h p v z x st f =
     = Option·some-injective (m .value, m .rest) (p, z) (sym (m .is) ∙ piece-complete p v z x f) in
     let same = ap (λ (y : Piece × List ℕ). y .0) q in
     let left = ap (λ (y : Piece × List ℕ). y .1) q in
-    (subst (λ (k : Piece). Keeps c k a odd) same (m .holds), subst (Stands s n) left (m .stands))
+    (subst (λ (k : Piece). Keeps c k a odd) same (m .holds), subst (RestIs s n) left (m .stands))
 
 rest-of : (c : Bool) (p : Piece) (u z : List ℕ) → complement c (pieceText p) 0 u → complementRest c (pieceRest p) (u ++ z) z
 rest-of c p u z x = same-complement c (same-piece p) .leaves 0 (u, refl, x)
@@ -53,17 +54,17 @@ rest-of c p u z x = same-complement c (same-piece p) .leaves 0 (u, refl, x)
 pub low-letter : {w : List ℕ} → Low w → {a : ℕ} {v : List ℕ} → w ≡ a ∷ v → 63 ≤ a → ⊥
 low-letter l e h = omega (arith, l .3, ap (λ (x : List ℕ). getD x 0 0) (sym (l .2) ∙ e))
 
-module _ {s : List ℕ} {at : ℕ} {t : Bool} (word : Has s at (raw (bytes "complement(")) t) where
+module _ {s : List ℕ} {at : ℕ} {t : Bool} (word : There (raw (bytes "complement(")) s at t) where
   pub member-plain : t ≡ false → (r : Found) → Pieces s at false r → Members s at r
   member-plain e r h = record { within = h .within; says = says }
     where
-      says : (c : Bool) (p : Piece) (u z : List ℕ) → complement c (pieceText p) 0 u → Stands s at (u ++ z) → Follow z → MemberSays s c p z r
+      says : (c : Bool) (p : Piece) (u z : List ℕ) → complement c (pieceText p) 0 u → RestIs s at (u ++ z) → Follow z → MemberSays s c p z r
       says true p u z x st f = let y = rest-of true p u z x in absurd (not-begun (bytes "complement(") word st e (y .0) (y .1))
       says false p u z x st f = reads-piece r h p (u ++ z) z (rest-of false p u z x) st f
 
   module _ (e : t ≡ true) where
     -- what stands in the complement is read, and `)` is left
-    inside : (r : Found) → Pieces s (at + 11) true r → (c : Bool) (p : Piece) (u z : List ℕ) → complement c (pieceText p) 0 u → Stands s at (u ++ z)
+    inside : (r : Found) → Pieces s (at + 11) true r → (c : Bool) (p : Piece) (u z : List ℕ) → complement c (pieceText p) 0 u → RestIs s at (u ++ z)
         → (c ≡ true) × MemberSays s true p (code ")" ∷ z) r
     inside r h false p u z x st =
         let b = begun (bytes "complement(") word st e in
@@ -74,12 +75,12 @@ module _ {s : List ℕ} {at : ℕ} {t : Bool} (word : Has s at (raw (bytes "comp
         let q : b .0 ≡ y .0 = ap (drop 11) (sym (b .1) ∙ y .1) in
         let m = y .2 in
         let k : pieceRest p (y .0) (code ")" ∷ z) = subst (pieceRest p (y .0)) (m .2) (m .1) in
-        (refl, reads-piece r h p (y .0) (code ")" ∷ z) k (subst (Stands s (at + 11)) q (b .2)) (inr refl))
+        (refl, reads-piece r h p (y .0) (code ")" ∷ z) k (subst (RestIs s (at + 11)) q (b .2)) (inr refl))
 
     pub member-no : Pieces s (at + 11) true found-is.No → Members s at found-is.No
     member-no h = record { within = tt; says = λ c p u z x st f. inside found-is.No h c p u z x st .1 }
 
-    module _ {n : ℕ} {a : Reach} {odd u : Bool} (h : Pieces s (at + 11) true (found-is.At n a odd)) (bracket : Has s n (raw (bytes ")")) u) where
+    module _ {n : ℕ} {a : Reach} {odd u : Bool} (h : Pieces s (at + 11) true (found-is.At n a odd)) (bracket : There (raw (bytes ")")) s n u) where
       pub member-open : u ≡ false → Members s at found-is.No
       member-open b =
           record {
@@ -98,7 +99,7 @@ module _ {s : List ℕ} {at : ℕ} {t : Bool} (word : Has s at (raw (bytes "comp
                 let m = inside (found-is.At n a odd) h c p v z x st in
                 let y = begun (bytes ")") bracket (m .1 .1) b in
                 let q : y .0 ≡ z = ap (drop 1) (sym (y .1)) in
-                (subst (λ (k : Bool). Keeps k p a odd) (sym (m .0)) (m .1 .0), subst (Stands s (n + 1)) q (y .2));
+                (subst (λ (k : Bool). Keeps k p a odd) (sym (m .0)) (m .1 .0), subst (RestIs s (n + 1)) q (y .2));
           }
 
 pub members-are : {s : List ℕ} {at : ℕ} {r q : Found} → Members s at r → r ≡ q → Members s at q
@@ -142,7 +143,7 @@ module _ {L : ℕ} {a : Reach} {w : Walk} where
 
 -- ---- forward
 
-same-place : {s z : List ℕ} {i j : ℕ} → Stands s i z → Stands s j z → i ≡ j
+same-place : {s z : List ℕ} {i j : ℕ} → RestIs s i z → RestIs s j z → i ≡ j
 same-place {s} {z} {i} {j} a b = omega (arith, a .inside, b .inside, ap length (a .is ∙ sym (b .is)), length-drop i s, length-drop j s)
 
 not-ended : {z v : List ℕ} → Ends z → z ≡ code "," ∷ v → ⊥
@@ -157,7 +158,7 @@ module _ {s : List ℕ} {L at : ℕ} where
       go (walking.Ahead.last {c} {p} {z = z} w e) = h .says c p (w .text) z (w .is) (w .from) (w .follow)
       go (walking.Ahead.more {c} {p} {z = z} w x) = h .says c p (w .text) (code "," ∷ z) (w .is) (w .from) (w .follow)
 
-  module _ (fits : L < 4294967296) {n : ℕ} {a : Reach} {odd t : Bool} (h : Members s at (found-is.At n a odd)) (comma : Has s n (raw (bytes ",")) t) where
+  module _ (fits : L < 4294967296) {n : ℕ} {a : Reach} {odd t : Bool} (h : Members s at (found-is.At n a odd)) (comma : There (raw (bytes ",")) s n t) where
     pub ahead-next : t ≡ true → (r : Next) → Gives L a (walk.Ahead (n + 1)) r → Steps s L (walk.Ahead at) r
     ahead-next b r g =
         let i = h .within in

@@ -9,7 +9,7 @@ use lib.ListN.{getD}
 use Rattle.paper.specs.Locations.{pieceText, complement}
 use Rattle.paper.specs.Locations as paper
 use Rattle.paper.proofs.Locate.Pieces.{Follow}
-use Rattle.location_judge.specs.Places.{Stands}
+use Rattle.location_judge.specs.Places.{RestIs}
 use Rattle.location_judge.specs.Readings.{Keeps, pieceWithin, wrongOf}
 use Rattle.location_judge.specs.declared.pieces.Reach.{Reach}
 use Rattle.location_judge.specs.declared.pieces.Found.{Found}
@@ -31,12 +31,12 @@ pub record Gives (L : ℕ) (a : Reach) (w : Walk) (r : Next) : Type 0 where
 -- r is the member c p, with z behind it
 abbrev pub MemberSays : List ℕ → Bool → paper.Piece → List ℕ → Found → Type 0
 MemberSays s c p z found-is.No = ⊥
-MemberSays s c p z (found-is.At n a odd) = Keeps c p a odd × Stands s n z
+MemberSays s c p z (found-is.At n a odd) = Keeps c p a odd × RestIs s n z
 
 -- r is whichever member is written at a place
 pub record Members (s : List ℕ) (at : ℕ) (r : Found) : Type 0 where
   pub within : pieceWithin s at r
-  pub says : (c : Bool) (p : paper.Piece) (u z : List ℕ) → complement c (pieceText p) 0 u → Stands s at (u ++ z) → Follow z → MemberSays s c p z r
+  pub says : (c : Bool) (p : paper.Piece) (u z : List ℕ) → complement c (pieceText p) 0 u → RestIs s at (u ++ z) → Follow z → MemberSays s c p z r
 
 -- from i to `at` there is no `,`, and i is low or behind one
 pub record LastStart (s : List ℕ) (low at i : ℕ) : Type 0 where

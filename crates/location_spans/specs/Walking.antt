@@ -10,7 +10,7 @@ use Rattle.paper.specs.Locations.{Piece, pieceText, complement, Location, Locat
 use Rattle.paper.specs.Locations as paper
 use Rattle.paper.proofs.Locate.Pieces.{Follow}
 use Rattle.paper.specs.Demands.{Inside}
-use Rattle.location_judge.specs.Places.{Stands}
+use Rattle.location_judge.specs.Places.{RestIs}
 use Rattle.location_spans.specs.declared.walking.Span.{Span}
 use Rattle.location_spans.specs.declared.walking.Walk.{Walk}
 use Rattle.location_spans.specs.declared.walking.Walk.the-variants as walk
@@ -24,8 +24,8 @@ spanIs x = record { first = x .first; last = x .last; marks = x .marks }
 pub record Written (s : List ℕ) (L : ℕ) (c : Bool) (p : Piece) (i j : ℕ) (z : List ℕ) : Type 0 where
   pub text : List ℕ
   pub is : complement c (pieceText p) 0 text
-  pub from : Stands s i (text ++ z)
-  pub to : Stands s j z
+  pub from : RestIs s i (text ++ z)
+  pub to : RestIs s j z
   pub follow : Follow z
   pub keeps : isWrong L p ≡ false
 

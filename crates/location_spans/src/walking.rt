@@ -6,7 +6,7 @@ use location_judge::pieces::Found;
 use location_judge::pieces::Reach;
 use location_judge::pieces::is_wrong;
 use location_judge::pieces::piece;
-use location_judge::places::byte_is;
+use read_bytes::begins;
 ghost use Prim.Native.Nat.{_≤_};
 ghost use lib.ListN.{length};
 ghost use Rattle.location_spans.specs.Walking.{Starts, Steps};
@@ -84,7 +84,7 @@ fn member(s: &[u8], at: usize) -> Found
                 return Found::No;
             }
             Found::At(n, a, odd) => {
-                if byte_is(s, n, b')') {
+                if begins(s, n, b")") {
                     return Found::At(n + 1, a, odd);
                 }
                 return Found::No;
@@ -103,7 +103,7 @@ fn ahead(s: &[u8], at: usize, top: u32) -> Next
             return Next::Done;
         }
         Found::At(n, a, _) => {
-            if byte_is(s, n, b',') {
+            if begins(s, n, b",") {
                 return give(a, top, Walk::Ahead(n + 1));
             }
             return give(a, top, Walk::Done);

@@ -2,41 +2,28 @@
 use Prim.Native.Nat.{ℕ, _+_, _*_, _/_, _%_, _<_}
 use Prim.Native.Char.{code}
 use native.Mathlib.Omega.{arith}
-use mathlib.Core.Path.{_≡_, refl, sym, _∙_}
-use mathlib.Core.Bool.{Bool, true, false, true≢false, _||_}
+use mathlib.Core.Path.{_≡_}
+use mathlib.Core.Bool.{Bool}
 use mathlib.Core.List.{List}
 use lib.Bits.{bitOr}
 use lib.Dec.{eqb}
 use lib.ListN.{getD}
-use borrow.Author.Tests.{eqb-true}
+use Rattle.paper.specs.Bytes.{bytes}
 use Rattle.paper.proofs.Tables.{listed, each-same}
 use Rattle.paper.specs.Translation.{Code}
-use Rattle.protein_code.specs.Stops.{flag, letterHere}
+use Rattle.read_bytes.specs.Numbers.{flag}
+use Rattle.read_bytes.proofs.Numbers.{one-of}
+use Rattle.protein_code.specs.Stops.{letterHere}
 use Rattle.protein_code.specs.Plain.{base, Plain, plainNumber}
 use Rattle.protein_code.specs.Tables.{plainFrom}
-use Rattle.protein_code.proofs.Stopping.{or-flags, flag-none}
 
 -- ---- one of four letters
 
-module _ (b : ℕ) where
-  one-of : (p q r s : Bool) → eqb b (code "a") ≡ p → eqb b (code "c") ≡ q → eqb b (code "g") ≡ r → eqb b (code "t") ≡ s
-      → eqb (flag (p || q || r || s)) 0 ≡ false → Plain b
-  one-of true q r s e f g h k = record { number = 0; small = omega arith; is = eqb-true b _ e }
-  one-of false true r s e f g h k = record { number = 1; small = omega arith; is = eqb-true b _ f }
-  one-of false false true s e f g h k = record { number = 2; small = omega arith; is = eqb-true b _ g }
-  one-of false false false true e f g h k = record { number = 3; small = omega arith; is = eqb-true b _ h }
-  one-of false false false false e f g h k = absurd (true≢false k)
-
-  pub plain-told : (p q r s : ℕ) {n : ℕ} → p ≡ flag (eqb b (code "a")) → q ≡ flag (eqb b (code "c"))
-      → r ≡ flag (eqb b (code "g")) → s ≡ flag (eqb b (code "t"))
-      → n ≡ flag (eqb (bitOr (bitOr (bitOr p q) r) s) 0) → n ≡ 0 → Plain b
-  plain-told p q r s e f g h k z =
-      let A = eqb b (code "a") in
-      let C = eqb b (code "c") in
-      let G = eqb b (code "g") in
-      let T = eqb b (code "t") in
-      let all : bitOr (bitOr (bitOr p q) r) s ≡ flag (A || C || G || T) = rw (e, f, g, h, or-flags A C, or-flags (A || C) G) (or-flags (A || C || G) T) in
-      one-of A C G T refl refl refl refl (rw (← all) (flag-none _ (sym k ∙ z)))
+pub plain-told : (b : ℕ) {p q r s n : ℕ} → p ≡ flag (eqb b (code "a")) → q ≡ flag (eqb b (code "c")) → r ≡ flag (eqb b (code "g"))
+    → s ≡ flag (eqb b (code "t")) → n ≡ flag (eqb (bitOr (bitOr (bitOr p q) r) s) 0) → n ≡ 0 → Plain b
+plain-told b e f g h k z =
+    let o = one-of b (bytes "acgt") (rw (e, f, g, h) at k) z in
+    record { number = o .0; small = o .1; is = o .2 }
 
 -- ---- the letters of plain codons
 

@@ -1,5 +1,5 @@
 -- Stops told by comparing letters: where a table's letters aren't those of three residues they are no stop, by a test over all three sets.
-use Prim.Native.Nat.{ℕ, _+_, _*_, _/_, _%_, _^_, _<_}
+use Prim.Native.Nat.{ℕ, _+_, _*_, _/_, _%_, _<_}
 use native.Mathlib.Omega.{arith}
 use mathlib.Core.Path.{_≡_, refl, sym, ap, _∙_}
 use mathlib.Core.Bool.{Bool, true, false, true≢false, _&&_, _||_, not, cond, and-eq-true-iff}
@@ -10,8 +10,10 @@ use lib.ListN.{getD}
 use borrow.Author.Tests.{eq-eqb}
 use Rattle.paper.specs.Translation.{Code, complementOf, codonLetter}
 use Rattle.paper.proofs.Tables.{listed, each-same}
-use Rattle.protein_code.specs.Tables.{setsLetter, answerAt, stopsFrom}
-use Rattle.protein_code.specs.Stops.{flag, isStop, letterHere, hasSum, isTold}
+use Rattle.read_bytes.specs.Numbers.{flag}
+use Rattle.read_bytes.proofs.Numbers.{flag-none}
+use Rattle.protein_code.specs.Tables.{setsLetter, stopsFrom}
+use Rattle.protein_code.specs.Stops.{isStop, letterHere, isTold}
 use Rattle.protein_code.proofs.Sets.{setOf, letterOf, set-small, set-bases, set-letter, turned-small, turned-twice}
 
 -- ---- tests as numbers
@@ -22,15 +24,11 @@ and-flags true false = refl
 and-flags false true = refl
 and-flags false false = refl
 
-pub or-flags : (p q : Bool) → bitOr (flag p) (flag q) ≡ flag (p || q)
+or-flags : (p q : Bool) → bitOr (flag p) (flag q) ≡ flag (p || q)
 or-flags true true = refl
 or-flags true false = refl
 or-flags false true = refl
 or-flags false false = refl
-
-pub flag-none : (p : Bool) → flag p ≡ 0 → p ≡ false
-flag-none true h = absurd (omega arith)
-flag-none false h = refl
 
 -- of a test and of three joined, as numbers
 module _ (p u v w : Bool) where

@@ -1,7 +1,7 @@
 -- Codons of a strand, and stops told by comparing letters.
 use Prim.Native.Nat.{ℕ, _+_, _%_, _^_}
 use Prim.Native.Char.{code}
-use mathlib.Core.Bool.{Bool, true, false, _&&_, _||_, cond}
+use mathlib.Core.Bool.{Bool, true, false, _&&_, _||_}
 use lib.Dec.{eqb}
 use Rattle.paper.specs.Translation.{Code, complementOf, codonLetter}
 
@@ -12,10 +12,6 @@ letterHere g false x y z = codonLetter g x y z
 
 abbrev pub isStop : ℕ → Bool
 isStop c = eqb c (code "*")
-
--- a test as a number
-abbrev pub flag : Bool → ℕ
-flag b = cond b 1 0
 
 -- the first residue is this letter, and the sum of the two others is one of three
 abbrev pub hasSum : (f p q r x y z : ℕ) → Bool

@@ -1,17 +1,18 @@
 // Genetic codes: from three residues of a sequence to the letter of a protein, on either strand; and for speed from three plain bases to
 // it at once, with tests of stops and of plain bases. All of a code that is looked up is one lent table (tables.rt), with one promise. It
-// relies on the paper. A constant array is stored anew wherever it is named, so a table is named once, in the function that hands it out;
-// a public call takes it there and lends it on.
+// relies on the paper and on read_bytes. A constant array is stored anew wherever it is named, so a table is named once, in the function
+// that hands it out; a public call takes it there and lends it on.
 mod tables;
 
+use read_bytes::equal;
+use read_bytes::two;
 use std::num::wrapping_add_u8;
 ghost use mathlib.Core.Path.{_≡_};
 ghost use mathlib.Core.Bool.{false};
-ghost use Prim.Native.Nat.{_+_, _*_, _<_};
-ghost use lib.Dec.{eqb};
+ghost use Prim.Native.Nat.{_+_, _<_};
 ghost use lib.ListN.{getD};
 ghost use Rattle.paper.specs.Translation.{code1, codonLetter};
-ghost use Rattle.protein_code.specs.Stops.{flag, hasSum, isStop, letterHere};
+ghost use Rattle.protein_code.specs.Stops.{hasSum, isStop, letterHere};
 ghost use Rattle.protein_code.specs.Plain.{Plain, plainNumber};
 ghost use Rattle.protein_code.specs.Tables.{setsLetter, onStrand, SetAt, plainFrom, CodeTable, Coded, codeOf};
 
@@ -57,13 +58,6 @@ pub fn codon(a: u8, b: u8, c: u8, turned: bool, code: &[u8; 5128]) -> u8
 
 // ---- tests as numbers, with no branch, so that a loop that joins them is compiled to vector code
 
-// 1 where two bytes are the same.
-fn equal(a: u8, b: u8) -> u8
-    ensures { λ y. ⌜ y ≡ flag (eqb a b) ⌝ }
-{
-    if a == b { 1 } else { 0 }
-}
-
 // 0 only where the first byte isn't this one, or the sum of the two others is none of three.
 fn has_sum(x: u8, y: u8, z: u8, f: u8, p: u8, q: u8, r: u8) -> u8
     ensures { λ n. ⌜ (n ≡ 0 → hasSum f p q r x y z ≡ false) ⌝ }
@@ -94,13 +88,6 @@ pub fn no_plain(b: u8) -> u8
 }
 
 // ---- plain codons
-
-// Two bytes as one number, the first lowest.
-fn two(a: u8, b: u8) -> u64
-    ensures { λ n. ⌜ n ≡ a + 256 * b ⌝ }
-{
-    a as u64 + 256 * (b as u64)
-}
 
 // The letter of three plain residues x, y, z, as they stand, on a strand. The residue w behind them says nothing: with it the four are
 // compiled to one load.

@@ -1,21 +1,25 @@
--- Words compared eight bytes at a time: eight bytes with one number are the same, and a word alike byte for byte stands there.
+-- Words compared eight bytes at a time: eight bytes with one number are the same. And a word that stands is read.
 use Prim.Native.Nat.{ℕ, zero, suc, _+_, _*_, _-_, _≤_, _<_}
 use native.Mathlib.Decide.{decLe}
 use native.Mathlib.Omega.{arith}
-use mathlib.Core.Path.{_≡_, refl, ap, sym, _∙_}
+use mathlib.Core.Path.{_≡_, ap, sym, _∙_}
 use mathlib.Core.List.{List}
-use lib.ListN.{length, getD, drop, length-drop}
+use lib.ListN.{length, getD, take, drop}
+use lib.Seq.{take-append-seam, take-length}
 use Rattle.paper.specs.Form.{these}
+use Rattle.read_bytes.specs.Numbers.{LowFirst}
+use Rattle.read_bytes.specs.Words.{StandsAt}
+use Rattle.read_bytes.proofs.Words.{Alike}
 use Rattle.read_steps.specs.Follow.{anything}
 use Rattle.read_steps.specs.Reads.{Took}
-use Rattle.read_steps.specs.Words.{Two, Eight, Alike, StandsAt}
-use Rattle.read_steps.proofs.Leaves.{Same, same-more, these-took, at-drop}
+use Rattle.read_steps.specs.Words.{Eight}
+use Rattle.read_steps.proofs.Leaves.{these-took}
 
-two-once : {a b a′ b′ r r′ : ℕ} → Two a b r → Two a′ b′ r′ → r ≡ r′ → (a ≡ a′) × (b ≡ b′)
+two-once : {a b a′ b′ r r′ : ℕ} → LowFirst a b r → LowFirst a′ b′ r′ → r ≡ r′ → (a ≡ a′) × (b ≡ b′)
 two-once x y e =
     (omega (arith, e, x .is, x .low, x .high, y .is, y .low, y .high), omega (arith, e, x .is, x .low, x .high, y .is, y .low, y .high))
 
-pub two-small : {a b r : ℕ} → Two a b r → r < 65536
+two-small : {a b r : ℕ} → LowFirst a b r → r < 65536
 two-small x = omega (arith, x .is, x .low, x .high)
 
 digit : {a q a′ q′ : ℕ} → a < 65536 → a′ < 65536 → a + 65536 * q ≡ a′ + 65536 * q′ → (a ≡ a′) × (q ≡ q′)
@@ -47,36 +51,18 @@ eight-once {s} {x} {m} {n} p q =
     let n₀ : n + 0 ≡ n = omega arith in
     below-eight (λ (k : ℕ). getD s (m + k) 0 ≡ getD x (n + k) 0) (rw (m₀, n₀) (t .0)) (t .1) (u .0) (u .1) (v .0) (v .1) (w .0) (w .1)
 
-module _ (s x : List ℕ) (at : ℕ) where
-  pub alike-none : Alike s at x 0 0
-  alike-none k h l = absurd (omega arith)
-
+module _ (x s : List ℕ) (at : ℕ) where
   -- eight bytes more; they may overlap those before
-  pub alike-more : {from to m r : ℕ} → Alike s at x from to → Eight s (at + m) r → Eight x m r → m ≤ to → Alike s at x from (m + 8)
-  alike-more {from} {to} {m} a p q h k i j = cases (decLe to k)
+  pub alike-more : {to m r : ℕ} → Alike x s at to → Eight s (at + m) r → Eight x m r → m ≤ to → Alike x s at (m + 8)
+  alike-more {to} {m} a p q h k j = cases (decLe to k)
     where
       cases : Dec (to ≤ k) → getD s (at + k) 0 ≡ getD x k 0
       cases (yes l) =
           let e : m + (k - m) ≡ k = omega arith in
           let f : at + m + (k - m) ≡ at + k = omega arith in
           ap (λ (n : ℕ). getD s n 0) (sym f) ∙ eight-once p q (k - m) (omega arith) ∙ ap (λ (n : ℕ). getD x n 0) e
-      cases (no l) = a k i (omega arith)
+      cases (no l) = a k (omega arith)
 
-  -- one byte more
-  pub alike-next : {i : ℕ} → Alike s at x 0 i → getD s (at + i) 0 ≡ getD x i 0 → Alike s at x 0 (i + 1)
-  alike-next {i} a e k h l = cases (decLe i k)
-    where
-      cases : Dec (i ≤ k) → getD s (at + k) 0 ≡ getD x k 0
-      cases (yes m) =
-          let q : i ≡ k = omega arith in
-          ap (λ (n : ℕ). getD s (at + n) 0) (sym q) ∙ e ∙ ap (λ (n : ℕ). getD x n 0) q
-      cases (no m) = a k h (omega arith)
-
-  alike-same : (n : ℕ) → n ≤ length x → at + length x ≤ length s → Alike s at x 0 n → Same (drop at s) x n
-  alike-same zero h l a = refl
-  alike-same (suc n) h l a =
-      same-more (drop at s) x n h (omega (arith, h, l, length-drop at s)) (alike-same n (omega (arith, h)) l (λ k i j. a k i (omega arith)))
-      (at-drop s at (at + n) n refl ∙ a n (omega arith) (omega arith))
-
-pub stands-took : {s x : List ℕ} {at : ℕ} → StandsAt s at x → Took (λ (u : Unit {0}). these x) anything at (drop at s) (length x) (length x)
-stands-took {s} {x} {at} h = these-took x (drop at s) at (alike-same s x at (length x) (omega arith) (h .inside) (h .alike))
+pub stands-took : {x s : List ℕ} {at : ℕ} → StandsAt x s at → Took (λ (u : Unit {0}). these x) anything at (drop at s) (length x) (length x)
+stands-took {x} {s} {at} h =
+    these-took x (drop at s) at (ap (take (length x)) (h .here) ∙ take-append-seam x (drop (at + length x) s) ∙ sym (take-length x))

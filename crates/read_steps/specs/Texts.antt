@@ -52,14 +52,9 @@ pub record Scanned (f : ℕ → Bool) (s : List ℕ) (start stop r : ℕ) : Type
   pub each : Upto f s start r
   pub ends : r < stop → f (getD s r 0) ≡ false
 
--- tests as numbers, to be summed without a branch
+-- tests as numbers, to be joined without a branch
 pub record Below (a b r : ℕ) : Type 0 where
-  pub small : r ≤ 1
   pub none : r ≡ 0 → b ≤ a
-
-pub record Equal (a b r : ℕ) : Type 0 where
-  pub small : r ≤ 1
-  pub none : r ≡ 0 → a ≡ b → ⊥
 
 pub record Odd (b r : ℕ) : Type 0 where
   pub none : r ≡ 0 → isPlain false b ≡ true

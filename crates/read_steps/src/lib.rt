@@ -1,5 +1,7 @@
 // Reading bytes: words, blanks, texts and the end, each as a step from one place to the next; and the bytes of a part.
-// Relies on the definitions of the crate paper (forms and layout). Knows no tag.
+// Relies on the definitions of the crate paper (forms and layout) and on read_bytes. Knows no tag.
+use read_bytes::equal;
+use read_bytes::two;
 ghost use mathlib.Core.Path.{_≡_};
 ghost use mathlib.Core.Bool.{true, false};
 ghost use mathlib.Core.List.{[]};
@@ -8,11 +10,12 @@ ghost use lib.ListN.{length};
 ghost use Rattle.paper.specs.Bytes.{isBlank};
 ghost use Rattle.paper.specs.Form.{these, one};
 ghost use Rattle.paper.specs.Layout;
+ghost use Rattle.read_bytes.specs.Words.{StandsAt};
 ghost use Rattle.read_steps.specs.Parts.{Shows};
 ghost use Rattle.read_steps.specs.Reads.{Reads, Passes, AtEnd, raised, chosen, stayed};
 ghost use Rattle.read_steps.specs.Follow.{Not, anything, nothing};
-ghost use Rattle.read_steps.specs.Words.{Two, Eight, StandsAt};
-ghost use Rattle.read_steps.specs.Texts.{allowedIn, isPlain, isText, letter, One, ClassTable, Scanned, Passed, Below, Equal, Odd, Block};
+ghost use Rattle.read_steps.specs.Words.{Eight};
+ghost use Rattle.read_steps.specs.Texts.{allowedIn, isPlain, isText, letter, One, ClassTable, Scanned, Passed, Below, Odd, Block};
 
 // How far a reading got: `next` is where the next part starts, `far` the furthest place to which some layout goes.
 pub enum Step {
@@ -94,13 +97,6 @@ pub fn lit(s: &[u8], st: Step, x: &[u8]) -> Step
     }
 }
 
-// Two bytes as one number, the first lowest.
-fn two(a: u8, b: u8) -> u64
-    ensures { λ r. ⌜ Two a b r ⌝ }
-{
-    a as u64 + 256 * (b as u64)
-}
-
 // Eight bytes as one number, the first lowest. It is compiled to one load.
 fn eight(s: &[u8], at: usize) -> u64
     requires { ⌜ at + 8 ≤ length (now s) ⌝ }
@@ -112,29 +108,10 @@ fn eight(s: &[u8], at: usize) -> u64
         + 281_474_976_710_656 * two(s[at + 6], s[at + 7])
 }
 
-// Whether the word x stands here, byte by byte.
-pub fn begins(s: &[u8], at: usize, x: &[u8]) -> bool
-    ensures { λ r. ⌜ (r ≡ true → StandsAt (now (s .entry)) at (now (x .entry))) ⌝ }
-{
-    if s.len() < at {
-        return false;
-    }
-    if s.len() - at < x.len() {
-        return false;
-    }
-    let mut i = 0;
-    while i < x.len() {
-        if s[at + i] != x[i] {
-            return false;
-        }
-        i += 1;
-    }
-    true
-}
-
-// The same eight bytes at a time, for a word of eight bytes or more, and else a quick no. The last eight may overlap.
+// Whether the word x stands here, eight bytes at a time: only a yes says so, and a word of less than eight bytes gets a quick no. The last
+// eight may overlap.
 pub fn stands(s: &[u8], at: usize, x: &[u8]) -> bool
-    ensures { λ r. ⌜ (r ≡ true → StandsAt (now (s .entry)) at (now (x .entry))) ⌝ }
+    ensures { λ r. ⌜ (r ≡ true → StandsAt (now (x .entry)) (now (s .entry)) at) ⌝ }
 {
     let n = x.len();
     if n < 8 {
@@ -308,12 +285,6 @@ fn below(a: u8, b: u8) -> u8
     if a < b { 1 } else { 0 }
 }
 
-fn equal(a: u8, b: u8) -> u8
-    ensures { λ r. ⌜ Equal a b r ⌝ }
-{
-    if a == b { 1 } else { 0 }
-}
-
 // 0 only where b stands for itself in every text. Where not all of these are asked for, only a letter or what is near the letters:
 // that takes two tests.
 fn odd(b: u8, all: bool) -> u8
@@ -321,12 +292,12 @@ fn odd(b: u8, all: bool) -> u8
 {
     if all {
         return below(b, 32)
-            + below(126, b)
-            + equal(b, b'<')
-            + equal(b, b'>')
-            + equal(b, b'&')
-            + equal(b, b'"')
-            + equal(b, b'\'');
+            | below(126, b)
+            | equal(b, b'<')
+            | equal(b, b'>')
+            | equal(b, b'&')
+            | equal(b, b'"')
+            | equal(b, b'\'');
     }
     below(b, b'?') | below(b'~', b)
 }

@@ -8,30 +8,30 @@ use lib.ListN.{length, getD, drop}
 use Rattle.paper.specs.Bytes.{bytes, isBlank}
 use Rattle.paper.specs.Form.{these, lit}
 use Rattle.paper.specs.Layout.{blanks, text, close, leaf}
+use Rattle.read_bytes.specs.Words.{StandsAt}
 use Rattle.read_steps.specs.Reads.{Reads, Passes}
 use Rattle.read_steps.specs.Follow.{Not, anything}
 use Rattle.read_steps.specs.Texts.{allowedIn, isText}
-use Rattle.read_steps.specs.Words.{StandsAt}
 use Rattle.read_steps.specs.declared.Step.{Step}
 use Rattle.read_steps.specs.declared.Step.the-variants.{Ok, Fail}
-use Rattle.read_steps.proofs.Leaves.{these-differ, run-stops, at-drop}
+use Rattle.read_steps.proofs.Leaves.{these-differ, run-stops}
 use Rattle.read_steps.proofs.Steps.{step-is}
 use Rattle.read_steps.proofs.Joins.{these-join}
 use Rattle.read_steps.proofs.Words.{stands-took}
 use Rattle.read_tags.specs.Standing.{Usual}
 use Rattle.read_tags.proofs.Tags.{close-reads, body-long, content-reads, leaf-reads}
 
-here : {s : List ℕ} {at : ℕ} → StandsAt s at (bytes ">") → getD (drop at s) 0 0 ≡ 62
-here {s} {at} h = at-drop s at at 0 (omega arith) ∙ ap (λ (n : ℕ). getD s n 0) (omega arith) ∙ h .alike 0 (omega arith) (omega arith)
+here : {s : List ℕ} {at : ℕ} → StandsAt (bytes ">") s at → getD (drop at s) 0 0 ≡ 62
+here h = ap (λ (t : List ℕ). getD t 0 0) (h .here)
 
 module _ {s : List ℕ} {at far : ℕ} where
-  word-passes : {x : List ℕ} → StandsAt s at x → Passes (these x) anything s (Ok at far) (Ok (at + length x) (max far (at + length x)))
+  word-passes : {x : List ℕ} → StandsAt x s at → Passes (these x) anything s (Ok at far) (Ok (at + length x) (max far (at + length x)))
   word-passes {x} h = record { is = (length x, length x, refl, refl, stands-took h) }
 
-  no-blanks : StandsAt s at (bytes ">") → Passes blanks (Not isBlank) s (Ok at far) (Ok at (max far at))
+  no-blanks : StandsAt (bytes ">") s at → Passes blanks (Not isBlank) s (Ok at far) (Ok at (max far at))
   no-blanks h = record { is = (0, 0, omega arith, omega arith, run-stops isBlank (drop at s) at 0 (omega arith) tt (ap isBlank (here h))) }
 
-  not-short : StandsAt s at (bytes ">") → Passes (lit "/>") anything s (Ok at far) (Fail (max far at))
+  not-short : StandsAt (bytes ">") s at → Passes (lit "/>") anything s (Ok at far) (Fail (max far at))
   not-short h =
       record { is = (0, omega arith, these-differ (bytes "/>") (drop at s) at 0 (omega arith) refl (λ e. absurd (omega (arith, sym (here h) ∙ e)))) }
 

@@ -3,10 +3,10 @@ use Prim.Native.Nat.{ℕ, _+_}
 use mathlib.Core.List.{List}
 use lib.ListN.{length}
 use Rattle.paper.specs.Bytes.{bytes}
-use Rattle.read_steps.specs.Words.{StandsAt}
+use Rattle.read_bytes.specs.Words.{StandsAt}
 
 -- a tag of this name stands there, `<` or `</` its mark, with no blank before its `>`
 pub record Usual (s : List ℕ) (at : ℕ) (mark name : List ℕ) : Type 0 where
-  pub marked : StandsAt s at mark
-  pub named : StandsAt s (at + length mark) name
-  pub closed : StandsAt s (at + length mark + length name) (bytes ">")
+  pub marked : StandsAt mark s at
+  pub named : StandsAt name s (at + length mark)
+  pub closed : StandsAt (bytes ">") s (at + length mark + length name)

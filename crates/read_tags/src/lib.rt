@@ -1,8 +1,8 @@
 // Tags, attributes and leaves, each as a step from one place to the next. Relies on the definitions of the crate paper (forms and layout)
-// and on the steps of the crate read_steps. Knows no element of the listing by name.
+// and on the steps of the crates read_bytes and read_steps. Knows no element of the listing by name.
+use read_bytes::begins;
 use read_steps::Step;
 use read_steps::again;
-use read_steps::begins;
 use read_steps::blanks;
 use read_steps::gap;
 use read_steps::lit;

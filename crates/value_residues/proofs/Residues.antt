@@ -1,22 +1,24 @@
 -- Residues: what the place of the first byte that is no symbol says of the residues as read.
 use Prim.Native.Nat.{ℕ, _+_, _≤_, _<_}
-use native.Mathlib.Decide.{decLe, ℕ-discrete}
+use native.Mathlib.Decide.{decLe}
 use native.Mathlib.Omega.{arith}
 use mathlib.Core.Path.{_≡_, refl, sym, ap, _∙_, subst}
 use mathlib.Core.Bool.{true, false, true≢false}
 use mathlib.Core.List.{List}
 use lib.ListN.{length, getD}
 use lib.Dec.{eqb}
-use lib.Bits.{bitAnd}
+use lib.Bits.{bitOr}
 use borrow.Author.Tests.{le-leb, eq-eqb, ne-eqb}
-use Rattle.paper.specs.Bytes.{all, raw}
+use Rattle.paper.specs.Bytes.{bytes, all, raw}
 use Rattle.paper.specs.Rules.{dna, rna, aa, isSymbol}
 use Rattle.paper.specs.Rules as Rules
 use Rattle.paper.proofs.Tables.{Test, at-each}
 use Rattle.paper.proofs.Texts.{raw-once}
+use Rattle.read_bytes.specs.Numbers.{flag}
+use Rattle.read_bytes.proofs.Numbers.{one-of}
 use Rattle.value_words.proofs.Read.{raw-symbols}
 use Rattle.value_words.proofs.Tests.{all-at, at-all}
-use Rattle.value_residues.specs.Residues.{symbolClass, SymbolTable, OfClass, Differs, Strange, Between, Foreign, FirstForeign, Symbols}
+use Rattle.value_residues.specs.Residues.{symbolClass, SymbolTable, OfClass, Strange, Between, Foreign, FirstForeign, Symbols}
 
 -- ---- the table
 
@@ -30,28 +32,20 @@ symbols-right t low high = record { at-byte = at-byte }
 
 -- ---- the walk
 
--- most residues are a base or `n`: where not each of these tests is 1
-pub base-among : {b d e f g h r : ℕ} → Differs b 97 d → Differs b 99 e → Differs b 103 f → Differs b 116 g → Differs b 110 h
-    → r ≡ bitAnd (bitAnd (bitAnd (bitAnd d e) f) g) h → Strange b 1 r
-base-among {b} {d} {e} {f} {g} {h} {r} x y z u v is =
-    record {
-      none = λ o. by-cases o (ℕ-discrete b 97) (ℕ-discrete b 99) (ℕ-discrete b 103) (ℕ-discrete b 116) (ℕ-discrete b 110);
-    }
+-- most residues are a base or `n`
+pub base-among : (b : ℕ) {p q r s u n : ℕ} → p ≡ flag (eqb b 97) → q ≡ flag (eqb b 99) → r ≡ flag (eqb b 103) → s ≡ flag (eqb b 116)
+    → u ≡ flag (eqb b 110) → n ≡ flag (eqb (bitOr (bitOr (bitOr (bitOr p q) r) s) u) 0) → Strange b 1 n
+base-among b {n = n} e f g h k is = record { none = λ z. of-base (is-base z) }
   where
-    base : isSymbol dna b ≡ true → OfClass 1 b
-    base q dna k = q
-    base q rna k = q
-    base q aa k = absurd (omega (arith, k))
+    is-base : n ≡ 0 → isSymbol dna b ≡ true
+    is-base z =
+        let o = one-of b (bytes "acgtn") (rw (e, f, g, h, k) at is) z in
+        ap (isSymbol dna) (o .2) ∙ all-at (isSymbol dna) (bytes "acgtn") (o .0) (o .1) (refl, (refl, (refl, (refl, (refl, tt)))))
 
-    by-cases : r ≡ 0 → Dec (b ≡ 97) → Dec (b ≡ 99) → Dec (b ≡ 103) → Dec (b ≡ 116) → Dec (b ≡ 110) → OfClass 1 b
-    by-cases o (yes q) a2 a3 a4 a5 = base (ap (isSymbol dna) q)
-    by-cases o (no n1) (yes q) a3 a4 a5 = base (ap (isSymbol dna) q)
-    by-cases o (no n1) (no n2) (yes q) a4 a5 = base (ap (isSymbol dna) q)
-    by-cases o (no n1) (no n2) (no n3) (yes q) a5 = base (ap (isSymbol dna) q)
-    by-cases o (no n1) (no n2) (no n3) (no n4) (yes q) = base (ap (isSymbol dna) q)
-    by-cases o (no n1) (no n2) (no n3) (no n4) (no n5) =
-        let w : r ≡ 1 = is ∙ rw (x .one n1, y .one n2, z .one n3, u .one n4, v .one n5) refl in
-        absurd (omega (arith, o, w))
+    of-base : isSymbol dna b ≡ true → OfClass 1 b
+    of-base y dna c = y
+    of-base y rna c = y
+    of-base y aa c = absurd (omega (arith, c))
 
 pub amino-among : {b : ℕ} → 65 ≤ b → b ≤ 90 → OfClass 2 b
 amino-among l h dna k = absurd (omega (arith, k))

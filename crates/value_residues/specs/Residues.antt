@@ -30,10 +30,6 @@ pub record FirstForeign (k : Rules.Kind) (w : List ℕ) (r : ℕ) : Type 0 where
   pub before : (i : ℕ) → i < r → isSymbol k (getD w i 0) ≡ true
   pub there : r < length w → isSymbol k (getD w r 0) ≡ false
 
--- the test of a byte, as a number
-pub record Differs (a b r : ℕ) : Type 0 where
-  pub one : ¬ (a ≡ b) → r ≡ 1
-
 -- b is a symbol of each kind of the class
 abbrev pub OfClass : ℕ → ℕ → Type 0
 OfClass class b = (k : Rules.Kind) → class ≡ symbolClass k → isSymbol k b ≡ true

@@ -1,9 +1,10 @@
 // The residues of a sequence: how many characters they are, the first that is no symbol of its kind, and whether enough of them are
-// defined. Relies on the paper, and on the laws of value_words: what a test tells, and what is written as it reads. It calls none of its
-// functions.
+// defined. Relies on the paper, on read_bytes, and on the laws of value_words: what a test tells, and what is written as it reads. It
+// calls none of the functions of value_words.
+use read_bytes::equal;
 ghost use Prim.Native.Nat.{_+_, _≤_};
 ghost use lib.ListN.{length};
-ghost use Rattle.value_residues.specs.Residues.{Characters, SymbolTable, Symbols, Differs, Strange, Block, Foreign, HasDefined};
+ghost use Rattle.value_residues.specs.Residues.{Characters, SymbolTable, Symbols, Strange, Block, Foreign, HasDefined};
 
 // The class of each byte, sixteen to a line: 1 for the symbols of DNA and RNA, 2 for those of AA, 0 for neither.
 const SYMBOLS: [u8; 256] = *b"\
@@ -55,18 +56,14 @@ pub fn characters(w: &[u8]) -> usize
     n
 }
 
-// 1 where two bytes differ. As a number, so that many tests are joined without a branch.
-fn differs(a: u8, b: u8) -> u8
-    ensures { λ r. ⌜ Differs a b r ⌝ }
-{
-    if a != b { 1 } else { 0 }
-}
-
 // 0 only for the bases and `n`, which most residues are.
 fn no_base(b: u8) -> u8
     ensures { λ r. ⌜ Strange b 1 r ⌝ }
 {
-    differs(b, b'a') & differs(b, b'c') & differs(b, b'g') & differs(b, b't') & differs(b, b'n')
+    equal(
+        equal(b, b'a') | equal(b, b'c') | equal(b, b'g') | equal(b, b't') | equal(b, b'n'),
+        0,
+    )
 }
 
 // 0 only for the symbols of AA.

@@ -1,6 +1,6 @@
 -- Names and identifications, each of which may be missing, and the root's attributes, found by their parts.
 use Prim.Native.Nat.{ℕ, _+_}
-use mathlib.Core.Path.{_≡_, refl, ap, _∙_, subst}
+use mathlib.Core.Path.{_≡_, refl, ap, _∙_}
 use mathlib.Core.Bool.{Bool, true, false}
 use mathlib.Core.List.{List, [], _∷_, _++_}
 use mathlib.Core.Option.{Option, none, some}
@@ -9,11 +9,12 @@ use Rattle.paper.specs.Bytes.{bytes, isBlank}
 use Rattle.paper.specs.Form.{Form, _·_, maybe}
 use Rattle.paper.specs.Tree.{Spoken, Party, Identification}
 use Rattle.paper.specs.Layout.{blanks, tag, attribute, attribute?, content, leaf, spoken, child, child?, holding, identification, party}
+use Rattle.read_bytes.specs.Words.{There}
 use Rattle.read_steps.specs.Follow.{Not, anything, closing}
 use Rattle.read_steps.specs.Texts.{allowedIn, Scanned}
 use Rattle.read_steps.proofs.Fronts.{Leads, leads-seq, leads-less, leads-sharp, starts-sharp}
 use Rattle.read_tags.proofs.Tags.{spoken-element}
-use Rattle.walk_steps.specs.Stands.{There, tagOf, Ends, Finds, FindsContent, FindsMaybe, FindsAttribute, entering, leaving, FindsAttributeMaybe}
+use Rattle.walk_steps.specs.Stands.{tagOf, Ends, Finds, FindsContent, FindsMaybe, FindsAttribute, entering, leaving, FindsAttributeMaybe}
 use Rattle.walk_steps.specs.declared.Found.{Found}
 use Rattle.walk_steps.specs.declared.FoundMaybe.{FoundMaybe}
 use Rattle.walk_steps.specs.declared.Maybe.the-variants.{Absent, Present}
@@ -85,13 +86,13 @@ party-leads name latin x = leads-seq (tagOf name) (child (spoken name) (x .name)
 module _ {name latin s : List ℕ} {at : ℕ} where
   pub party-absent : {q : Bool} → q ≡ false → There (tagOf name) s at q → FindsParty name latin s at (record { part = Absent; next = at })
   party-absent h t l b c o e d fol =
-      let k = missing-none name (party name latin) (party-leads name latin) (subst (There (tagOf name) s at) h t) o d in
+      let k = missing-none name (party name latin) (party-leads name latin) (t .no h) o d in
       rw (k .0) (record { part = tt; next = k .1 })
 
   pub party-present : {q : Bool} {x : Found} {m : FoundMaybe} → q ≡ true → There (tagOf name) s at q → FindsSpoken name s at x → FindsMaybe latin s (x .next) m
       → FindsParty name latin s at (record { part = Present (x .part); next = m .next })
   party-present h t fs fm l b c o e d fol =
-      let k = there-some name (party name latin) (party-leads name latin) l b fol (subst (There (tagOf name) s at) h t) o d in
+      let k = there-some name (party name latin) (party-leads name latin) l b fol (t .yes h) o d in
       let x = k .0 in
       let u = part (child (spoken name) (x .name)) (child? (leaf latin) (x .latin)) (k .2) in
       let st = tag-starts latin (child (leaf latin)) (leaf-leads latin) l (x .latin) (u .2) fol in
@@ -148,11 +149,11 @@ module _ {name s : List ℕ} {at : ℕ} where
   pub identification-absent : {q : Bool} → q ≡ false → There (tagOf name) s at q
       → FindsIdentificationMaybe name s at (record { office = Absent; filed = Absent; next = at })
   identification-absent h t l b o e d fol =
-      let k = missing-none name (child (identification name)) (identification-leads name) (subst (There (tagOf name) s at) h t) o d in
+      let k = missing-none name (child (identification name)) (identification-leads name) (t .no h) o d in
       rw (k .0) (record { office = tt; filed = tt; next = k .1 })
 
   pub identification-present : {q : Bool} {r : FoundIdentification} → q ≡ true → There (tagOf name) s at q → FindsIdentification name s at r
       → FindsIdentificationMaybe name s at r
   identification-present h t finds l b o e d fol =
-      let k = there-some name (child (identification name)) (identification-leads name) l b fol (subst (There (tagOf name) s at) h t) o d in
+      let k = there-some name (child (identification name)) (identification-leads name) l b fol (t .yes h) o d in
       rw (k .1) (finds (k .0) e (k .2) (starts-sharp isBlank l (b .sharps) (drop e s) fol))

@@ -7,8 +7,9 @@ use walk_steps::Maybe;
 use walk_steps::Part;
 ghost use Rattle.paper.specs.Bytes.{bytes, isBlank};
 ghost use Rattle.paper.specs.Layout as Form;
+ghost use Rattle.read_bytes.specs.Words.{There};
 ghost use Rattle.read_steps.specs.Follow.{Not};
-ghost use Rattle.walk_steps.specs.Stands.{There, Ends, Finds};
+ghost use Rattle.walk_steps.specs.Stands.{Ends, Finds};
 ghost use Rattle.walk_header.specs.Header.{FindsSpoken, FindsIdentification, FindsIdentificationMaybe, FindsHeading, FindsParty, FindsAttributes, FindsParties, line, FindsHeader};
 
 // The languageCode of a text that has one, and what follows the text.

@@ -1,6 +1,6 @@
 -- Features passed over, feature tables and sequences, found by their parts.
 use Prim.Native.Nat.{ℕ}
-use mathlib.Core.Path.{_≡_, refl, sym, subst}
+use mathlib.Core.Path.{_≡_, refl, sym}
 use mathlib.Core.Bool.{Bool, true, false}
 use mathlib.Core.List.{List, _∷_, _++_}
 use mathlib.Core.Option.{Option, none, some}
@@ -9,9 +9,10 @@ use Rattle.paper.specs.Bytes.{bytes, isBlank}
 use Rattle.paper.specs.Form.{Form, these, lit, _·_, each, each⁺}
 use Rattle.paper.specs.Tree.{Text, Feature, Table, Sequence, qualifiersOf}
 use Rattle.paper.specs.Layout.{blanks, tag, close, attribute, leaf, child, child?, holding, holding?, qualifier, quals, feature, table, otherIds, inner, sequence}
+use Rattle.read_bytes.specs.Words.{There}
 use Rattle.read_steps.specs.Follow.{Not, Starts, anything, closing}
 use Rattle.read_steps.proofs.Fronts.{Leads, leads-all, leads-seq, leads-less, leads-by, leads-sharp, whole, maybe-starts, each-starts, starts-sharp}
-use Rattle.walk_steps.specs.Stands.{Stands, There, Ends, Over, Finds, FindsMaybe, entering, leaving, shutting, OpensSo, FindsAttribute}
+use Rattle.walk_steps.specs.Stands.{Stands, Ends, Over, Finds, FindsMaybe, entering, leaving, shutting, OpensSo, FindsAttribute}
 use Rattle.walk_steps.specs.declared.Found.{Found}
 use Rattle.walk_steps.specs.declared.FoundMaybe.{FoundMaybe}
 use Rattle.walk_steps.specs.declared.Opened.{Opened}
@@ -98,7 +99,7 @@ module _ {s : List ℕ} {at : ℕ} where
   pub table-absent : {q : Bool} → q ≡ false → There (bytes "<INSDSeq_feature-table") s at q
       → FindsTable s at (record { present = false; place = at; first = at; next = at })
   table-absent h t o e d fol =
-      let k = missing-none (bytes "INSDSeq_feature-table") (child table) table-leads (subst (There (bytes "<INSDSeq_feature-table") s at) h t) o d in
+      let k = missing-none (bytes "INSDSeq_feature-table") (child table) table-leads (t .no h) o d in
       record { table = rw (k .0) refl; next = k .1 }
 
   pub table-present : {q : Bool} {a b c n : ℕ} → q ≡ true → There (bytes "<INSDSeq_feature-table") s at q → Ends (tag (bytes "INSDSeq_feature-table")) anything s at a
@@ -106,7 +107,7 @@ module _ {s : List ℕ} {at : ℕ} where
       → FindsTable s at (record { present = true; place = at; first = b; next = n })
   table-present h t p i f l o e d fol =
       let k = there-some (bytes "INSDSeq_feature-table") (child table) table-leads residuesNext (record { clash = refl; sharps = refl }) fol
-      (subst (There (bytes "<INSDSeq_feature-table") s at) h t) o d in
+      (t .yes h) o d in
       let x = k .0 in
       let y = table-at x (k .2) in
       let u = held (bytes "INSDSeq_feature-table") (each⁺ (child feature) (x .features)) (features-sharp (x .features)) p i (y .1) in

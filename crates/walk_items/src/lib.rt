@@ -12,8 +12,9 @@ ghost use lib.ListN.{length};
 ghost use Rattle.paper.specs.Bytes.{bytes, isBlank};
 ghost use Rattle.paper.specs.Layout as Form;
 ghost use Rattle.paper.specs.Form.{each};
+ghost use Rattle.read_bytes.specs.Words.{There};
 ghost use Rattle.read_steps.specs.Follow.{Not, Starts, closing};
-ghost use Rattle.walk_steps.specs.Stands.{There, Ends, Over};
+ghost use Rattle.walk_steps.specs.Stands.{Ends, Over};
 ghost use Rattle.walk_items.specs.Items.{FindsQualifier, FindsFeature, featureTail, Ending, Endings, FirstEnding, tableClosing, FindsTable, FindsIds, FindsSequence};
 
 // ---- qualifiers and features

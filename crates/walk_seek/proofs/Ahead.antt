@@ -11,9 +11,10 @@ use Rattle.paper.specs.Lists.{Nth, Numbered}
 use Rattle.paper.specs.Form.{Form, each}
 use Rattle.paper.specs.Layout.{child}
 use Rattle.paper.specs.Layout as layout
+use Rattle.read_bytes.specs.Words.{There}
 use Rattle.read_steps.specs.Follow.{Not, Starts, Before, closing}
 use Rattle.read_steps.proofs.Fronts.{Leads}
-use Rattle.walk_steps.specs.Stands.{Stands, There, tagOf, Over}
+use Rattle.walk_steps.specs.Stands.{Stands, tagOf, Over}
 use Rattle.walk_steps.proofs.Places.{from}
 use Rattle.walk_steps.proofs.Loops.{left-none, left-some}
 use Rattle.walk_steps.proofs.Loops as loops

@@ -5,8 +5,9 @@ use walk_items::FoundFeature;
 use walk_items::FoundQualifier;
 use walk_items::FoundSequence;
 ghost use Rattle.paper.specs.Bytes.{isBlank};
+ghost use Rattle.read_bytes.specs.Words.{There};
 ghost use Rattle.read_steps.specs.Follow.{Not};
-ghost use Rattle.walk_steps.specs.Stands.{There, tagOf, Over};
+ghost use Rattle.walk_steps.specs.Stands.{tagOf, Over};
 ghost use Rattle.walk_seek.specs.Items.{nameOf, formOf, Seeks};
 ghost use Rattle.walk_seek.specs.Within.{FeatureFound, QualifierFound};
 

@@ -1,7 +1,7 @@
 -- An attribute, and one that may be missing, found again.
-use Prim.Native.Nat.{ℕ}
+use Prim.Native.Nat.{ℕ, _+_, _<_}
 use native.Mathlib.Omega.{arith}
-use mathlib.Core.Path.{_≡_, refl, sym, _∙_, subst, ap}
+use mathlib.Core.Path.{_≡_, refl, sym, _∙_, ap}
 use mathlib.Core.Bool.{Bool, true, false}
 use mathlib.Core.List.{List, [], _∷_, _++_}
 use mathlib.Core.Option.{Option}
@@ -11,11 +11,13 @@ use Rattle.paper.specs.Bytes.{bytes, isBlank, isPrinted, all}
 use Rattle.paper.specs.Form.{these, lit, _·_}
 use Rattle.paper.specs.Tree.{Text}
 use Rattle.paper.specs.Layout.{gap, text, attribute, attribute?}
+use Rattle.read_bytes.specs.Words.{There}
+use Rattle.read_bytes.proofs.Words.{stands-long}
 use Rattle.read_steps.specs.Follow.{Not, Starts, Named, sharp, skip}
 use Rattle.read_steps.specs.Texts.{Scanned}
 use Rattle.read_steps.proofs.Fronts.{leads-all, leads-sharp, named-sharp, gap-blank}
 use Rattle.read_tags.proofs.Tags.{attribute-leads}
-use Rattle.walk_steps.specs.Stands.{Stands, Past, There, others, IsMaybe, FindsAttribute, FindsAttributeMaybe}
+use Rattle.walk_steps.specs.Stands.{Stands, Past, others, IsMaybe, FindsAttribute, FindsAttributeMaybe}
 use Rattle.walk_steps.specs.declared.Found.{Found}
 use Rattle.walk_steps.specs.declared.Maybe.the-variants.{Absent, Present}
 use Rattle.walk_steps.proofs.Places.{part, these-inside, before, from, past-these, split, scan-end}
@@ -61,18 +63,21 @@ skip-at {s} {at} c =
     let size = scan-end isBlank c (x .0) (skip (drop at s)) (x .1) (x .2) (x .3) in
     sym (drop-append-seam (x .0) (skip (drop at s))) ∙ ap (drop (length (x .0))) (sym (x .1)) ∙ drop-drop (length (x .0)) at s ∙ ap (λ (i : ℕ). drop i s) (sym size)
 
+named-long : (x : List ℕ) → Named x → 0 < length x
+named-long [] n = absurd n
+named-long (b ∷ x) n = omega arith
+
 module _ (name : List ℕ) {s : List ℕ} {at h : ℕ} (c : Scanned isBlank s at (length s) h) where
   pub attribute-absent : {q : Bool} → q ≡ false → There name s h q → FindsAttributeMaybe name s at (record { part = Absent; next = at })
   attribute-absent k t named l other o e d fol =
       absent-by skip name (attribute name) (attribute-leads name (named-sharp name named)) (λ (i : Option (Text ℕ)) (j : ℕ). IsMaybe s i j (record { part = Absent; next = at }))
-      (λ y g. subst (There name s h) k t y (sym (skip-at c) ∙ g)) (record { part = tt; next = refl }) o e d
+      (λ y g. t .no k (stands-long (named-long name named) y (sym (skip-at c) ∙ g))) (record { part = tt; next = refl }) o e d
 
   pub attribute-present : {q : Bool} {r : Found} → q ≡ true → There name s h q → FindsAttribute name s at r
       → FindsAttributeMaybe name s at (record { part = Present (r .part); next = r .next })
   attribute-present {r = r} k t finds named l other =
-      let y = subst (There name s h) k t in
       present-by skip name (attribute name) (attribute-leads name (named-sharp name named)) (λ (i : Option (Text ℕ)) (j : ℕ). IsMaybe s i j (record { part = Present (r .part); next = r .next }))
-      l other (y .0, skip-at c ∙ y .1) (λ a j d n. let f = finds named a j d tt in record { part = f .part; next = f .next })
+      l other (drop (h + length name) s, skip-at c ∙ t .yes k .here) (λ a j d n. let f = finds named a j d tt in record { part = f .part; next = f .next })
 
 pub attribute-starts : (name : List ℕ) → sharp isBlank (name ∷ []) ≡ true → (l : List (List ℕ)) (o : Option (Text ℕ)) {s : List ℕ} {at e : ℕ}
     → Stands (attribute? name o) s at e → Starts l (skip (drop e s)) → Starts (name ∷ l) (skip (drop at s))

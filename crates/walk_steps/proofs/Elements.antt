@@ -11,11 +11,13 @@ use Rattle.paper.specs.Bytes.{bytes, isBlank}
 use Rattle.paper.specs.Form.{Form, lit, run, _·_, _∪_, given, maybe}
 use Rattle.paper.specs.Tree.{Text}
 use Rattle.paper.specs.Layout.{blanks, tag, close, leaf, child, holding, holding?}
+use Rattle.read_bytes.specs.Words.{StandsAt, There}
+use Rattle.read_bytes.proofs.Words.{stands-long}
 use Rattle.read_steps.specs.Follow.{Not, Starts, first, later, Before, anything, closing, clashes, sharp}
 use Rattle.read_steps.specs.Texts.{Scanned}
 use Rattle.read_steps.proofs.Fronts.{Leads, LeadsBy, leads-all, leads-seq, leads-by, leads-sharp, whole, maybe-starts, starts-sharp, starts-apart}
 use Rattle.read_tags.proofs.Tags.{close-leads, leaf-element}
-use Rattle.walk_steps.specs.Stands.{Stands, Past, There, tagOf, isThere, Ends, Finds, FindsMaybe, entering, leaving, shutting, OpensSo, missing, empty, holds}
+use Rattle.walk_steps.specs.Stands.{Stands, Past, tagOf, isThere, Ends, Finds, FindsMaybe, entering, leaving, shutting, OpensSo, missing, empty, holds}
 use Rattle.walk_steps.specs.declared.Found.{Found}
 use Rattle.walk_steps.specs.declared.Maybe.the-variants.{Absent, Present}
 use Rattle.walk_steps.specs.declared.Opened.{Opened}
@@ -61,10 +63,10 @@ leaving-sharp name b e d = no-blank (bytes "</") refl (leads-seq (bytes "</") (c
 pub tag-leads : (name : List ℕ) (F : Form) → Leads (tagOf name) (tag name · F · blanks)
 tag-leads name F = leads-seq (tagOf name) (tag name · F) blanks (leads-seq (tagOf name) (tag name) F (leads-all (tagOf name)))
 
-pub tag-there : (name : List ℕ) (F : Form) {s : List ℕ} {at e : ℕ} → Leads (tagOf name) F → Stands F s at e → (y : List ℕ) × (drop at s ≡ tagOf name ++ y)
-tag-there name F {s} {at} {e} l d =
+pub tag-stands : (name : List ℕ) (F : Form) {s : List ℕ} {at e : ℕ} → Leads (tagOf name) F → Stands F s at e → StandsAt (tagOf name) s at
+tag-stands name F {s} {at} {e} l d =
     let k = l at (d .word) (d .laid) in
-    (k .0 ++ drop e s, d .here ∙ ap (λ (c : List ℕ). c ++ drop e s) (k .1) ∙ append-assoc (tagOf name) (k .0) (drop e s))
+    stands-long (omega arith) (k .0 ++ drop e s) (d .here ∙ ap (λ (c : List ℕ). c ++ drop e s) (k .1) ∙ append-assoc (tagOf name) (k .0) (drop e s))
 
 -- F starts with the word k, seen by the view v. R is what is to be shown of an item that may be missing.
 module _ {A : Type 0} (v : List ℕ → List ℕ) (k : List ℕ) (F : A → Form) (lead : LeadsBy v k F) {s : List ℕ} {at : ℕ} where
@@ -86,14 +88,16 @@ module _ {A : Type 0} (v : List ℕ → List ℕ) (k : List ℕ) (F : A → Form
 
 -- where the tag is not there no such item stands, and where it is one does
 module _ {A : Type 0} (name : List ℕ) (F : A → Form) (leads : (a : A) → Leads (tagOf name) (F a)) {s : List ℕ} {at e : ℕ} where
-  pub missing-none : There (tagOf name) s at false → (o : Option A) → Stands (maybe F o) s at e → (o ≡ none) × (at ≡ e)
-  missing-none t o d = absent-by whole (tagOf name) F (leads-by (tagOf name) F leads) (λ (i : Option A) (j : ℕ). (i ≡ none) × (at ≡ j)) t (refl, refl) o e d
+  pub missing-none : ¬ StandsAt (tagOf name) s at → (o : Option A) → Stands (maybe F o) s at e → (o ≡ none) × (at ≡ e)
+  missing-none t o d =
+      absent-by whole (tagOf name) F (leads-by (tagOf name) F leads) (λ (i : Option A) (j : ℕ). (i ≡ none) × (at ≡ j))
+      (λ y g. t (stands-long (omega arith) y g)) (refl, refl) o e d
 
-  pub there-some : (l : List (List ℕ)) → Before name l → Starts l (drop e s) → There (tagOf name) s at true → (o : Option A) → Stands (maybe F o) s at e
+  pub there-some : (l : List (List ℕ)) → Before name l → Starts l (drop e s) → StandsAt (tagOf name) s at → (o : Option A) → Stands (maybe F o) s at e
       → (a : A) × (o ≡ some a) × Stands (F a) s at e
   there-some l b fol t o d =
       present-by whole (tagOf name) F (leads-by (tagOf name) F leads) (λ (i : Option A) (j : ℕ). (a : A) × (i ≡ some a) × Stands (F a) s at j)
-      l (b .clash) t (λ a j g n. (a, refl, g)) o e d fol
+      l (b .clash) (drop (at + length (tagOf name)) s, t .here) (λ a j g n. (a, refl, g)) o e d fol
 
   pub tag-starts : (l : List (List ℕ)) (o : Option A) → Stands (maybe F o) s at e → Starts l (drop e s) → Starts (tagOf name ∷ l) (drop at s)
   tag-starts l o d fol = starts-by whole (tagOf name) F (leads-by (tagOf name) F leads) l o d fol
@@ -104,13 +108,13 @@ leaf-leads name x = leads-seq (tagOf name) (leaf name x) blanks (leaf-element na
 module _ {name s : List ℕ} {at : ℕ} where
   pub leaf-absent : {q : Bool} → q ≡ false → There (tagOf name) s at q → FindsMaybe name s at (record { part = Absent; next = at })
   leaf-absent h t l b o e d fol =
-      let k = missing-none name (child (leaf name)) (leaf-leads name) (subst (There (tagOf name) s at) h t) o d in
+      let k = missing-none name (child (leaf name)) (leaf-leads name) (t .no h) o d in
       record { part = rw (k .0) tt; next = k .1 }
 
   pub leaf-present : {q : Bool} {r : Found} → q ≡ true → There (tagOf name) s at q → Finds (child (leaf name)) (Not isBlank) s at r
       → FindsMaybe name s at (record { part = Present (r .part); next = r .next })
   leaf-present h t finds l b o e d fol =
-      let k = there-some name (child (leaf name)) (leaf-leads name) l b fol (subst (There (tagOf name) s at) h t) o d in
+      let k = there-some name (child (leaf name)) (leaf-leads name) l b fol (t .yes h) o d in
       let y = finds (k .0) e (k .2) (starts-sharp isBlank l (b .sharps) (drop e s) fol) in
       record { part = rw (k .1) (y .part); next = y .next }
 
@@ -153,15 +157,15 @@ held name C sharp p q d =
 
 module _ {name s : List ℕ} {at : ℕ} where
   pub opens-missing : {q : Bool} → q ≡ false → There (tagOf name) s at q → OpensSo name s at (record { present = false; long = false; first = at })
-  opens-missing h t = missing (subst (There (tagOf name) s at) h t)
+  opens-missing h t = missing (t .no h)
 
   pub opens-empty : {q : Bool} {p a h b n : ℕ} → q ≡ true → There (tagOf name) s at q → Ends (tag name) anything s at a → Scanned isBlank s a (length s) h
       → p ≡ getD s h 0 → p ≡ 47 → Past s h 2 b → Scanned isBlank s b (length s) n → OpensSo name s at (record { present = true; long = false; first = n })
-  opens-empty h t e c g k p d = empty (subst (There (tagOf name) s at) h t) e c (sym g ∙ k) p d
+  opens-empty h t e c g k p d = empty (t .yes h) e c (sym g ∙ k) p d
 
   pub opens-holds : {q : Bool} {p a h b n : ℕ} → q ≡ true → There (tagOf name) s at q → Ends (tag name) anything s at a → Scanned isBlank s a (length s) h
       → p ≡ getD s h 0 → ¬ (p ≡ 47) → Past s h 1 b → Scanned isBlank s b (length s) n → OpensSo name s at (record { present = true; long = true; first = n })
-  opens-holds h t e c g k p d = holds (subst (There (tagOf name) s at) h t) e c (λ j. k (g ∙ j)) p d
+  opens-holds h t e c g k p d = holds (t .yes h) e c (λ j. k (g ∙ j)) p d
 
 -- its children D stand from r on, then its end
 pub record Within (name : List ℕ) (D : Form) (l : List (List ℕ)) (s : List ℕ) (r : Opened) (e : ℕ) : Type 0 where

@@ -12,13 +12,15 @@ use Rattle.paper.specs.Form.{Form, these, lit, _·_}
 use Rattle.paper.specs.Tree.{Text}
 use Rattle.paper.specs.Layout.{blanks, text, tag, close, content, leaf, child}
 use Rattle.paper.proofs.Texts.{spell-cases, raw-all}
+use Rattle.read_bytes.specs.Words.{There}
+use Rattle.read_bytes.proofs.Words.{stands-long, is-there, not-there}
 use Rattle.read_steps.specs.Reads.{Passes}
 use Rattle.read_steps.specs.Follow.{Not, Starts, anything, sharp}
 use Rattle.read_steps.specs.Texts.{allowedIn, Scanned}
 use Rattle.read_steps.specs.declared.Step.the-variants.{Ok, Fail}
 use Rattle.read_steps.proofs.Fronts.{Leads, leads-all, leads-starts, leads-sharp}
 use Rattle.read_tags.proofs.Tags.{Body, Long, body-sharp, close-leads, long-leads}
-use Rattle.walk_steps.specs.Stands.{Stands, Past, There, others, Ends, Finds, FindsContent, IsPart, IsFound}
+use Rattle.walk_steps.specs.Stands.{Stands, Past, others, tagOf, Ends, Finds, FindsContent, IsPart, IsFound}
 use Rattle.walk_steps.specs.declared.Found.{Found}
 use Rattle.walk_steps.proofs.Places.{part, these-inside, before, from, past-these, pasts, scan-end, run-ends}
 
@@ -38,12 +40,12 @@ first-byte b k {F} {s} {at} {e} l d =
     let y = l at (d .word) (d .laid) in
     ap (λ (i : ℕ). getD s i 0) (omega arith) ∙ sym (getD-drop at s 0 0) ∙ ap (λ (u : List ℕ). getD u 0 0) (d .here ∙ ap (λ (u : List ℕ). u ++ drop e s) (y .1))
 
--- whether some bytes stand here, as they are read
-pub there-so : {x s : List ℕ} {at f n g : ℕ} → Passes (these x) anything s (Ok at f) (Ok n g) → There x s at true
-there-so p = let y = p .is .4 in (y .rest, y .split ∙ ap (λ (u : List ℕ). u ++ y .rest) (y .laid))
+-- whether a tag stands here, as it is read
+pub tag-there : {name s : List ℕ} {at f n g : ℕ} → Passes (tag name) anything s (Ok at f) (Ok n g) → There (tagOf name) s at true
+tag-there p = let y = p .is .4 in is-there (stands-long (omega arith) (y .rest) (y .split ∙ ap (λ (u : List ℕ). u ++ y .rest) (y .laid)))
 
-pub there-not : {x s : List ℕ} {at f k : ℕ} → Passes (these x) anything s (Ok at f) (Fail k) → There x s at false
-there-not {x} p y e = p .is .2 .none tt x y refl tt (ap (take (suc (p .is .0))) (sym e))
+pub tag-missing : {name s : List ℕ} {at f k : ℕ} → Passes (tag name) anything s (Ok at f) (Fail k) → There (tagOf name) s at false
+tag-missing {name} p = not-there (λ h. p .is .2 .none tt (tagOf name) _ refl tt (ap (take (suc (p .is .0))) (sym (h .here))))
 
 -- ---- tags
 

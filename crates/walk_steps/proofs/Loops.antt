@@ -1,23 +1,22 @@
 -- A loop over items: what is left of the list stands at the place that the loop has reached.
 use Prim.Native.Nat.{ℕ, _≤_, _<_}
 use native.Mathlib.Omega.{arith}
-use mathlib.Core.Path.{_≡_, refl, sym, ap, _∙_, subst}
+use mathlib.Core.Path.{_≡_, refl, sym, ap, _∙_}
 use mathlib.Core.Bool.{Bool, true, false}
 use mathlib.Core.List.{List, [], _∷_, _++_}
-use lib.ListN.{length, drop, length-drop}
+use lib.ListN.{length, drop}
 use Rattle.paper.specs.Bytes.{isBlank}
 use Rattle.paper.specs.Form.{Form, each}
+use Rattle.read_bytes.specs.Words.{There}
 use Rattle.read_steps.specs.Follow.{Not, Starts, Before}
 use Rattle.read_steps.proofs.Fronts.{Leads, leads-by, leads-long, whole, each-starts, starts-sharp, starts-apart}
-use Rattle.walk_steps.specs.Stands.{Stands, There, tagOf, Over}
+use Rattle.walk_steps.specs.Stands.{Stands, tagOf, Over}
 use Rattle.walk_steps.proofs.Places.{part, before, from, nothing-stands}
-use Rattle.walk_steps.proofs.Elements.{tag-there}
+use Rattle.walk_steps.proofs.Elements.{tag-stands}
 
 -- bytes that stand here, one at least, stand within s
 pub there-inside : (b : ℕ) (x s : List ℕ) (at : ℕ) {q : Bool} → q ≡ true → There (b ∷ x) s at q → at < length s
-there-inside b x s at h t =
-    let y = subst (There (b ∷ x) s at) h t in
-    omega (arith, length-drop at s, ap length (y .1))
+there-inside b x s at h t = omega (arith, t .yes h .inside)
 
 -- the first item of a list, and the others behind it
 pub record Item {A : Type 0} (F : A → Form) (s : List ℕ) (k : List A) (q e : ℕ) : Type 0 where
@@ -37,15 +36,13 @@ module _ {A : Type 0} (name : List ℕ) (F : A → Form) (leads : (a : A) → Le
   left-none h t [] d = (refl, nothing-stands d)
   left-none {q} h t (a ∷ k) d =
       let u = part (F a) (each F k) d in
-      let y = tag-there name (F a) (leads a) (u .1) in
-      absurd (subst (There (tagOf name) s q) h t (y .0) (y .1))
+      absurd (t .no h (tag-stands name (F a) (leads a) (u .1)))
 
   -- where one starts it is the first of the list
   pub left-some : {q e : ℕ} {t : Bool} → Before name fl → t ≡ true → There (tagOf name) s q t → Starts fl (drop e s)
       → (k : List A) → Stands (each F k) s q e → Item F s k q e
   left-some {q} {e} c h t fol [] d =
-      let y = subst (There (tagOf name) s q) h t in
-      absurd (starts-apart (tagOf name) fl (drop e s) (y .0) (c .clash) (ap (λ (i : ℕ). drop i s) (sym (nothing-stands d)) ∙ y .1) fol)
+      absurd (starts-apart (tagOf name) fl (drop e s) _ (c .clash) (ap (λ (i : ℕ). drop i s) (sym (nothing-stands d)) ∙ t .yes h .here) fol)
   left-some {q} {e} c h t fol (a ∷ k) d =
       let u = part (F a) (each F k) d in
       record {

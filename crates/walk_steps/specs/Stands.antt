@@ -10,6 +10,7 @@ use Rattle.paper.specs.Bytes.{bytes, raw, isBlank}
 use Rattle.paper.specs.Form.{Form, lit, _·_, maybe}
 use Rattle.paper.specs.Tree.{Text}
 use Rattle.paper.specs.Layout.{blanks, tag, close, attribute, content, leaf, child, attribute?}
+use Rattle.read_bytes.specs.Words.{StandsAt}
 use Rattle.read_steps.specs.Follow.{Starts, Before, Named, anything, clashes, skip}
 use Rattle.read_steps.specs.Texts.{Scanned}
 use Rattle.walk_steps.specs.declared.Part.{Part}
@@ -31,11 +32,6 @@ pub record Stands (F : Form) (s : List ℕ) (at next : ℕ) : Type 0 where
 -- r is n bytes further
 pub record Past (s : List ℕ) (at n r : ℕ) : Type 0 where
   pub is : n ≤ length (drop at s) → r ≡ at + n
-
--- whether the bytes x stand here
-abbrev pub There : List ℕ → List ℕ → ℕ → Bool → Type 0
-There x s at true = (y : List ℕ) × (drop at s ≡ x ++ y)
-There x s at false = (y : List ℕ) → drop at s ≡ x ++ y → ⊥
 
 -- every byte but this one
 abbrev pub others : ℕ → ℕ → Bool
@@ -106,10 +102,10 @@ shutting name false = lit ""
 
 -- where the children of such an element start
 pub data OpensSo (name s : List ℕ) (at : ℕ) : Opened → Type 0 where
-  missing : There (tagOf name) s at false → OpensSo name s at (record { present = false; long = false; first = at })
-  empty : {a h b n : ℕ} → There (tagOf name) s at true → Ends (tag name) anything s at a → Scanned isBlank s a (length s) h → getD s h 0 ≡ 47
+  missing : ¬ StandsAt (tagOf name) s at → OpensSo name s at (record { present = false; long = false; first = at })
+  empty : {a h b n : ℕ} → StandsAt (tagOf name) s at → Ends (tag name) anything s at a → Scanned isBlank s a (length s) h → getD s h 0 ≡ 47
       → Past s h 2 b → Scanned isBlank s b (length s) n → OpensSo name s at (record { present = true; long = false; first = n })
-  holds : {a h b n : ℕ} → There (tagOf name) s at true → Ends (tag name) anything s at a → Scanned isBlank s a (length s) h → ¬ (getD s h 0 ≡ 47)
+  holds : {a h b n : ℕ} → StandsAt (tagOf name) s at → Ends (tag name) anything s at a → Scanned isBlank s a (length s) h → ¬ (getD s h 0 ≡ 47)
       → Past s h 1 b → Scanned isBlank s b (length s) n → OpensSo name s at (record { present = true; long = true; first = n })
 
 -- whether something that may be missing is there

@@ -1,7 +1,7 @@
 // A walk along a listing that is known to be laid out, by steps that know no element by name: a tag, a text, a leaf, an attribute, the
 // children of an element. Each says where its text stands, and what comes next. What is known to stand is passed by its length and not
-// compared again. A promise speaks of whatever stands at the place; of other bytes it says nothing. Relies on the paper, and in its
-// proofs on the laws of read_steps and read_tags of what may follow what.
+// compared again. A promise speaks of whatever stands at the place; of other bytes it says nothing. Relies on the paper, on
+// read_bytes, read_steps and read_tags for what it compares or passes, and in its proofs on their laws of what may follow what.
 use read_steps::Step;
 ghost use mathlib.Core.Path.{_≡_};
 ghost use Prim.Native.Nat.{_+_, _≤_};
@@ -9,9 +9,10 @@ ghost use mathlib.Core.Bool.{false};
 ghost use lib.ListN.{length, getD};
 ghost use Rattle.paper.specs.Bytes.{isBlank};
 ghost use Rattle.paper.specs.Layout as Form;
+ghost use Rattle.read_bytes.specs.Words.{There};
 ghost use Rattle.read_steps.specs.Follow.{Not, anything};
 ghost use Rattle.read_steps.specs.Texts.{allowedIn, isPlain, Scanned};
-ghost use Rattle.walk_steps.specs.Stands.{Past, There, others, tagOf, Ends, Finds, FindsContent, FindsMaybe, entering, leaving, shutting, OpensSo, FindsAttribute, FindsAttributeMaybe};
+ghost use Rattle.walk_steps.specs.Stands.{Past, others, tagOf, Ends, Finds, FindsContent, FindsMaybe, entering, leaving, shutting, OpensSo, FindsAttribute, FindsAttributeMaybe};
 
 // A text of the listing, from its first byte to the one behind its last.
 pub struct Part {
@@ -37,16 +38,6 @@ pub fn past(s: &[u8], at: usize, n: usize) -> usize
     ensures { λ r. ⌜ Past (now (s .entry)) at n r ⌝ }
 {
     std::num::wrapping_add_usize(at, n)
-}
-
-// Whether the bytes x stand here.
-pub fn there(s: &[u8], at: usize, x: &[u8]) -> bool
-    ensures { λ r. ⌜ There (now (x .entry)) (now (s .entry)) at r ⌝ }
-{
-    match read_steps::lit(s, Step::Ok { next: at, far: at }, x) {
-        Step::Ok { next: _, far: _ } => true,
-        Step::Fail(_) => false,
-    }
 }
 
 // The first place from here on, before `end`, where this byte stands.
@@ -266,7 +257,7 @@ pub fn attribute(s: &[u8], at: usize, name: &[u8]) -> Found
 pub fn attribute_maybe(s: &[u8], at: usize, name: &[u8]) -> FoundMaybe
     ensures { λ r. ⌜ FindsAttributeMaybe (now (name .entry)) (now (s .entry)) at r ⌝ }
 {
-    if there(s, blanks(s, at), name) {
+    if read_bytes::begins(s, blanks(s, at), name) {
         let Found { part, next } = attribute(s, at, name);
         return FoundMaybe {
             part: Maybe::Present(part),

@@ -22,7 +22,7 @@ equal-requires-5 c κs = search needs
 returns : tie.Need-returns
 returns c =
     let args = c .before .before .before .before .before .args in
-    plain-told (args .b) _ _ _ _ (c .before .before .before .before .equal .ensures) (c .before .before .before .equal2 .ensures)
+    plain-told (args .b) (c .before .before .before .before .equal .ensures) (c .before .before .before .equal2 .ensures)
     (c .before .before .equal3 .ensures) (c .before .equal4 .ensures) (c .equal5 .ensures)
 
 pub no-plain-spec : {M : Type 1} → statement M

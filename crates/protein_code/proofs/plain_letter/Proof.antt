@@ -25,7 +25,7 @@ element-copy-out-result : tie.Need-element-copy-out-result
 element-copy-out-result c = search needs
 
 returns : tie.Need-returns
-returns c = rw (c .before .if1 .taken, c .before .before .before .two .ensures, c .before .before .two2 .ensures)
+returns c = rw (c .before .if1 .taken, c .before .before .before .two .ensures .is, c .before .before .two2 .ensures .is)
 
 add-result-2 : tie.Need-add-result-2
 add-result-2 c = search needs
@@ -34,7 +34,7 @@ element-copy-out-result-2 : tie.Need-element-copy-out-result-2
 element-copy-out-result-2 c = search needs
 
 returns-2 : tie.Need-returns-2
-returns-2 c = rw (c .before .if1 .left, c .before .before .before .two .ensures, c .before .before .two2 .ensures)
+returns-2 c = rw (c .before .if1 .left, c .before .before .before .two .ensures .is, c .before .before .two2 .ensures .is)
 
 pub plain-letter-spec : {M : Type 1} → statement M
 plain-letter-spec =

@@ -1,8 +1,9 @@
 -- `read_steps::stands` meets its contract. The loop's invariant: the text has the first `i` bytes of the word. The measure is what is
 -- left of the word.
 use borrow.Author.Needs.{needs}
-use Rattle.read_steps.proofs.Words.{alike-none, alike-more}
-use Rattle.read_steps.specs.Words.{Eight, Alike}
+use Rattle.read_bytes.proofs.Words.{Alike, alike-none, alike-stands}
+use Rattle.read_steps.specs.Words.{Eight}
+use Rattle.read_steps.proofs.Words.{alike-more}
 use lib.ListN.{length}
 use denote.Ref.{now}
 use borrow.Author.Tests.{eqb-true}
@@ -14,7 +15,7 @@ use Rattle.read_steps.proofs.stands.Statement.{statement}
 use Rattle.read_steps.proofs.stands.Tie as tie
 
 abbrev Inv-loop : tie.InvT-loop
-Inv-loop s at x n i₀ i = (i ≤ length x) × Alike s at x 0 i
+Inv-loop s at x n i₀ i = (i ≤ length x) × Alike x s at i
 
 abbrev μ-loop : tie.MeasureT-loop
 μ-loop s at x n i₀ i = length x - i
@@ -34,7 +35,7 @@ returns-3 c = λ e. absurd (true≢false (sym e))
 loop-holds : tie.Need-loop-holds Inv-loop μ-loop
 loop-holds c =
     let args = c .before .before .before .before .before .args in
-    (omega arith, alike-none (now (args .s)) (now (args .x)) (args .at))
+    (omega arith, alike-none (now (args .x)) (now (args .s)) (args .at))
 
 sub-loop : tie.Need-sub-loop Inv-loop μ-loop
 sub-loop c = search needs
@@ -61,7 +62,7 @@ loop-again : tie.Need-loop-again Inv-loop μ-loop
 loop-again c = let l = c .before .before .before .before .loop in
     let a = c .before .before .before .before .before .before .before .before .before .before .args in
     let e = subst (Eight (now (a .s)) (a .at + l .i)) (c .if4 .left) (c .before .before .eight .ensures) in
-    (omega arith, alike-more (now (a .s)) (now (a .x)) (a .at) (l .inv .1) e (c .before .eight2 .ensures) (omega arith))
+    (omega arith, alike-more (now (a .x)) (now (a .s)) (a .at) (l .inv .1) e (c .before .eight2 .ensures) (omega arith))
 
 add-eight-2 : tie.Need-add-eight-2 Inv-loop μ-loop
 add-eight-2 c = search needs
@@ -76,8 +77,8 @@ returns-5 : tie.Need-returns-5 Inv-loop μ-loop
 returns-5 c = λ e.
     let a = c .before .before .before .before .before .before .before .before .before .args in
     let h = subst (Eight (now (a .s)) _) (eqb-true _ _ e) (c .before .eight3 .ensures) in
-    let z = alike-more (now (a .s)) (now (a .x)) (a .at) (c .before .before .before .loop .inv .1) h (c .eight4 .ensures) (omega arith) in
-    record { inside = omega arith; alike = subst (Alike (now (a .s)) (a .at) (now (a .x)) 0) (omega arith) z }
+    let z = alike-more (now (a .x)) (now (a .s)) (a .at) (c .before .before .before .loop .inv .1) h (c .eight4 .ensures) (omega arith) in
+    alike-stands (now (a .x)) (now (a .s)) (a .at) (omega arith) (subst (Alike (now (a .x)) (now (a .s)) (a .at)) (omega arith) z)
 
 pub stands-spec : {M : Type 1} → statement M
 stands-spec =

@@ -8,8 +8,8 @@ use Rattle.walk_steps.proofs.attribute_maybe.Tie as tie
 blanks-requires : tie.Need-blanks-requires
 blanks-requires c κs = search needs
 
-there-requires : tie.Need-there-requires
-there-requires c κs = search needs
+begins-requires : tie.Need-begins-requires
+begins-requires c κs = search needs
 
 attribute-requires : tie.Need-attribute-requires
 attribute-requires c κs = search needs
@@ -18,13 +18,13 @@ returns : tie.Need-returns
 returns c =
     let args = c .before .before .before .before .before .before .before .args in
     attribute-present (now (args .name)) (c .before .before .before .before .blanks .ensures) (c .before .before .if1 .taken)
-    (c .before .before .before .there .ensures) (c .before .attribute .ensures)
+    (c .before .before .before .begins .ensures) (c .before .attribute .ensures)
 
 returns-2 : tie.Need-returns-2
 returns-2 c =
     let args = c .before .before .before .before .before .args in
-    attribute-absent (now (args .name)) (c .before .before .blanks .ensures) (c .if1 .left) (c .before .there .ensures)
+    attribute-absent (now (args .name)) (c .before .before .blanks .ensures) (c .if1 .left) (c .before .begins .ensures)
 
 pub attribute-maybe-spec : {M : Type 1} → statement M
 attribute-maybe-spec =
-    tie.close (tie.spec blanks-requires there-requires attribute-requires returns returns-2)
+    tie.close (tie.spec blanks-requires begins-requires attribute-requires returns returns-2)

@@ -36,8 +36,8 @@ returns c =
 enum-known-n : tie.Need-enum-known-n
 enum-known-n c = search needs
 
-add-t18 : tie.Need-add-t18
-add-t18 c =
+add-t19 : tie.Need-add-t19
+add-t19 c =
     let args = c .before .before .before .before .before .before .before .before .before .args in
     let mark-if = c .before .before .before .before .before .before .before .mark-if in
     omega (
@@ -146,16 +146,19 @@ returns-5 c =
 enum-known-n-3 : tie.Need-enum-known-n-3
 enum-known-n-3 c = search needs
 
-byte-is-requires : tie.Need-byte-is-requires
-byte-is-requires c κs = search needs
+slice-aggregate-begins-3 : tie.Need-slice-aggregate-begins-3
+slice-aggregate-begins-3 c = search needs
+
+begins-requires-3 : tie.Need-begins-requires-3
+begins-requires-3 c κs = search needs
 
 add-pair : tie.Need-add-pair
-add-pair c = omega (arith, room (bytes "^") (c .before .byte-is .ensures) (c .if3 .taken))
+add-pair c = omega (arith, room (bytes "^") (c .before .begins3 .ensures) (c .if3 .taken))
 
 add-pair-2 : tie.Need-add-pair-2
 add-pair-2 c =
-    let args = c .before .before .before .before .before .before .before .before .before .before .before .before .before .before .args in
-    let mark-if = c .before .before .before .before .before .before .before .before .before .before .before .before .mark-if in
+    let args = c .before .before .before .before .before .before .before .before .before .before .before .before .before .before .before .args in
+    let mark-if = c .before .before .before .before .before .before .before .before .before .before .before .before .before .mark-if in
     omega (
       arith,
       mark-if .ensures,
@@ -165,31 +168,31 @@ add-pair-2 c =
 
 pair-requires : tie.Need-pair-requires
 pair-requires c κs =
-    let number3 = c .before .before .before .before .before .number3 in
-    number-is (number3 .ensures) (c .before .before .before .n3 .given .1) .within .1
+    let number3 = c .before .before .before .before .before .before .number3 in
+    number-is (number3 .ensures) (c .before .before .before .before .n3 .given .1) .within .1
 
 returns-6 : tie.Need-returns-6
 returns-6 c =
-    let mark-if = c .before .before .before .before .before .before .before .before .before .before .before .before .before .mark-if in
-    let begins = c .before .before .before .before .before .before .before .before .before .before .before .begins in
-    let if1 = c .before .before .before .before .before .before .before .before .before .before .if1 in
-    let begins2 = c .before .before .before .before .before .before .before .before .begins2 in
-    let if2 = c .before .before .before .before .before .before .before .if2 in
-    let number3 = c .before .before .before .before .before .before .number3 in
+    let mark-if = c .before .before .before .before .before .before .before .before .before .before .before .before .before .before .mark-if in
+    let begins = c .before .before .before .before .before .before .before .before .before .before .before .before .begins in
+    let if1 = c .before .before .before .before .before .before .before .before .before .before .before .if1 in
+    let begins2 = c .before .before .before .before .before .before .before .before .before .begins2 in
+    let if2 = c .before .before .before .before .before .before .before .before .if2 in
+    let number3 = c .before .before .before .before .before .before .before .number3 in
     piece-site (mark-if .ensures)
-    (number-is (number3 .ensures) (c .before .before .before .before .n3 .given .1))
+    (number-is (number3 .ensures) (c .before .before .before .before .before .n3 .given .1))
     (way-digit (begins .ensures)
     (if1 .left)
     (begins2 .ensures)
     (if2 .left))
-    (c .before .before .byte-is .ensures) (c .before .if3 .taken) (c .pair .result) (c .pair .ensures)
+    (c .before .before .begins3 .ensures) (c .before .if3 .taken) (c .pair .result) (c .pair .ensures)
 
 tail-requires-2 : tie.Need-tail-requires-2
 tail-requires-2 c κs =
-    let args = c .before .before .before .before .before .before .before .before .before .before .before .before .before .before .args in
-    let mark-if = c .before .before .before .before .before .before .before .before .before .before .before .before .mark-if in
-    let number3 = c .before .before .before .before .before .number3 in
-    let h = number-is (number3 .ensures) (c .before .before .before .n3 .given .1) .within in (
+    let args = c .before .before .before .before .before .before .before .before .before .before .before .before .before .before .before .args in
+    let mark-if = c .before .before .before .before .before .before .before .before .before .before .before .before .before .mark-if in
+    let number3 = c .before .before .before .before .before .before .number3 in
+    let h = number-is (number3 .ensures) (c .before .before .before .before .n3 .given .1) .within in (
       h .1,
       h .0 .inside,
       omega (
@@ -202,19 +205,19 @@ tail-requires-2 c κs =
 
 returns-7 : tie.Need-returns-7
 returns-7 c =
-    let mark-if = c .before .before .before .before .before .before .before .before .before .before .before .before .before .mark-if in
-    let begins = c .before .before .before .before .before .before .before .before .before .before .before .begins in
-    let if1 = c .before .before .before .before .before .before .before .before .before .before .if1 in
-    let begins2 = c .before .before .before .before .before .before .before .before .begins2 in
-    let if2 = c .before .before .before .before .before .before .before .if2 in
-    let number3 = c .before .before .before .before .before .before .number3 in
+    let mark-if = c .before .before .before .before .before .before .before .before .before .before .before .before .before .before .mark-if in
+    let begins = c .before .before .before .before .before .before .before .before .before .before .before .before .begins in
+    let if1 = c .before .before .before .before .before .before .before .before .before .before .before .if1 in
+    let begins2 = c .before .before .before .before .before .before .before .before .before .begins2 in
+    let if2 = c .before .before .before .before .before .before .before .before .if2 in
+    let number3 = c .before .before .before .before .before .before .before .number3 in
     piece-tail (mark-if .ensures)
-    (number-is (number3 .ensures) (c .before .before .before .before .n3 .given .1))
+    (number-is (number3 .ensures) (c .before .before .before .before .before .n3 .given .1))
     (way-digit (begins .ensures)
     (if1 .left)
     (begins2 .ensures)
     (if2 .left))
-    (c .before .before .byte-is .ensures) (c .before .if3 .left) (c .tail2 .result) (c .tail2 .ensures)
+    (c .before .before .begins3 .ensures) (c .before .if3 .left) (c .tail2 .result) (c .tail2 .ensures)
 
 pub piece-spec : {M : Type 1} → statement M
 piece-spec =
@@ -228,7 +231,7 @@ piece-spec =
     enum-told
     returns
     enum-known-n
-    add-t18
+    add-t19
     returns-2
     slice-aggregate-begins-2
     begins-requires-2
@@ -244,7 +247,8 @@ piece-spec =
     enum-told-3
     returns-5
     enum-known-n-3
-    byte-is-requires
+    slice-aggregate-begins-3
+    begins-requires-3
     add-pair
     add-pair-2
     pair-requires

@@ -19,33 +19,36 @@ returns c = ahead-no (members-are (c .before .before .member .ensures) (c .enum-
 enum-known-n : tie.Need-enum-known-n
 enum-known-n c = search needs
 
-byte-is-requires : tie.Need-byte-is-requires
-byte-is-requires c κs = search needs
+slice-aggregate-begins : tie.Need-slice-aggregate-begins
+slice-aggregate-begins c = search needs
 
-add-t8 : tie.Need-add-t8
-add-t8 c = omega (arith, room (bytes ",") (c .before .byte-is .ensures) (c .if1 .taken))
+begins-requires : tie.Need-begins-requires
+begins-requires c κs = search needs
+
+add-t11 : tie.Need-add-t11
+add-t11 c = omega (arith, room (bytes ",") (c .before .begins .ensures) (c .if1 .taken))
 
 give-requires : tie.Need-give-requires
 give-requires c κs = search needs
 
 returns-2 : tie.Need-returns-2
 returns-2 c =
-    let fits = c .before .before .before .before .before .before .before .before .fits in
-    let member = c .before .before .before .before .before .before .member in
+    let fits = c .before .before .before .before .before .before .before .before .before .fits in
+    let member = c .before .before .before .before .before .before .before .member in
     ahead-next (fits .top .fits)
-    (members-are (member .ensures) (c .before .before .before .before .n .given .1))
-    (c .before .before .byte-is .ensures) (c .before .if1 .taken) (c .give .result) (c .give .ensures)
+    (members-are (member .ensures) (c .before .before .before .before .before .n .given .1))
+    (c .before .before .begins .ensures) (c .before .if1 .taken) (c .give .result) (c .give .ensures)
 
 give-requires-2 : tie.Need-give-requires-2
 give-requires-2 c κs = search needs
 
 returns-3 : tie.Need-returns-3
 returns-3 c =
-    let fits = c .before .before .before .before .before .before .before .before .fits in
-    let member = c .before .before .before .before .before .before .member in
+    let fits = c .before .before .before .before .before .before .before .before .before .fits in
+    let member = c .before .before .before .before .before .before .before .member in
     ahead-last (fits .top .fits)
-    (members-are (member .ensures) (c .before .before .before .before .n .given .1))
-    (c .before .before .byte-is .ensures) (c .before .if1 .left) (c .give2 .result) (c .give2 .ensures)
+    (members-are (member .ensures) (c .before .before .before .before .before .n .given .1))
+    (c .before .before .begins .ensures) (c .before .if1 .left) (c .give2 .result) (c .give2 .ensures)
 
 pub ahead-spec : {M : Type 1} → statement M
 ahead-spec =
@@ -55,8 +58,9 @@ ahead-spec =
     enum-told
     returns
     enum-known-n
-    byte-is-requires
-    add-t8
+    slice-aggregate-begins
+    begins-requires
+    add-t11
     give-requires
     returns-2
     give-requires-2

@@ -28,30 +28,33 @@ returns c =
 enum-known-n : tie.Need-enum-known-n
 enum-known-n c = search needs
 
-byte-is-requires : tie.Need-byte-is-requires
-byte-is-requires c κs = search needs
+slice-aggregate-begins : tie.Need-slice-aggregate-begins
+slice-aggregate-begins c = search needs
 
-add-t10 : tie.Need-add-t10
-add-t10 c = omega (arith, room (bytes ")") (c .before .byte-is .ensures) (c .if2 .taken))
+begins-requires : tie.Need-begins-requires
+begins-requires c κs = search needs
+
+add-t13 : tie.Need-add-t13
+add-t13 c = omega (arith, room (bytes ")") (c .before .begins .ensures) (c .if2 .taken))
 
 returns-2 : tie.Need-returns-2
 returns-2 c =
-    let complement-at = c .before .before .before .before .before .before .before .complement-at in
-    let if1 = c .before .before .before .before .before .before .if1 in
-    let piece = c .before .before .before .before .before .piece in
+    let complement-at = c .before .before .before .before .before .before .before .before .complement-at in
+    let if1 = c .before .before .before .before .before .before .before .if1 in
+    let piece = c .before .before .before .before .before .before .piece in
     member-closed (complement-at .ensures)
     (if1 .taken)
-    (pieces-are (piece .ensures) (c .before .before .before .n .given .1)) (c .before .byte-is .ensures)
+    (pieces-are (piece .ensures) (c .before .before .before .before .n .given .1)) (c .before .begins .ensures)
     (c .if2 .taken)
 
 returns-3 : tie.Need-returns-3
 returns-3 c =
-    let complement-at = c .before .before .before .before .before .before .before .complement-at in
-    let if1 = c .before .before .before .before .before .before .if1 in
-    let piece = c .before .before .before .before .before .piece in
+    let complement-at = c .before .before .before .before .before .before .before .before .complement-at in
+    let if1 = c .before .before .before .before .before .before .before .if1 in
+    let piece = c .before .before .before .before .before .before .piece in
     member-open (complement-at .ensures)
     (if1 .taken)
-    (pieces-are (piece .ensures) (c .before .before .before .n .given .1)) (c .before .byte-is .ensures)
+    (pieces-are (piece .ensures) (c .before .before .before .before .n .given .1)) (c .before .begins .ensures)
     (c .if2 .left)
 
 piece-requires-2 : tie.Need-piece-requires-2
@@ -70,8 +73,9 @@ member-spec =
     enum-told
     returns
     enum-known-n
-    byte-is-requires
-    add-t10
+    slice-aggregate-begins
+    begins-requires
+    add-t13
     returns-2
     returns-3
     piece-requires-2

@@ -1,9 +1,9 @@
--- `protein_code::equal` meets its contract.
+-- `read_bytes::equal` meets its contract.
 use borrow.Author.Tests.{eq-eqb, ne-eqb}
-use Rattle.protein_code.specs.Stops.{flag}
+use Rattle.read_bytes.specs.Numbers.{flag}
 use mathlib.Core.Path.{sym, ap}
-use Rattle.protein_code.proofs.equal.Statement.{statement}
-use Rattle.protein_code.proofs.equal.Tie as tie
+use Rattle.read_bytes.proofs.equal.Statement.{statement}
+use Rattle.read_bytes.proofs.equal.Tie as tie
 
 returns : tie.Need-returns
 returns c = sym (ap flag (eq-eqb _ _ (c .if1 .taken)))

@@ -1,33 +1,31 @@
--- `read_steps::begins` meets its contract. The loop's invariant: the text has the first `i` bytes of the word. The measure is what is
+-- `read_bytes::begins` meets its contract. The loop's invariant: the text has the first `i` bytes of the word. The measure is what is
 -- left of the word.
 use Prim.Native.Nat.{_-_, _≤_}
 use native.Mathlib.Omega.{arith}
-use mathlib.Core.Path.{sym, subst}
-use mathlib.Core.Bool.{true≢false}
+use mathlib.Core.Path.{subst}
 use lib.ListN.{length}
-use Rattle.read_steps.specs.Words.{Alike}
-use Rattle.read_steps.proofs.Words.{alike-none, alike-next}
+use Rattle.read_bytes.proofs.Words.{Alike, alike-none, alike-next, alike-stands, stands-alike, is-there, not-there}
 use borrow.Author.Needs.{needs}
-use Rattle.read_steps.proofs.begins.Statement.{statement}
-use Rattle.read_steps.proofs.begins.Tie as tie
+use Rattle.read_bytes.proofs.begins.Statement.{statement}
+use Rattle.read_bytes.proofs.begins.Tie as tie
 
 abbrev Inv-loop : tie.InvT-loop
-Inv-loop s at x i₀ i = (i ≤ length x) × Alike s at x 0 i
+Inv-loop s at x i₀ i = (i ≤ length x) × Alike x s at i
 
 abbrev μ-loop : tie.MeasureT-loop
 μ-loop s at x i₀ i = length x - i
 
 returns : tie.Need-returns Inv-loop μ-loop
-returns c = λ e. absurd (true≢false (sym e))
+returns c = not-there (λ h. absurd (omega (arith, h .inside)))
 
 sub-if2 : tie.Need-sub-if2 Inv-loop μ-loop
 sub-if2 c = search needs
 
 returns-2 : tie.Need-returns-2 Inv-loop μ-loop
-returns-2 c = λ e. absurd (true≢false (sym e))
+returns-2 c = not-there (λ h. absurd (omega (arith, h .inside)))
 
 loop-holds : tie.Need-loop-holds Inv-loop μ-loop
-loop-holds c = (omega arith, alike-none (c .before .before .args .s .now) (c .before .before .args .x .now) (c .before .before .args .at))
+loop-holds c = (omega arith, alike-none (c .before .before .args .x .now) (c .before .before .args .s .now) (c .before .before .args .at))
 
 add-if3 : tie.Need-add-if3 Inv-loop μ-loop
 add-if3 c = search needs
@@ -39,7 +37,7 @@ shared-slice-read-if3-2 : tie.Need-shared-slice-read-if3-2 Inv-loop μ-loop
 shared-slice-read-if3-2 c = search needs
 
 returns-3 : tie.Need-returns-3 Inv-loop μ-loop
-returns-3 c = λ e. absurd (true≢false (sym e))
+returns-3 c = not-there (λ h. c .if3 .taken (stands-alike h (c .before .before .before .before .loop .i) (omega arith)))
 
 add-i : tie.Need-add-i Inv-loop μ-loop
 add-i c = search needs
@@ -51,13 +49,15 @@ loop-again : tie.Need-loop-again Inv-loop μ-loop
 loop-again c =
     let l = c .before .before .before .before .loop in
     let a = c .before .before .before .before .before .before .before .args in
-    (omega arith, alike-next (a .s .now) (a .x .now) (a .at) (l .inv .1) (c .if3 .left))
+    (omega arith, alike-next (a .x .now) (a .s .now) (a .at) (l .inv .1) (c .if3 .left))
 
 returns-4 : tie.Need-returns-4 Inv-loop μ-loop
 returns-4 c =
     let l = c .before .loop in
     let a = c .before .before .before .before .args in
-    λ e. record { inside = omega arith; alike = subst (Alike (a .s .now) (a .at) (a .x .now) 0) (omega arith) (l .inv .1) }
+    let X = a .x .now in
+    let S = a .s .now in
+    is-there (alike-stands X S (a .at) (omega arith) (subst (Alike X S (a .at)) (omega arith) (l .inv .1)))
 
 pub begins-spec : {M : Type 1} → statement M
 begins-spec =
