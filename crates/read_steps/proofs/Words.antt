@@ -3,8 +3,8 @@ use Prim.Native.Nat.{ℕ, zero, suc, _+_, _*_, _-_, _≤_, _<_}
 use native.Mathlib.Decide.{decLe}
 use native.Mathlib.Omega.{arith}
 use mathlib.Core.Path.{_≡_, refl, ap, sym, _∙_}
-use mathlib.Core.List.{List}
-use lib.ListN.{length, getD, drop, length-drop}
+use mathlib.Core.List.{List, _++_}
+use lib.ListN.{length, getD, drop, length-drop, length-append, List·getD-append}
 use Rattle.paper.specs.Form.{these}
 use Rattle.read_steps.specs.Follow.{anything}
 use Rattle.read_steps.specs.Reads.{Took}
@@ -80,3 +80,11 @@ module _ (s x : List ℕ) (at : ℕ) where
 
 pub stands-took : {s x : List ℕ} {at : ℕ} → StandsAt s at x → Took (λ (u : Unit {0}). these x) anything at (drop at s) (length x) (length x)
 stands-took {s} {x} {at} h = these-took x (drop at s) at (alike-same s x at (length x) (omega arith) (h .inside) (h .alike))
+
+-- and what starts so stands there
+pub starts-stands : {s : List ℕ} {at : ℕ} (x y : List ℕ) → at ≤ length s → drop at s ≡ x ++ y → StandsAt s at x
+starts-stands {s} {at} x y h e =
+    record {
+      inside = omega (arith, h, length-drop at s, ap length e, length-append x y);
+      alike = λ k i j. sym (at-drop s at (at + k) k refl) ∙ ap (λ (l : List ℕ). getD l k 0) e ∙ List·getD-append x y 0 k j;
+    }

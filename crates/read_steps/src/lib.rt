@@ -115,6 +115,7 @@ fn eight(s: &[u8], at: usize) -> u64
 // Whether the word x stands here, byte by byte.
 pub fn begins(s: &[u8], at: usize, x: &[u8]) -> bool
     ensures { λ r. ⌜ (r ≡ true → StandsAt (now (s .entry)) at (now (x .entry))) ⌝ }
+    ensures { λ r. ⌜ (r ≡ false → StandsAt (now (s .entry)) at (now (x .entry)) → ⊥) ⌝ }
 {
     if s.len() < at {
         return false;
@@ -132,7 +133,7 @@ pub fn begins(s: &[u8], at: usize, x: &[u8]) -> bool
     true
 }
 
-// The same eight bytes at a time, for a word of eight bytes or more, and else a quick no. The last eight may overlap.
+// No more than a quick yes: eight bytes at a time, for a word of eight bytes or more. The last eight may overlap.
 pub fn stands(s: &[u8], at: usize, x: &[u8]) -> bool
     ensures { λ r. ⌜ (r ≡ true → StandsAt (now (s .entry)) at (now (x .entry))) ⌝ }
 {

@@ -5,8 +5,8 @@ use mathlib.Core.Path.{_≡_, refl, sym, ap, _∙_}
 use mathlib.Core.Bool.{Bool, true, false, not}
 use mathlib.Core.Logic.{inl, inr}
 use mathlib.Core.List.{List, [], _∷_, _++_}
-use lib.ListN.{length, take, drop, getD}
-use lib.Seq.{getD-drop}
+use lib.ListN.{length, take, drop, getD, length-drop}
+use lib.Seq.{getD-drop, drop-drop}
 use Rattle.paper.specs.Bytes.{bytes, all, raw, spell, isBlank}
 use Rattle.paper.specs.Form.{Form, these, lit, _·_}
 use Rattle.paper.specs.Tree.{Text}
@@ -15,10 +15,12 @@ use Rattle.paper.proofs.Texts.{spell-cases, raw-all}
 use Rattle.read_steps.specs.Reads.{Passes}
 use Rattle.read_steps.specs.Follow.{Not, Starts, anything, sharp}
 use Rattle.read_steps.specs.Texts.{allowedIn, Scanned}
+use Rattle.read_steps.specs.Words.{StandsAt}
 use Rattle.read_steps.specs.declared.Step.the-variants.{Ok, Fail}
 use Rattle.read_steps.proofs.Fronts.{Leads, leads-all, leads-starts, leads-sharp}
+use Rattle.read_steps.proofs.Words.{stands-took, starts-stands}
 use Rattle.read_tags.proofs.Tags.{Body, Long, body-sharp, close-leads, long-leads}
-use Rattle.walk_steps.specs.Stands.{Stands, Past, There, others, Ends, Finds, FindsContent, IsPart, IsFound}
+use Rattle.walk_steps.specs.Stands.{Stands, Past, There, others, tagOf, Ends, Finds, FindsContent, IsPart, IsFound}
 use Rattle.walk_steps.specs.declared.Found.{Found}
 use Rattle.walk_steps.proofs.Places.{part, these-inside, before, from, past-these, pasts, scan-end, run-ends}
 
@@ -46,6 +48,21 @@ pub there-not : {x s : List ℕ} {at f k : ℕ} → Passes (these x) anything s 
 there-not {x} p y e = p .is .2 .none tt x y refl tt (ap (take (suc (p .is .0))) (sym e))
 
 -- ---- tags
+
+-- a tag opens here if its `<` stands here and its name behind it
+module _ (name : List ℕ) {s : List ℕ} {at : ℕ} where
+  pub opens-not : (StandsAt s at (bytes "<") → ⊥) → There (tagOf name) s at false
+  opens-not n y e = n (starts-stands (bytes "<") (name ++ y) (omega (arith, length-drop at s, ap length e)) e)
+
+  pub opens-so : StandsAt s at (bytes "<") → (r : Bool) → (r ≡ true → StandsAt s (at + 1) name) → (r ≡ false → StandsAt s (at + 1) name → ⊥)
+      → There (tagOf name) s at r
+  opens-so p true q n =
+      let a = stands-took p in
+      let b = stands-took (q refl) in
+      let first : drop at s ≡ bytes "<" ++ a .rest = a .split ∙ ap (λ (u : List ℕ). u ++ a .rest) (a .laid) in
+      let others : a .rest ≡ name ++ b .rest = ap (drop 1) (sym first) ∙ drop-drop 1 at s ∙ b .split ∙ ap (λ (u : List ℕ). u ++ b .rest) (b .laid) in
+      (b .rest, first ∙ ap (λ (u : List ℕ). bytes "<" ++ u) others)
+  opens-so p false q n = λ y e. n refl (starts-stands name y (p .inside) (sym (drop-drop 1 at s) ∙ ap (drop 1) e))
 
 pub tag-ends : {name s : List ℕ} {at a r : ℕ} → Past s at 1 a → Past s a (length name) r → Ends (tag name) anything s at r
 tag-ends {name} p q = record { is = λ e d f. pasts (bytes "<") name refl p q d }

@@ -161,10 +161,10 @@ pub struct FoundMaybe {
 pub fn opens(s: &[u8], at: usize, name: &[u8]) -> bool
     ensures { λ r. ⌜ There (tagOf (now (name .entry))) (now (s .entry)) at r ⌝ }
 {
-    match read_tags::tag(s, Step::Ok { next: at, far: at }, name) {
-        Step::Ok { next: _, far: _ } => true,
-        Step::Fail(_) => false,
+    if read_steps::begins(s, at, b"<") {
+        return read_steps::begins(s, at + 1, name);
     }
+    false
 }
 
 // A leaf that may be missing, and the blanks after it.

@@ -18,13 +18,13 @@ abbrev μ-loop : tie.MeasureT-loop
 μ-loop s at x i₀ i = length x - i
 
 returns : tie.Need-returns Inv-loop μ-loop
-returns c = λ e. absurd (true≢false (sym e))
+returns c = (λ e. absurd (true≢false (sym e)), λ e h. omega (arith, h .inside))
 
 sub-if2 : tie.Need-sub-if2 Inv-loop μ-loop
 sub-if2 c = search needs
 
 returns-2 : tie.Need-returns-2 Inv-loop μ-loop
-returns-2 c = λ e. absurd (true≢false (sym e))
+returns-2 c = (λ e. absurd (true≢false (sym e)), λ e h. omega (arith, h .inside))
 
 loop-holds : tie.Need-loop-holds Inv-loop μ-loop
 loop-holds c = (omega arith, alike-none (c .before .before .args .s .now) (c .before .before .args .x .now) (c .before .before .args .at))
@@ -39,7 +39,7 @@ shared-slice-read-if3-2 : tie.Need-shared-slice-read-if3-2 Inv-loop μ-loop
 shared-slice-read-if3-2 c = search needs
 
 returns-3 : tie.Need-returns-3 Inv-loop μ-loop
-returns-3 c = λ e. absurd (true≢false (sym e))
+returns-3 c = (λ e. absurd (true≢false (sym e)), λ e h. c .if3 .taken (h .alike _ (omega arith) (search needs)))
 
 add-i : tie.Need-add-i Inv-loop μ-loop
 add-i c = search needs
@@ -57,7 +57,7 @@ returns-4 : tie.Need-returns-4 Inv-loop μ-loop
 returns-4 c =
     let l = c .before .loop in
     let a = c .before .before .before .before .args in
-    λ e. record { inside = omega arith; alike = subst (Alike (a .s .now) (a .at) (a .x .now) 0) (omega arith) (l .inv .1) }
+    (λ e. record { inside = omega arith; alike = subst (Alike (a .s .now) (a .at) (a .x .now) 0) (omega arith) (l .inv .1) }, λ e. absurd (true≢false e))
 
 pub begins-spec : {M : Type 1} → statement M
 begins-spec =

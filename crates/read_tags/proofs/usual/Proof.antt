@@ -9,7 +9,7 @@ begins-requires : tie.Need-begins-requires
 begins-requires c κs = search needs
 
 add-a : tie.Need-add-a
-add-a c = let h = c .before .begins .ensures (c .if1 .taken) .inside in search needs
+add-a c = let h = c .before .begins .ensures .0 (c .if1 .taken) .inside in search needs
 
 stands-requires : tie.Need-stands-requires
 stands-requires c κs = search needs
@@ -26,7 +26,7 @@ begins-requires-2 c κs = search needs
 returns : tie.Need-returns
 returns c =
     let begins = c .before .before .before .before .before .begins in
-    λ e. record { marked = begins .ensures (c .before .before .before .before .if1 .taken); named = c .before .before .before .stands .ensures (c .before .before .if2 .taken); closed = c .begins2 .ensures e }
+    λ e. record { marked = begins .ensures .0 (c .before .before .before .before .if1 .taken); named = c .before .before .before .stands .ensures (c .before .before .if2 .taken); closed = c .begins2 .ensures .0 e }
 
 returns-2 : tie.Need-returns-2
 returns-2 c = λ e. absurd (true≢false (sym e))
