@@ -1,4 +1,4 @@
--- What follows from the check's promise alone: demand 3 in the words of document 00, and that two allowed answers are equal.
+-- What follows from the check's promise alone: demand 3, and that two allowed answers are equal.
 use Prim.Native.Nat.{ℕ, _≤_}
 use native.Mathlib.Omega.{arith}
 use mathlib.Core.Path.{_≡_, refl, ap, _∙_, subst}
@@ -13,29 +13,13 @@ use Rattle.paper.specs.Layout.{LaidOut, Writes}
 use Rattle.paper.specs.Rules.{L, Broken}
 use Rattle.paper.specs.Answers.{limit, CheckSays, Checked, refuse, give}
 use Rattle.paper.specs.Answers as paper
+use Rattle.paper.specs.Demands.{IsAccepted, Good, Demand3}
 use Rattle.paper.specs.declared.Verdict.{Verdict}
 use Rattle.paper.specs.declared.Verdict.the-variants.{Accepted, Refused}
 use Rattle.paper.proofs.Accepted.{listing, accepts}
-use Rattle.paper.proofs.Inside.{Inside, accepted-inside}
 use Rattle.paper.proofs.Marks.{bare-exactly}
 use Rattle.paper.proofs.Once.{check-once}
 use Rattle.read_layout.proofs.Wholes.{laid-once, writes-once}
-
--- the verdict is that the listing is accepted
-pub record IsAccepted (r : Verdict) : Type 0 where
-  pub total : ℕ
-  pub skipped : ℕ
-  pub features : ℕ
-  pub judged : ℕ
-  pub unjudged : ℕ
-  pub is : r ≡ Accepted total skipped features judged unjudged
-
--- some bare listing is written by the bytes, within the limit, and breaks none of rules 10 to 29
-pub record Good (w : List ℕ) : Type 0 where
-  pub short : length w ≤ limit
-  pub bare : Bare
-  pub writes : Writes bare w
-  pub keeps : (n : ℕ) → ¬ Broken bare n tt
 
 -- two allowed answers are equal
 pub answers-once : (w : List ℕ) (a b : Verdict) → CheckSays w a → CheckSays w b → a ≡ b
@@ -86,7 +70,5 @@ someone-good = exactly listing (Accepted 3 1 3 1 0) accepts .0 (record { total =
 pub no-other : (w : List ℕ) (a b : Bare) → Writes a w → Writes b w → a ≡ b
 no-other w a b x y = writes-once a b x y
 
--- no location of an accepted listing points outside its sequence
-pub none-outside : {w : List ℕ} {t s f j u : ℕ} (c : CheckSays w (Accepted t s f j u)) (q : Sequence ℕ) → q ∈ c .0 .sequences → (g : Feature ℕ) → g ∈ featuresOf q
-    → (x : Location) → Locates x (g .location .read) → (y : Span) → y ∈ spans x → Inside (L q) y
-none-outside c = accepted-inside (c .1)
+pub demand3 : Demand3
+demand3 = record { exactly = exactly; no-other = no-other; someone = (listing, someone-good) }

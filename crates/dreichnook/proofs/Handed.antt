@@ -13,7 +13,9 @@ use Rattle.ask_answers.specs.declared.QualifierAnswer.{QualifierAnswer}
 use Rattle.ask_answers.specs.declared.SpansAnswer.{SpansAnswer}
 use Rattle.ask_answers.specs.declared.TranslationAnswer.{TranslationAnswer}
 use Rattle.dreichnook.specs.Numbers.{part, CheckNumbers, QualifierNumbers}
-use Rattle.dreichnook.proofs.Small.{check-small, sequence-small, feature-small, qualifier-small, spans-small, translation-small, translations-small}
+use Rattle.paper.proofs.Demands.{demand1}
+use Rattle.paper.proofs.Refusals.{refusal-most, ends-most}
+use Rattle.dreichnook.proofs.Operators.{operator-most}
 
 stays : {n r : ℕ} → Narrow n r → n ≤ 37 → n ≡ r
 stays h l = sym (h .says (omega (arith, l)))
@@ -21,19 +23,19 @@ stays h l = sym (h .says (omega (arith, l)))
 module _ {w : List ℕ} where
   pub check-handed : {v : Verdict} {n p t s f j u : ℕ} → CheckSays w v → HandsVerdict v n p t s f j u → CheckNumbers w n p t s f j u
   check-handed x HandsVerdict.accepted = CheckNumbers.accepted x
-  check-handed x (HandsVerdict.refused {p = p} h) =
-      subst (λ (n : ℕ). CheckNumbers w n p 0 0 0 0 0) (stays h (check-small x)) (CheckNumbers.refused x)
+  check-handed x (HandsVerdict.refused {n = n} {p = p} h) =
+      subst (λ (n : ℕ). CheckNumbers w n p 0 0 0 0 0) (stays h (refusal-most (demand1 .check w _ p x))) (CheckNumbers.refused x)
 
   pub sequence-handed : {k : ℕ} {a : SequenceAnswer} {n p d s z : ℕ} → SequenceSays w k (a .number) (a .place) (a .kind) (partIs (a .residues))
       → HandsSequence a n p d s z → SequenceSays w k n p d (part s z)
   sequence-handed {k} {a} x (HandsSequence.sequence h) =
-      subst (λ (n : ℕ). SequenceSays w k n (a .place) (a .kind) (partIs (a .residues))) (stays h (sequence-small x)) x
+      subst (λ (n : ℕ). SequenceSays w k n (a .place) (a .kind) (partIs (a .residues))) (stays h (ends-most (demand1 .sequence w k _ _ _ _ x))) x
 
   module _ {k j : ℕ} where
     pub feature-handed : {a : FeatureAnswer} {n p s z t y : ℕ} → FeatureSays w k j (a .number) (a .place) (partIs (a .key)) (partIs (a .location))
         → HandsFeature a n p s z t y → FeatureSays w k j n p (part s z) (part t y)
     feature-handed {a} x (HandsFeature.feature h) =
-        subst (λ (n : ℕ). FeatureSays w k j n (a .place) (partIs (a .key)) (partIs (a .location))) (stays h (feature-small x)) x
+        subst (λ (n : ℕ). FeatureSays w k j n (a .place) (partIs (a .key)) (partIs (a .location))) (stays h (ends-most (demand1 .feature w k j _ _ _ _ x))) x
 
     pub qualifier-handed : {i : ℕ} {a : QualifierAnswer} {n p s z f t y : ℕ}
         → QualifierSays w k j i (a .number) (a .place) (partIs (a .name)) (a .present) (partIs (a .value)) → HandsQualifier a n p s z f t y
@@ -43,21 +45,21 @@ module _ {w : List ℕ} where
           present = a .present;
           flagged = e;
           says =
-              subst (λ (n : ℕ). QualifierSays w k j i n (a .place) (partIs (a .name)) (a .present) (partIs (a .value))) (stays h (qualifier-small x)) x;
+              subst (λ (n : ℕ). QualifierSays w k j i n (a .place) (partIs (a .name)) (a .present) (partIs (a .value))) (stays h (ends-most (demand1 .qualifier w k j i _ _ _ _ _ x))) x;
         }
 
     pub spans-handed : {out after : List ℕ} {a : SpansAnswer} {n p o c : ℕ} → SpansSays w k j out (a .number) (a .place) (a .operator) (a .count) after
         → HandsSpans a n p o c → SpansSays w k j out n p o c after
     spans-handed {out} {after} {a} x (HandsSpans.spans h g) =
-        let y = spans-small x in
-        subst₂ (λ (n o : ℕ). SpansSays w k j out n (a .place) o (a .count) after) (stays h (y .0)) (stays g (y .1)) x
+        subst₂ (λ (n o : ℕ). SpansSays w k j out n (a .place) o (a .count) after) (stays h (ends-most (demand1 .spans w k j _ _ _ _ out after x)))
+        (stays g (operator-most x)) x
 
     pub translation-handed : {out after : List ℕ} {a : TranslationAnswer} {n p c : ℕ} → TranslationSays w k j out (a .number) (a .place) (a .size) after
         → HandsTranslation a n p c → TranslationSays w k j out n p c after
     translation-handed {out} {after} {a} x (HandsTranslation.translation h) =
-        subst (λ (n : ℕ). TranslationSays w k j out n (a .place) (a .size) after) (stays h (translation-small x)) x
+        subst (λ (n : ℕ). TranslationSays w k j out n (a .place) (a .size) after) (stays h (ends-most (demand1 .translation w k j _ _ _ out after x))) x
 
   pub translations-handed : {k : ℕ} {out after : List ℕ} {a : TranslationAnswer} {n p c : ℕ} → TranslationsSays w k out (a .number) (a .place) (a .size) after
       → HandsTranslation a n p c → TranslationsSays w k out n p c after
   translations-handed {k} {out} {after} {a} x (HandsTranslation.translation h) =
-      subst (λ (n : ℕ). TranslationsSays w k out n (a .place) (a .size) after) (stays h (translations-small x)) x
+      subst (λ (n : ℕ). TranslationsSays w k out n (a .place) (a .size) after) (stays h (ends-most (demand1 .translations w k _ _ _ out after x))) x

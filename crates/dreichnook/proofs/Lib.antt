@@ -1,3 +1,3 @@
-pub mod Small
+pub mod Operators
 pub mod Handed
 pub mod Once

@@ -101,3 +101,5 @@ pub record Demand3 : Type 0 where
   pub exactly : (w : List ℕ) (r : Verdict) → CheckSays w r → IsAccepted r ↔ Good w
   -- ".. and then no other listing is written by those bytes."
   pub no-other : (w : List ℕ) (a b : Bare) → Writes a w → Writes b w → a ≡ b
+  -- so no reader that refuses everything keeps it: there are such bytes
+  pub someone : (w : List ℕ) × Good w

@@ -15,7 +15,6 @@ use Rattle.read_bytes.specs.Numbers.{flag}
 use Rattle.read_bytes.proofs.Numbers.{one-of}
 use Rattle.protein_code.specs.Stops.{letterHere}
 use Rattle.protein_code.specs.Plain.{base, Plain, plainNumber}
-use Rattle.protein_code.specs.Tables.{plainFrom}
 
 -- ---- one of four letters
 
@@ -40,11 +39,11 @@ behind x y z w =
 abbrev codonOf : (ℕ → ℕ → ℕ → ℕ) → ℕ → ℕ
 codonOf f i = f (base (i / 16)) (base (i / 4 % 4)) (base (i % 4))
 
-module _ (g : Code) (t : List ℕ) (turned : Bool) where
+module _ (g : Code) (turned : Bool) (p : List ℕ) where
   abbrev here : ℕ → ℕ → ℕ → ℕ
-  here x y z = getD t (plainFrom turned + plainNumber x y z 0) 0
+  here x y z = getD p (plainNumber x y z 0) 0
 
-  -- the test: at its number each of the 64 has its letter
+  -- the test of a table's part: at its number each of the 64 has its letter
   abbrev pub PlainTest : Type 0
   PlainTest = listed (codonOf here) 0 64 ≡ listed (codonOf (letterHere g turned)) 0 64
 
@@ -53,11 +52,11 @@ module _ (g : Code) (t : List ℕ) (turned : Bool) where
         → here (base a) (base b) (base c) ≡ letterHere g turned (base a) (base b) (base c)
     at-number i a b c h e f k = rw (← e, ← f, ← k) (each-same (codonOf here) (codonOf (letterHere g turned)) 64 same i h)
 
-    pub plain-right : (x y z w : ℕ) → Plain x → Plain y → Plain z → getD t (plainFrom turned + plainNumber x y z w) 0 ≡ letterHere g turned x y z
-    plain-right x y z w p q r =
-        let a = p .number in
-        let b = q .number in
-        let c = r .number in
-        let small : (a < 4) × (b < 4) × (c < 4) = (p .small, q .small, r .small) in
-        rw (behind x y z w, p .is, q .is, r .is)
+    pub plain-right : (x y z w : ℕ) → Plain x → Plain y → Plain z → getD p (plainNumber x y z w) 0 ≡ letterHere g turned x y z
+    plain-right x y z w l m n =
+        let a = l .number in
+        let b = m .number in
+        let c = n .number in
+        let small : (a < 4) × (b < 4) × (c < 4) = (l .small, m .small, n .small) in
+        rw (behind x y z w, l .is, m .is, n .is)
         (at-number (a * 16 + b * 4 + c) a b c (omega (arith, small)) (omega (arith, small)) (omega (arith, small)) (omega (arith, small)))

@@ -3,7 +3,7 @@ use Prim.Native.Nat.{ℕ, _+_, _/_, _<_}
 use Prim.Native.Char.{code}
 use native.Mathlib.Omega.{arith}
 use mathlib.Core.Path.{_≡_, refl, _∙_, subst}
-use mathlib.Core.Bool.{Bool, true, false, cond}
+use mathlib.Core.Bool.{Bool, cond}
 use mathlib.Core.List.{List, [], _∷_}
 use lib.ListN.{take, drop, getD}
 use lib.Seq.{getD-take, getD-drop}
@@ -12,7 +12,7 @@ use borrow.Author.Tests.{ne-eqb}
 use Rattle.paper.specs.Bytes.{bytes}
 use Rattle.paper.specs.Translation.{basesOf, complementOf}
 use Rattle.paper.proofs.Tables.{Test, at-each, each-same}
-use Rattle.protein_code.specs.Tables.{setBases, onStrand, SetAt, setIn}
+use Rattle.protein_code.specs.Tables.{setBases, onStrand, SetAt, setsFrom}
 
 -- a part of a table
 abbrev pub partOf : List ℕ → ℕ → ℕ → List ℕ
@@ -23,18 +23,13 @@ part-at t from n i h = getD-take n (drop from t) i 0 h ∙ getD-drop from t i 0
 
 -- the part that has the sets of a strand
 abbrev pub setsOf : List ℕ → Bool → List ℕ
-setsOf t true = partOf t 256 256
-setsOf t false = partOf t 0 256
-
-set-at : (t : List ℕ) (turned : Bool) (b : ℕ) → b < 256 → getD (setsOf t turned) b 0 ≡ setIn t turned b
-set-at t true b h = part-at t 256 256 b h
-set-at t false b h = getD-take 256 t b 0 h
+setsOf t turned = partOf t (setsFrom turned) 256
 
 pub sets-right : (turned : Bool) (t : List ℕ) → Test (λ (x : ℕ). x / 16) (λ (b : ℕ). 0) (setsOf t turned) 256
     → Test setBases (λ (b : ℕ). basesOf (onStrand turned b)) (setsOf t turned) 256
-    → (b : ℕ) → b < 256 → SetAt turned b (setIn t turned b)
+    → (b : ℕ) → b < 256 → SetAt turned b (getD t (setsFrom turned + b) 0)
 sets-right turned t small bases b h =
-    subst (SetAt turned b) (set-at t turned b h)
+    subst (SetAt turned b) (part-at t (setsFrom turned) 256 b h)
     (record {
       small = omega (arith, at-each (λ (x : ℕ). x / 16) (λ (b : ℕ). 0) (setsOf t turned) 256 small b h);
       bases = at-each setBases (λ (b : ℕ). basesOf (onStrand turned b)) (setsOf t turned) 256 bases b h;

@@ -42,15 +42,14 @@ pub record SetAt (turned : Bool) (b r : ℕ) : Type 0 where
 
 -- ---- the table
 
--- the set of a residue on a strand
-abbrev pub setIn : List ℕ → Bool → ℕ → ℕ
-setIn t true b = getD t (256 + b) 0
-setIn t false b = getD t b 0
+-- where the base sets of a strand start, the letters of its plain codons, and its stops; the answers stand first
+abbrev pub setsFrom : Bool → ℕ
+setsFrom true = 4352
+setsFrom false = 4096
 
--- where the letters of a strand's plain codons start, and its stops; the answers start at 1024
 abbrev pub plainFrom : Bool → ℕ
-plainFrom true = 768
-plainFrom false = 512
+plainFrom true = 4864
+plainFrom false = 4608
 
 abbrev pub stopsFrom : Bool → ℕ
 stopsFrom true = 5124
@@ -63,8 +62,8 @@ SelfSpelt g = map spell g ≡ map (λ (b : ℕ). b ∷ []) g
 -- t is the table of the code g
 pub record CodeTable (g : Code) (t : List ℕ) : Type 0 where
   pub spelt : SelfSpelt g
-  pub sets : (turned : Bool) (b : ℕ) → b < 256 → SetAt turned b (setIn t turned b)
-  pub answer : (i : ℕ) → i < 4096 → getD t (1024 + i) 0 ≡ answerAt g i
+  pub sets : (turned : Bool) (b : ℕ) → b < 256 → SetAt turned b (getD t (setsFrom turned + b) 0)
+  pub answer : (i : ℕ) → i < 4096 → getD t i 0 ≡ answerAt g i
   pub plain : (turned : Bool) (x y z w : ℕ) → Plain x → Plain y → Plain z
       → getD t (plainFrom turned + plainNumber x y z w) 0 ≡ letterHere g turned x y z
   pub stops : (turned : Bool) (x y z : ℕ) → x < 256 → y < 256 → z < 256
@@ -76,7 +75,7 @@ pub record CodeTable (g : Code) (t : List ℕ) : Type 0 where
 abbrev pub plainPlaces : List ℕ
 plainPlaces =
     let bases : List ℕ = 8 ∷ 2 ∷ 1 ∷ 4 ∷ [] in
-    gather (λ (a : ℕ). gather (λ (b : ℕ). map (λ (c : ℕ). 1024 + (a * 256 + b * 16 + c)) bases) bases) bases
+    gather (λ (a : ℕ). gather (λ (b : ℕ). map (λ (c : ℕ). a * 256 + b * 16 + c) bases) bases) bases
 
 -- a table has the letters of its code
 unfoldable pub codeOf : List ℕ → Code

@@ -29,9 +29,9 @@ pub fn set_of(b: u8, turned: bool, code: &[u8; 5128]) -> usize
     ensures { λ r. ⌜ SetAt turned b r ⌝ }
 {
     if turned {
-        return code[256 + b as usize] as usize;
+        return code[4352 + b as usize] as usize;
     }
-    code[b as usize] as usize
+    code[4096 + b as usize] as usize
 }
 
 // The letter of three base sets.
@@ -40,7 +40,7 @@ pub fn letter(x: usize, y: usize, z: usize, code: &[u8; 5128]) -> u8
     requires { ⌜ (x < 16) × ((y < 16) × (z < 16)) ⌝ }
     ensures { λ r. ⌜ r ≡ setsLetter (codeOf (now (code .entry))) x y z ⌝ }
 {
-    code[1024 + (x * 256 + y * 16 + z)]
+    code[x * 256 + y * 16 + z]
 }
 
 // The letter of a codon, of its residues as they are read on a strand.
@@ -96,7 +96,7 @@ pub fn plain_letter(x: u8, y: u8, z: u8, w: u8, turned: bool, code: &[u8; 5128])
 {
     let n = ((two(x, y) + 65_536 * two(z, w)) * tables::FACTOR / 16_777_216 % 256) as usize;
     if turned {
-        return code[768 + n];
+        return code[4864 + n];
     }
-    code[512 + n]
+    code[4608 + n]
 }

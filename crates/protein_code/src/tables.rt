@@ -4,25 +4,10 @@
 // Since it is such a multiple, a fourth byte doesn't reach them.
 pub const FACTOR: u64 = 4_002_048;
 
-// Code 1: the base set of each byte, and of its complement; the letters of plain codons, on either strand; "the 4,096 answers
-// for three four-bit base sets"; the first letter of its stops and the sums of their two others, on either strand.
+// Code 1: "the 4,096 answers for three four-bit base sets"; the base set of each byte, and of its complement; the letters of
+// plain codons, on either strand; the first letter of its stops and the sums of their two others, on either strand.
+// The answers stand first, and a place of no plain codon has its own number: else LLVM stores most runs of a letter twice.
 pub const CODE_1: [u8; 5128] = *b"\
-    \0\0\0\0\0\0\0\0\0\0\0\0\0\0\0\0\0\0\0\0\0\0\0\0\0\0\0\0\0\0\0\0\0\0\0\0\0\0\0\0\0\0\0\0\0\0\0\0\0\0\0\0\0\0\0\0\0\0\0\0\0\0\0\0\
-    \0\0\0\0\0\0\0\0\0\0\0\0\0\0\0\0\0\0\0\0\0\0\0\0\0\0\0\0\0\0\0\0\0\x01\x0e\x02\x0d\0\0\x04\x0b\0\0\x0c\0\x03\x0f\0\0\0\x05\x06\x08\0\x07\x09\0\x0a\0\0\0\0\0\0\
-    \0\0\0\0\0\0\0\0\0\0\0\0\0\0\0\0\0\0\0\0\0\0\0\0\0\0\0\0\0\0\0\0\0\0\0\0\0\0\0\0\0\0\0\0\0\0\0\0\0\0\0\0\0\0\0\0\0\0\0\0\0\0\0\0\
-    \0\0\0\0\0\0\0\0\0\0\0\0\0\0\0\0\0\0\0\0\0\0\0\0\0\0\0\0\0\0\0\0\0\0\0\0\0\0\0\0\0\0\0\0\0\0\0\0\0\0\0\0\0\0\0\0\0\0\0\0\0\0\0\0\
-    \0\0\0\0\0\0\0\0\0\0\0\0\0\0\0\0\0\0\0\0\0\0\0\0\0\0\0\0\0\0\0\0\0\0\0\0\0\0\0\0\0\0\0\0\0\0\0\0\0\0\0\0\0\0\0\0\0\0\0\0\0\0\0\0\
-    \0\0\0\0\0\0\0\0\0\0\0\0\0\0\0\0\0\0\0\0\0\0\0\0\0\0\0\0\0\0\0\0\0\x08\x07\x04\x0b\0\0\x02\x0d\0\0\x03\0\x0c\x0f\0\0\0\x0a\x06\x01\0\x0e\x09\0\x05\0\0\0\0\0\0\
-    \0\0\0\0\0\0\0\0\0\0\0\0\0\0\0\0\0\0\0\0\0\0\0\0\0\0\0\0\0\0\0\0\0\0\0\0\0\0\0\0\0\0\0\0\0\0\0\0\0\0\0\0\0\0\0\0\0\0\0\0\0\0\0\0\
-    \0\0\0\0\0\0\0\0\0\0\0\0\0\0\0\0\0\0\0\0\0\0\0\0\0\0\0\0\0\0\0\0\0\0\0\0\0\0\0\0\0\0\0\0\0\0\0\0\0\0\0\0\0\0\0\0\0\0\0\0\0\0\0\0\
-    XXXXXXXXXXXXXXXXXKQEXX*XXRRGXX*XXXXXXTPAXXSXXXXXXXXILVXXLXXSRGXX\
-    CXXXXXXTPAXXSXXXXXXXXILVXXFXSRGXXCXXXXXXTPAXXSXXXXXXXXILVXXFXXXR\
-    RGXXWXXXXXXTPAXXSXXXXXXXXMLVXXLXXXXXXXXXXXXKQEXX*XXXXXXXXXXXXXXX\
-    XXXXXXXXXXXXXNHDXXYXXXXXXXXXXXXXXXXXXXXXXXXXXXNHDXXYXXXXXXXXXXXX\
-    XXXXXXXXXXXXXXXXXLLLXXLXXSSSXXSXXXXXXCWCXX*XXXXXXXXY*YXX*XXAAAXX\
-    AXXXXXXGGGXXGXXXXXXXXDEDXXEXTTTXXTXXXXXXSRSXXRXXXXXXXXNKNXXKXXXP\
-    PPXXPXXXXXXRRRXXRXXXXXXXXHQHXXQXXXXXXXXXXXXFLFXXLXXXXXXXXXXXXXXX\
-    XXXXXXXXXXXXXVVVXXVXXXXXXXXXXXXXXXXXXXXXXXXXXXIMIXXIXXXXXXXXXXXX\
     XXXXXXXXXXXXXXXXXXXXXXXXXXXXXXXXXXXXXXXXXXXXXXXXXXXXXXXXXXXXXXXX\
     XXXXXXXXXXXXXXXXXXXXXXXXXXXXXXXXXXXXXXXXXXXXXXXXXXXXXXXXXXXXXXXX\
     XXXXXXXXXXXXXXXXXXXXXXXXXXXXXXXXXXXXXXXXXXXXXXXXXXXXXXXXXXXXXXXX\
@@ -87,4 +72,20 @@ pub const CODE_1: [u8; 5128] = *b"\
     XXXXXXXXXXXXXXXXXXXXXXXXXXXXXXXXXXXXXXXXXXXXXXXXXXXXXXXXXXXXXXXX\
     XXXXXXXXXXXXXXXXXXXXXXXXXXXXXXXXXXXXXXXXXXXXXXXXXXXXXXXXXXXXXXXX\
     XXXXXXXXXXXXXXXXXXXXXXXXXXXXXXXXXXXXXXXXXXXXXXXXXXXXXXXXXXXXXXXX\
+    \0\0\0\0\0\0\0\0\0\0\0\0\0\0\0\0\0\0\0\0\0\0\0\0\0\0\0\0\0\0\0\0\0\0\0\0\0\0\0\0\0\0\0\0\0\0\0\0\0\0\0\0\0\0\0\0\0\0\0\0\0\0\0\0\
+    \0\0\0\0\0\0\0\0\0\0\0\0\0\0\0\0\0\0\0\0\0\0\0\0\0\0\0\0\0\0\0\0\0\x01\x0e\x02\x0d\0\0\x04\x0b\0\0\x0c\0\x03\x0f\0\0\0\x05\x06\x08\0\x07\x09\0\x0a\0\0\0\0\0\0\
+    \0\0\0\0\0\0\0\0\0\0\0\0\0\0\0\0\0\0\0\0\0\0\0\0\0\0\0\0\0\0\0\0\0\0\0\0\0\0\0\0\0\0\0\0\0\0\0\0\0\0\0\0\0\0\0\0\0\0\0\0\0\0\0\0\
+    \0\0\0\0\0\0\0\0\0\0\0\0\0\0\0\0\0\0\0\0\0\0\0\0\0\0\0\0\0\0\0\0\0\0\0\0\0\0\0\0\0\0\0\0\0\0\0\0\0\0\0\0\0\0\0\0\0\0\0\0\0\0\0\0\
+    \0\0\0\0\0\0\0\0\0\0\0\0\0\0\0\0\0\0\0\0\0\0\0\0\0\0\0\0\0\0\0\0\0\0\0\0\0\0\0\0\0\0\0\0\0\0\0\0\0\0\0\0\0\0\0\0\0\0\0\0\0\0\0\0\
+    \0\0\0\0\0\0\0\0\0\0\0\0\0\0\0\0\0\0\0\0\0\0\0\0\0\0\0\0\0\0\0\0\0\x08\x07\x04\x0b\0\0\x02\x0d\0\0\x03\0\x0c\x0f\0\0\0\x0a\x06\x01\0\x0e\x09\0\x05\0\0\0\0\0\0\
+    \0\0\0\0\0\0\0\0\0\0\0\0\0\0\0\0\0\0\0\0\0\0\0\0\0\0\0\0\0\0\0\0\0\0\0\0\0\0\0\0\0\0\0\0\0\0\0\0\0\0\0\0\0\0\0\0\0\0\0\0\0\0\0\0\
+    \0\0\0\0\0\0\0\0\0\0\0\0\0\0\0\0\0\0\0\0\0\0\0\0\0\0\0\0\0\0\0\0\0\0\0\0\0\0\0\0\0\0\0\0\0\0\0\0\0\0\0\0\0\0\0\0\0\0\0\0\0\0\0\0\
+    \0\x01\x02\x03\x04\x05\x06\x07\x08\x09\x0a\x0b\x0c\x0d\x0e\x0f\x10KQE\x14\x15*\x17\x18RRG\x1c\x1d*\x1f\x20!\x22#$TPA()S+,-./012ILV67L9:SRG>?\
+    CABCDEFTPAJKSMNOPQRSTILVXYF[SRG_`CbcdefgTPAklSnopqrstuILVyzF|}~R\
+    RG\x82\x83W\x85\x86\x87\x88\x89\x8aTPA\x8e\x8fS\x91\x92\x93\x94\x95\x96\x97\x98MLV\x9c\x9dL\x9f\xa0\xa1\xa2\xa3\xa4\xa5\xa6\xa7\xa8\xa9\xaaKQE\xae\xaf*\xb1\xb2\xb3\xb4\xb5\xb6\xb7\xb8\xb9\xba\xbb\xbc\xbd\xbe\xbf\
+    \xc0\xc1\xc2\xc3\xc4\xc5\xc6\xc7\xc8\xc9\xca\xcb\xccNHD\xd0\xd1Y\xd3\xd4\xd5\xd6\xd7\xd8\xd9\xda\xdb\xdc\xdd\xde\xdf\xe0\xe1\xe2\xe3\xe4\xe5\xe6\xe7\xe8\xe9\xea\xeb\xec\xedNHD\xf1\xf2Y\xf4\xf5\xf6\xf7\xf8\xf9\xfa\xfb\xfc\xfd\xfe\xff\
+    \0\x01\x02\x03\x04\x05\x06\x07\x08\x09\x0a\x0b\x0c\x0d\x0e\x0f\x10LLL\x14\x15L\x17\x18SSS\x1c\x1dS\x1f\x20!\x22#$CWC()*+,-./012Y*Y67*9:AAA>?\
+    AABCDEFGGGJKGMNOPQRSTDEDXYE[TTT_`TbcdefgSRSklRnopqrstuNKNyzK|}~P\
+    PP\x82\x83P\x85\x86\x87\x88\x89\x8aRRR\x8e\x8fR\x91\x92\x93\x94\x95\x96\x97\x98HQH\x9c\x9dQ\x9f\xa0\xa1\xa2\xa3\xa4\xa5\xa6\xa7\xa8\xa9\xaaFLF\xae\xafL\xb1\xb2\xb3\xb4\xb5\xb6\xb7\xb8\xb9\xba\xbb\xbc\xbd\xbe\xbf\
+    \xc0\xc1\xc2\xc3\xc4\xc5\xc6\xc7\xc8\xc9\xca\xcb\xccVVV\xd0\xd1V\xd3\xd4\xd5\xd6\xd7\xd8\xd9\xda\xdb\xdc\xdd\xde\xdf\xe0\xe1\xe2\xe3\xe4\xe5\xe6\xe7\xe8\xe9\xea\xeb\xec\xedIMI\xf1\xf2I\xf4\xf5\xf6\xf7\xf8\xf9\xfa\xfb\xfc\xfd\xfe\xff\
     t\xc2\xc8\xd3a\xd7\xe8\xed";

@@ -1,23 +1,21 @@
 -- A tag, a text and a leaf found again, each from what is promised of its parts.
-use Prim.Native.Nat.{ℕ, suc, _+_, _≤_}
+use Prim.Native.Nat.{ℕ, _+_, _≤_}
 use native.Mathlib.Omega.{arith}
 use mathlib.Core.Path.{_≡_, refl, sym, ap, _∙_}
 use mathlib.Core.Bool.{Bool, true, false, not}
 use mathlib.Core.Logic.{inl, inr}
 use mathlib.Core.List.{List, [], _∷_, _++_}
-use lib.ListN.{length, take, drop, getD}
-use lib.Seq.{getD-drop}
+use lib.ListN.{length, drop, getD}
+use lib.Seq.{getD-drop, drop-drop}
 use Rattle.paper.specs.Bytes.{bytes, all, raw, spell, isBlank}
 use Rattle.paper.specs.Form.{Form, these, lit, _·_}
 use Rattle.paper.specs.Tree.{Text}
 use Rattle.paper.specs.Layout.{blanks, text, tag, close, content, leaf, child}
 use Rattle.paper.proofs.Texts.{spell-cases, raw-all}
-use Rattle.read_bytes.specs.Words.{There}
-use Rattle.read_bytes.proofs.Words.{stands-long, is-there, not-there}
-use Rattle.read_steps.specs.Reads.{Passes}
+use Rattle.read_bytes.specs.Words.{StandsAt, There}
+use Rattle.read_bytes.proofs.Words.{stands-here, stands-long, not-there}
 use Rattle.read_steps.specs.Follow.{Not, Starts, anything, sharp}
 use Rattle.read_steps.specs.Texts.{allowedIn, Scanned}
-use Rattle.read_steps.specs.declared.Step.the-variants.{Ok, Fail}
 use Rattle.read_steps.proofs.Fronts.{Leads, leads-all, leads-starts, leads-sharp}
 use Rattle.read_tags.proofs.Tags.{Body, Long, body-sharp, close-leads, long-leads}
 use Rattle.walk_steps.specs.Stands.{Stands, Past, others, tagOf, Ends, Finds, FindsContent, IsPart, IsFound}
@@ -40,14 +38,19 @@ first-byte b k {F} {s} {at} {e} l d =
     let y = l at (d .word) (d .laid) in
     ap (λ (i : ℕ). getD s i 0) (omega arith) ∙ sym (getD-drop at s 0 0) ∙ ap (λ (u : List ℕ). getD u 0 0) (d .here ∙ ap (λ (u : List ℕ). u ++ drop e s) (y .1))
 
--- whether a tag stands here, as it is read
-pub tag-there : {name s : List ℕ} {at f n g : ℕ} → Passes (tag name) anything s (Ok at f) (Ok n g) → There (tagOf name) s at true
-tag-there p = let y = p .is .4 in is-there (stands-long (omega arith) (y .rest) (y .split ∙ ap (λ (u : List ℕ). u ++ y .rest) (y .laid)))
-
-pub tag-missing : {name s : List ℕ} {at f k : ℕ} → Passes (tag name) anything s (Ok at f) (Fail k) → There (tagOf name) s at false
-tag-missing {name} p = not-there (λ h. p .is .2 .none tt (tagOf name) _ refl tt (ap (take (suc (p .is .0))) (sym (h .here))))
-
 -- ---- tags
+
+-- a tag opens here if its `<` stands here and its name behind it
+module _ (name : List ℕ) {s : List ℕ} {at : ℕ} where
+  pub opens-not : ¬ StandsAt (bytes "<") s at → There (tagOf name) s at false
+  opens-not n = not-there (λ h. n (stands-long (omega arith) (name ++ drop (at + length (tagOf name)) s) (h .here)))
+
+  pub opens-so : StandsAt (bytes "<") s at → {r : Bool} → There name s (at + 1) r → There (tagOf name) s at r
+  opens-so p t =
+      record {
+        yes = λ e. stands-long (omega arith) (drop (at + 1 + length name) s) (p .here ∙ ap (λ (u : List ℕ). bytes "<" ++ u) (t .yes e .here));
+        no = λ e h. t .no e (stands-here (p .inside) (drop (at + length (tagOf name)) s) (sym (drop-drop 1 at s) ∙ ap (drop 1) (h .here)));
+      }
 
 pub tag-ends : {name s : List ℕ} {at a r : ℕ} → Past s at 1 a → Past s a (length name) r → Ends (tag name) anything s at r
 tag-ends {name} p q = record { is = λ e d f. pasts (bytes "<") name refl p q d }

@@ -2,7 +2,6 @@
 // children of an element. Each says where its text stands, and what comes next. What is known to stand is passed by its length and not
 // compared again. A promise speaks of whatever stands at the place; of other bytes it says nothing. Relies on the paper, on
 // read_bytes, read_steps and read_tags for what it compares or passes, and in its proofs on their laws of what may follow what.
-use read_steps::Step;
 ghost use mathlib.Core.Path.{_≡_};
 ghost use Prim.Native.Nat.{_+_, _≤_};
 ghost use mathlib.Core.Bool.{false};
@@ -152,10 +151,10 @@ pub struct FoundMaybe {
 pub fn opens(s: &[u8], at: usize, name: &[u8]) -> bool
     ensures { λ r. ⌜ There (tagOf (now (name .entry))) (now (s .entry)) at r ⌝ }
 {
-    match read_tags::tag(s, Step::Ok { next: at, far: at }, name) {
-        Step::Ok { next: _, far: _ } => true,
-        Step::Fail(_) => false,
+    if read_bytes::begins(s, at, b"<") {
+        return read_bytes::begins(s, at + 1, name);
     }
+    false
 }
 
 // A leaf that may be missing, and the blanks after it.

@@ -18,9 +18,6 @@ add-result c = search needs
 add-result-2 : tie.Need-add-result-2
 add-result-2 c = search needs
 
-add-result-3 : tie.Need-add-result-3
-add-result-3 c = search needs
-
 element-copy-out-result : tie.Need-element-copy-out-result
 element-copy-out-result c = search needs
 
@@ -41,6 +38,5 @@ letter-spec =
     mul-result-2
     add-result
     add-result-2
-    add-result-3
     element-copy-out-result
     returns)

@@ -21,6 +21,9 @@ returns c =
     let a = c .before .before .args in
     rw (c .before .if1 .taken) (c .before .before .pre .sets true (a .b) (search needs))
 
+add-result-2 : tie.Need-add-result-2
+add-result-2 c = search needs
+
 element-copy-out-result-2 : tie.Need-element-copy-out-result-2
 element-copy-out-result-2 c = search needs
 
@@ -42,6 +45,7 @@ set-of-spec =
     element-copy-out-result
     cast-result
     returns
+    add-result-2
     element-copy-out-result-2
     cast-result-2
     returns-2)
