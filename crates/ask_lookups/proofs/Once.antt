@@ -7,7 +7,7 @@ use Rattle.paper.specs.Answers.{shown, Part, SequenceSays, FeatureSays, Qualifi
 use Rattle.paper.proofs.Once as once
 use Rattle.read_layout.proofs.Wholes.{laid-once}
 use Rattle.ask_show.specs.Shown.{Points}
-use Rattle.ask_lookups.specs.Shows.{ShowsSequence, ShowsFeature, ShowsQualifier}
+use Rattle.ask_lookups.specs.Shows.{View, SequenceView, FeatureView, QualifierView, ShowsSequence, ShowsFeature, ShowsQualifier}
 
 -- ---- the numbers and the places
 
@@ -39,26 +39,28 @@ module _ {w : List ℕ} {k : ℕ} where
 -- ---- parts of the lent listing, which stands at `at`
 
 module _ {w : List ℕ} {at : ℕ × ℕ} where
-  points-once : {x y : Part} {r s : List ℕ} {a b : ℕ × ℕ} → Points w at x r a → Points w at y s b → x ≡ y → (r ≡ s) × (a ≡ b)
-  points-once f g e = (
-    f .bytes ∙ ap (shown w) e ∙ sym (g .bytes),
-    f .there ∙ ap (λ (x : Part). (at .0, x .start + at .1)) e ∙ sym (g .there),
-  )
+  view-once : {x y : Part} (a b : View) → Points w at x (a .bytes) (a .ptr) → Points w at y (b .bytes) (b .ptr) → x ≡ y → a ≡ b
+  view-once a b f g e =
+      let r = f .bytes ∙ ap (shown w) e ∙ sym (g .bytes) in
+      let p = f .there ∙ ap (λ (x : Part). (at .0, x .start + at .1)) e ∙ sym (g .there) in
+      λ i. record { bytes = r i; ptr = p i }
 
-  pub shows-sequence-once : {k n p d m q e : ℕ} {r s : List ℕ} {a b : ℕ × ℕ} → ShowsSequence w at k n p d r a → ShowsSequence w at k m q e s b
-      → (n ≡ m) × (p ≡ q) × (d ≡ e) × ((r ≡ s) × (a ≡ b))
-  shows-sequence-once f g =
+  pub shows-sequence-once : {k : ℕ} (x y : SequenceView) → ShowsSequence w at k x → ShowsSequence w at k y → x ≡ y
+  shows-sequence-once x y f g =
       let z = sequence-once (f .says) (g .says) in
-      (z .0, z .1, z .2, points-once (f .points) (g .points) (z .3))
+      let r = view-once (x .residues) (y .residues) (f .points) (g .points) (z .3) in
+      λ i. record { number = z .0 i; place = z .1 i; kind = z .2 i; residues = r i }
 
-  pub shows-feature-once : {k j n p m q : ℕ} {x y r s : List ℕ} {c d a b : ℕ × ℕ} → ShowsFeature w at k j n p x c r a → ShowsFeature w at k j m q y d s b
-      → (n ≡ m) × (p ≡ q) × ((x ≡ y) × (c ≡ d)) × ((r ≡ s) × (a ≡ b))
-  shows-feature-once f g =
+  pub shows-feature-once : {k j : ℕ} (x y : FeatureView) → ShowsFeature w at k j x → ShowsFeature w at k j y → x ≡ y
+  shows-feature-once x y f g =
       let z = feature-once (f .says) (g .says) in
-      (z .0, z .1, points-once (f .named) (g .named) (z .2), points-once (f .located) (g .located) (z .3))
+      let n = view-once (x .key) (y .key) (f .named) (g .named) (z .2) in
+      let l = view-once (x .location) (y .location) (f .located) (g .located) (z .3) in
+      λ i. record { number = z .0 i; place = z .1 i; key = n i; location = l i }
 
-  pub shows-qualifier-once : {k j i n p m q : ℕ} {x y r s : List ℕ} {c d a b : ℕ × ℕ} {u v : Bool} → ShowsQualifier w at k j i n p x c u r a
-      → ShowsQualifier w at k j i m q y d v s b → (n ≡ m) × (p ≡ q) × ((x ≡ y) × (c ≡ d)) × (u ≡ v) × ((r ≡ s) × (a ≡ b))
-  shows-qualifier-once f g =
+  pub shows-qualifier-once : {k j i : ℕ} (x y : QualifierView) → ShowsQualifier w at k j i x → ShowsQualifier w at k j i y → x ≡ y
+  shows-qualifier-once x y f g =
       let z = qualifier-once (f .says) (g .says) in
-      (z .0, z .1, points-once (f .named) (g .named) (z .2), z .3, points-once (f .valued) (g .valued) (z .4))
+      let n = view-once (x .name) (y .name) (f .named) (g .named) (z .2) in
+      let v = view-once (x .value) (y .value) (f .valued) (g .valued) (z .4) in
+      λ i. record { number = z .0 i; place = z .1 i; name = n i; present = z .3 i; value = v i }

@@ -16,21 +16,48 @@ use Rattle.ask_show.specs.Shown.{Points}
 pub record KnowsSequence (s : List ℕ) (f : FoundSequence) (r : Known) : Type 0 where
   pub says : (q : Sequence ℕ) (e : ℕ) → length s ≤ limit → IsSequence s q e f → Knows s q r
 
-pub record ShowsSequence (w : List ℕ) (at : ℕ × ℕ) (k number place kind : ℕ) (r : List ℕ) (p : ℕ × ℕ) : Type 0 where
+-- ---- what a call returns and sets: a part is the bytes that are shown, and where they stand
+
+pub record View : Type 0 where
+  pub bytes : List ℕ
+  pub ptr : ℕ × ℕ
+
+pub record SequenceView : Type 0 where
+  pub number : ℕ
+  pub place : ℕ
+  pub kind : ℕ
+  pub residues : View
+
+pub record FeatureView : Type 0 where
+  pub number : ℕ
+  pub place : ℕ
+  pub key : View
+  pub location : View
+
+pub record QualifierView : Type 0 where
+  pub number : ℕ
+  pub place : ℕ
+  pub name : View
+  pub present : Bool
+  pub value : View
+
+-- ---- the listing w stands at `at`
+
+pub record ShowsSequence (w : List ℕ) (at : ℕ × ℕ) (k : ℕ) (x : SequenceView) : Type 0 where
   pub residues : paper.Part
-  pub says : SequenceSays w k number place kind residues
-  pub points : Points w at residues r p
+  pub says : SequenceSays w k (x .number) (x .place) (x .kind) residues
+  pub points : Points w at residues (x .residues .bytes) (x .residues .ptr)
 
-pub record ShowsFeature (w : List ℕ) (at : ℕ × ℕ) (k j number place : ℕ) (key : List ℕ) (keyAt : ℕ × ℕ) (r : List ℕ) (p : ℕ × ℕ) : Type 0 where
-  pub name : paper.Part
+pub record ShowsFeature (w : List ℕ) (at : ℕ × ℕ) (k j : ℕ) (x : FeatureView) : Type 0 where
+  pub key : paper.Part
   pub location : paper.Part
-  pub says : FeatureSays w k j number place name location
-  pub named : Points w at name key keyAt
-  pub located : Points w at location r p
+  pub says : FeatureSays w k j (x .number) (x .place) key location
+  pub named : Points w at key (x .key .bytes) (x .key .ptr)
+  pub located : Points w at location (x .location .bytes) (x .location .ptr)
 
-pub record ShowsQualifier (w : List ℕ) (at : ℕ × ℕ) (k j i number place : ℕ) (name : List ℕ) (nameAt : ℕ × ℕ) (present : Bool) (r : List ℕ) (p : ℕ × ℕ) : Type 0 where
-  pub word : paper.Part
+pub record ShowsQualifier (w : List ℕ) (at : ℕ × ℕ) (k j i : ℕ) (x : QualifierView) : Type 0 where
+  pub name : paper.Part
   pub value : paper.Part
-  pub says : QualifierSays w k j i number place word present value
-  pub named : Points w at word name nameAt
-  pub valued : Points w at value r p
+  pub says : QualifierSays w k j i (x .number) (x .place) name (x .present) value
+  pub named : Points w at name (x .name .bytes) (x .name .ptr)
+  pub valued : Points w at value (x .value .bytes) (x .value .ptr)

@@ -62,7 +62,7 @@ pub fn sequence<'l>(
     place: &mut usize,
     kind: &mut u8,
 ) -> &'l [u8]
-    ensures { λ r. ⌜ ShowsSequence (now (listing .entry)) (listing .entry .ptr) k (now (number .exit)) (now (place .exit)) (now (kind .exit)) (now r) (r .ptr) ⌝ }
+    ensures { λ r. ⌜ ShowsSequence (now (listing .entry)) (listing .entry .ptr) k (record { number = now (number .exit); place = now (place .exit); kind = now (kind .exit); residues = record { bytes = now r; ptr = r .ptr } }) ⌝ }
 {
     let SequenceAnswer {
         number: n,
@@ -110,7 +110,7 @@ pub fn feature<'l, 'k>(
     place: &mut usize,
     key: &'k mut &'l [u8],
 ) -> &'l [u8]
-    ensures { λ r. ⌜ ShowsFeature (now (listing .entry)) (listing .entry .ptr) k j (now (number .exit)) (now (place .exit)) (now (now (key .exit))) (now (key .exit) .ptr) (now r) (r .ptr) ⌝ }
+    ensures { λ r. ⌜ ShowsFeature (now (listing .entry)) (listing .entry .ptr) k j (record { number = now (number .exit); place = now (place .exit); key = record { bytes = now (now (key .exit)); ptr = now (key .exit) .ptr }; location = record { bytes = now r; ptr = r .ptr } }) ⌝ }
 {
     let FeatureAnswer {
         number: n,
@@ -162,7 +162,7 @@ pub fn qualifier<'l, 'k>(
     present: &mut bool,
     name: &'k mut &'l [u8],
 ) -> &'l [u8]
-    ensures { λ r. ⌜ ShowsQualifier (now (listing .entry)) (listing .entry .ptr) k j i (now (number .exit)) (now (place .exit)) (now (now (name .exit))) (now (name .exit) .ptr) (now (present .exit)) (now r) (r .ptr) ⌝ }
+    ensures { λ r. ⌜ ShowsQualifier (now (listing .entry)) (listing .entry .ptr) k j i (record { number = now (number .exit); place = now (place .exit); name = record { bytes = now (now (name .exit)); ptr = now (name .exit) .ptr }; present = now (present .exit); value = record { bytes = now r; ptr = r .ptr } }) ⌝ }
 {
     let QualifierAnswer {
         number: n,

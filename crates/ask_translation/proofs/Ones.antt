@@ -11,7 +11,7 @@ use Rattle.read_steps.specs.Parts.{Shows}
 use Rattle.walk_items.specs.declared.FoundFeature.{FoundFeature}
 use Rattle.protein_codons.specs.Letters.{lettersOf}
 use Rattle.protein_measure.specs.Measuring.{Measured}
-use Rattle.protein_write.specs.Writing.{afterOf, Writes}
+use Rattle.protein_write.specs.Writing.{afterOf, WritesTranslation}
 use Rattle.protein_measure.specs.declared.Size.{Size}
 use Rattle.protein_measure.specs.declared.Size.the-variants as size
 use Rattle.judge_faults.specs.declared.Known.{Known}
@@ -47,10 +47,10 @@ module _ {s out : List ℕ} {known : Known} {g : FoundFeature} {p : Plan} (plans
       }
 
   module _ {gc : Code} {r loc after : List ℕ} {start : ℕ} {y : Size} (code : gc ≡ code1) (z : p ≡ From start) (shr : Shows s (known .residues .from) (known .residues .to) r)
-      (shl : Shows s (g .location .from) (g .location .to) loc) (w : Writes gc r loc (known .top) start out y after) where
+      (shl : Shows s (g .location .from) (g .location .to) loc) (w : WritesTranslation gc r loc (known .top) start out y after) where
     wrote : {x : Size} → y ≡ x → (q : Sequence ℕ) (f : Feature ℕ) (d : FoundCds r loc (known .top) start q f)
         → Measured (lettersOf code1 r start (d .location)) (length out) x × (after ≡ afterOf (lettersOf code1 r start (d .location)) out x)
-    wrote e q f d = subst₂ (λ (c : Code) (x : Size). Writes c r loc (known .top) start out x after) code e w .says (d .location) (d .codes)
+    wrote e q f d = subst₂ (λ (c : Code) (x : Size). WritesTranslation c r loc (known .top) start out x after) code e w .says (d .location) (d .codes)
 
     pub one-is : {n : ℕ} → y ≡ size.Is n → TranslatesOne s known g out (record { number = 0; size = n }) after
     one-is v =

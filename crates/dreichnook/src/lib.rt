@@ -1,8 +1,9 @@
 // The library for the box: document 01's calls as C functions. hosts/include/dreichnook.h describes each.
 // Relies on the check and the lookups, and on ask_answers, which hands their answers over as numbers: 0 or the number of the refusal is
 // returned, every number pointed to is set in every case, and a part is given as start and size within the lent listing.
+ghost use Rattle.paper.specs.Demands.{InListing};
 ghost use Rattle.paper.specs.Answers.{SequenceSays, FeatureSays, TranslationSays, TranslationsSays, SpansSays};
-ghost use Rattle.dreichnook.specs.Numbers.{part, CheckNumbers, QualifierNumbers};
+ghost use Rattle.dreichnook.specs.Numbers.{part, SaysCheck, SaysQualifier};
 
 #[no_mangle]
 pub extern "C" fn dreichnook_check(
@@ -14,7 +15,7 @@ pub extern "C" fn dreichnook_check(
     judged: &mut usize,
     unjudged: &mut usize,
 ) -> u32
-    ensures { λ r. ⌜ CheckNumbers (now (listing .entry)) r (now (place .exit)) (now (total .exit)) (now (skipped .exit)) (now (features .exit)) (now (judged .exit)) (now (unjudged .exit)) ⌝ }
+    ensures { λ r. ⌜ SaysCheck (now (listing .entry)) (record { number = r; place = now (place .exit); total = now (total .exit); skipped = now (skipped .exit); features = now (features .exit); judged = now (judged .exit); unjudged = now (unjudged .exit) }) ⌝ }
 {
     ask_answers::hand_verdict(
         ask_check::check(listing),
@@ -37,6 +38,7 @@ pub extern "C" fn dreichnook_sequence(
     size: &mut usize,
 ) -> u32
     ensures { λ r. ⌜ SequenceSays (now (listing .entry)) sequence r (now (place .exit)) (now (kind .exit)) (part (now (start .exit)) (now (size .exit))) ⌝ }
+    ensures { λ _. ⌜ InListing (now (listing .entry)) (part (now (start .exit)) (now (size .exit))) ⌝ }
 {
     ask_answers::hand_sequence(
         ask_lookups::locate_sequence(listing, sequence),
@@ -59,6 +61,7 @@ pub extern "C" fn dreichnook_feature(
     locationsize: &mut usize,
 ) -> u32
     ensures { λ r. ⌜ FeatureSays (now (listing .entry)) sequence feature r (now (place .exit)) (part (now (keystart .exit)) (now (keysize .exit))) (part (now (locationstart .exit)) (now (locationsize .exit))) ⌝ }
+    ensures { λ _. ⌜ InListing (now (listing .entry)) (part (now (keystart .exit)) (now (keysize .exit))) × InListing (now (listing .entry)) (part (now (locationstart .exit)) (now (locationsize .exit))) ⌝ }
 {
     ask_answers::hand_feature(
         ask_lookups::locate_feature(listing, sequence, feature),
@@ -83,7 +86,7 @@ pub extern "C" fn dreichnook_qualifier(
     valuestart: &mut usize,
     valuesize: &mut usize,
 ) -> u32
-    ensures { λ r. ⌜ QualifierNumbers (now (listing .entry)) sequence feature qualifier r (now (place .exit)) (part (now (namestart .exit)) (now (namesize .exit))) (now (present .exit)) (part (now (valuestart .exit)) (now (valuesize .exit))) ⌝ }
+    ensures { λ r. ⌜ SaysQualifier (now (listing .entry)) sequence feature qualifier (record { number = r; place = now (place .exit); name = part (now (namestart .exit)) (now (namesize .exit)); flag = now (present .exit); value = part (now (valuestart .exit)) (now (valuesize .exit)) }) ⌝ }
 {
     ask_answers::hand_qualifier(
         ask_lookups::locate_qualifier(listing, sequence, feature, qualifier),

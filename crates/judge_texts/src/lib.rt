@@ -8,11 +8,11 @@ ghost use mathlib.Core.Path.{_≡_};
 ghost use Rattle.value_residues.specs.Residues.{SymbolTable};
 ghost use Rattle.judge_texts.specs.Texts.{Sized, LengthOf, AllSymbols, Cleans, KnowsOf, JudgesNumber, TellsSkipped, TellsEmpty, TellsBlank, JudgesSymbols, JudgesResidues, JudgesTexts, namesOne};
 
-// A number of residues, as far as a listing can hold them.
+// A number of residues, as far as 32 bits hold it: more than a listing has.
 fn size_of(n: usize) -> u32
     ensures { λ r. ⌜ Sized n r ⌝ }
 {
-    if n <= 16_777_216 {
+    if n <= 4_294_967_295 {
         return n as u32;
     }
     0

@@ -12,14 +12,14 @@ use borrow.Author.Tests.{eq-eqb, ne-eqb}
 use Rattle.paper.specs.Bytes.{spell, raw}
 use Rattle.paper.proofs.Texts.{unspell, unspell-spell, spell-cases, spell-some}
 use Rattle.lent_room.specs.Room.{Lays, LaysRead}
-use Rattle.lent_room.specs.Spelled.{Firsts}
+use Rattle.lent_room.specs.Spelled.{FirstCharacter}
 use Rattle.lent_room.specs.declared.Pass.{Pass}
 use Rattle.lent_room.proofs.Passes.{lays-none, lays-next, lays-off, lays-kept}
 
 -- ---- one character
 
 module _ (text : List ℕ) (at : ℕ) where
-  by : {b n : ℕ} → unspell (drop at text) ≡ (b, drop n (drop at text)) → 1 ≤ n → Firsts text at b (at + n)
+  by : {b n : ℕ} → unspell (drop at text) ≡ (b, drop n (drop at text)) → 1 ≤ n → FirstCharacter text at b (at + n)
   by {b} {n} e h =
       record {
         onward = omega (arith, h);
@@ -34,7 +34,7 @@ module _ (text : List ℕ) (at : ℕ) where
   at-first : getD (drop at text) 0 0 ≡ getD text at 0
   at-first = at-is 0 ∙ ap (λ (k : ℕ). getD text k 0) (add-zero at)
 
-  pub first-plain : ¬ (getD text at 0 ≡ 38) → Firsts text at (getD text at 0) (at + 1)
+  pub first-plain : ¬ (getD text at 0 ≡ 38) → FirstCharacter text at (getD text at 0) (at + 1)
   first-plain n =
       by {n = 1} (rw (ne-eqb (getD (drop at text) 0 0) 38 (λ e. n (sym at-first ∙ e))) (λ i. (at-first i, drop 1 (drop at text)))) (omega arith)
 
@@ -43,7 +43,7 @@ module _ (text : List ℕ) (at : ℕ) where
     is-amp = eq-eqb (getD (drop at text) 0 0) 38 (at-first ∙ amp)
 
     -- an entity has four bytes or more
-    pub first-short : length text < at + 4 → Firsts text at (getD text at 0) (at + 1)
+    pub first-short : length text < at + 4 → FirstCharacter text at (getD text at 0) (at + 1)
     first-short h = record { onward = omega arith; says = λ c r d. absurd (long c r d) }
       where
         four : (c : ℕ) (r : List ℕ) → getD (spell c ++ r) 0 0 ≡ 38 → 4 ≤ length (spell c ++ r)
@@ -64,22 +64,22 @@ module _ (text : List ℕ) (at : ℕ) where
     other : (n b : ℕ) → ¬ (getD text (at + n) 0 ≡ b) → eqb (getD (drop at text) n 0) b ≡ false
     other n b e = ne-eqb (getD (drop at text) n 0) b (λ f. e (sym (at-is n) ∙ f))
 
-    pub first-lt : getD text (at + 1) 0 ≡ 108 → Firsts text at 60 (at + 4)
+    pub first-lt : getD text (at + 1) 0 ≡ 108 → FirstCharacter text at 60 (at + 4)
     first-lt e = by {n = 4} (rw (is-amp, second 1 108 e) refl) (omega arith)
 
     module _ (l : ¬ (getD text (at + 1) 0 ≡ 108)) where
-      pub first-gt : getD text (at + 1) 0 ≡ 103 → Firsts text at 62 (at + 4)
+      pub first-gt : getD text (at + 1) 0 ≡ 103 → FirstCharacter text at 62 (at + 4)
       first-gt e = by {n = 4} (rw (is-amp, other 1 108 l, second 1 103 e) refl) (omega arith)
 
       module _ (g : ¬ (getD text (at + 1) 0 ≡ 103)) where
-        pub first-quot : getD text (at + 1) 0 ≡ 113 → Firsts text at 34 (at + 6)
+        pub first-quot : getD text (at + 1) 0 ≡ 113 → FirstCharacter text at 34 (at + 6)
         first-quot e = by {n = 6} (rw (is-amp, other 1 108 l, other 1 103 g, second 1 113 e) refl) (omega arith)
 
         module _ (q : ¬ (getD text (at + 1) 0 ≡ 113)) where
-          pub first-amp : getD text (at + 2) 0 ≡ 109 → Firsts text at 38 (at + 5)
+          pub first-amp : getD text (at + 2) 0 ≡ 109 → FirstCharacter text at 38 (at + 5)
           first-amp e = by {n = 5} (rw (is-amp, other 1 108 l, other 1 103 g, other 1 113 q, second 2 109 e) refl) (omega arith)
 
-          pub first-apos : ¬ (getD text (at + 2) 0 ≡ 109) → Firsts text at 39 (at + 6)
+          pub first-apos : ¬ (getD text (at + 2) 0 ≡ 109) → FirstCharacter text at 39 (at + 6)
           first-apos m = by {n = 6} (rw (is-amp, other 1 108 l, other 1 103 g, other 1 113 q, other 2 109 m) refl) (omega arith)
 
 -- ---- a text
@@ -111,7 +111,7 @@ module _ {given text room now : List ℕ} {at i end : ℕ} {p : Pass} (f : Readi
           by-others [] e = subst (λ (w : List ℕ). Lays given at w room p true end now) (sym (z .all ∙ ap (_++_ (z .done)) e ∙ append-nil (z .done))) (z .laid)
           by-others (c ∷ o) e = absurd (spell-some c (raw o) (sym (ap raw e) ∙ sym (z .left) ∙ drop-of-length-le text {i = i} h))
 
-  module _ {b next : ℕ} (h : i < length text) (c : Firsts text i b next) where
+  module _ {b next : ℕ} (h : i < length text) (c : FirstCharacter text i b next) where
     -- the next character of whichever text it is
     step : (v : List ℕ) (z : Laying given at text room p i end now v) → (o : List ℕ) × (z .others ≡ b ∷ o) × (drop next text ≡ raw o)
     step v z = go (z .others) refl

@@ -8,11 +8,11 @@ use mathlib.Core.List.{List, [], _∷_, _++_}
 use lib.ListN.{length, take, drop, set, getD, take-append-drop, drop-of-length-le}
 use lib.Seq.{sets, take-all, take-suc, drop-cons, drop-drop, length-take-le}
 use borrow.Author.Tests.{ne-eqb, eq-eqb}
-use Rattle.lent_room.specs.Room.{agree, Fits, fits, Agrees, same, differs}
+use Rattle.lent_room.specs.Room.{agree, InRoom, fits, Agrees, same, differs}
 use Rattle.lent_room.proofs.Laws.{sets-append, agree-on}
 
-pub fits-none : {size at room : ℕ} → size ≡ 0 → Fits size at room true at
-fits-none {size} {at} {room} e = subst (Fits size at room true) (omega (arith, e)) (fits (omega (arith, e)))
+pub fits-none : {size at room : ℕ} → size ≡ 0 → InRoom size at room true at
+fits-none {size} {at} {room} e = subst (InRoom size at room true) (omega (arith, e)) (fits (omega (arith, e)))
 
 -- one byte more of the text
 pub sets-more : (text room : List ℕ) (at i : ℕ) → i < length text → set (sets room at (take i text)) (at + i) (getD text i 0) ≡ sets room at (take (i + 1) text)

@@ -6,7 +6,7 @@ use mathlib.Core.Bool.{Bool, true, false, true≢false}
 use mathlib.Core.List.{List, [], _++_}
 use lib.ListN.{length, drop, length-append}
 use lib.Seq.{sets, length-sets, drop-drop}
-use Rattle.lent_room.specs.Room.{agree, Fits, fits, Agrees, same, differs, Lays, Puts}
+use Rattle.lent_room.specs.Room.{agree, InRoom, fits, Agrees, same, differs, Lays, Puts}
 use Rattle.lent_room.specs.declared.Pass.{Pass}
 use Rattle.lent_room.specs.declared.Pass.the-variants.{Measure, Write, Compare}
 use Rattle.lent_room.proofs.Laws.{sets-append, agree-on, agree-off}
@@ -41,9 +41,9 @@ lays-none {given} {room} {at} Compare = subst (λ (e : ℕ). Lays given at [] ro
 
 -- ---- x, and then y
 
-fits-next : {a b at room m end : ℕ} {on : Bool} → Fits a at room true m → Fits b m room on end → Fits (a + b) at room on end
-fits-next {a} {b} {at} {room} (fits h) (fits k) = subst (Fits (a + b) at room true) (omega arith) (fits (omega (arith, h, k)))
-fits-next (fits h) (Fits.short k) = Fits.short (omega (arith, h, k))
+fits-next : {a b at room m end : ℕ} {on : Bool} → InRoom a at room true m → InRoom b m room on end → InRoom (a + b) at room on end
+fits-next {a} {b} {at} {room} (fits h) (fits k) = subst (InRoom (a + b) at room true) (omega arith) (fits (omega (arith, h, k)))
+fits-next (fits h) (InRoom.short k) = InRoom.short (omega (arith, h, k))
 
 agrees-next : {given x y : List ℕ} {at m end : ℕ} {on : Bool} → Agrees x at given true m → Agrees y m given on end → Agrees (x ++ y) at given on end
 agrees-next {given} {x} {y} {at} (same e) (same f) =
@@ -61,7 +61,7 @@ module _ {given room x y : List ℕ} {at : ℕ} where
   after-x : {p : Pass} {on : Bool} {m end : ℕ} {mid after : List ℕ} → Lays given at x room p true m mid → Lays given m y mid p on end after
       → Lays given at (x ++ y) room p on end after
   after-x {on = on} {end = end} (Lays.measured f) (Lays.measured g) =
-      Lays.measured (subst (λ (n : ℕ). Fits n at (length room) on end) (sym (length-append x y)) (fits-next f g))
+      Lays.measured (subst (λ (n : ℕ). InRoom n at (length room) on end) (sym (length-append x y)) (fits-next f g))
   after-x (Lays.written h) (Lays.written k) =
       let l = length-append x y in
       rw (sets-append x y room at)
@@ -79,7 +79,7 @@ module _ {given room x y : List ℕ} {at : ℕ} where
 pub lays-off : {given room x : List ℕ} {at : ℕ} (y : List ℕ) {p : Pass} {on : Bool} {end : ℕ} {after : List ℕ} → Lays given at x room p on end after → on ≡ false
     → Lays given at (x ++ y) room p on end after
 lays-off y (Lays.measured (fits h)) e = absurd (true≢false e)
-lays-off {x = x} y (Lays.measured (Fits.short h)) e = Lays.measured (Fits.short (omega (arith, length-append x y, h)))
+lays-off {x = x} y (Lays.measured (InRoom.short h)) e = Lays.measured (InRoom.short (omega (arith, length-append x y, h)))
 lays-off y (Lays.written h) e = absurd (true≢false e)
 lays-off {x = x} y (Lays.short h k) e = Lays.short (omega (arith, length-append x y, h)) k
 lays-off y (Lays.compared (same h)) e = absurd (true≢false e)
@@ -89,27 +89,27 @@ lays-off {given} {room} {x} {at} y (Lays.compared (differs h)) e =
 
 -- ---- bytes, by the pass that is asked
 
-pub fits-inside : {size at room end : ℕ} {on : Bool} → Fits size at room on end → on ≡ true → size ≤ room - at
+pub fits-inside : {size at room end : ℕ} {on : Bool} → InRoom size at room on end → on ≡ true → size ≤ room - at
 fits-inside (fits h) e = h
-fits-inside (Fits.short h) e = absurd (true≢false (sym e))
+fits-inside (InRoom.short h) e = absurd (true≢false (sym e))
 
 module _ {given x room : List ℕ} {at end : ℕ} {p : Pass} {on : Bool} where
   pub pass-compare : p ≡ Compare → Agrees x at given on end → Lays given at x room p on end room
   pass-compare e f = subst (λ (q : Pass). Lays given at x room q on end room) (sym e) (Lays.compared f)
 
-  pub pass-measure : p ≡ Measure → Fits (length x) at (length room) on end → Lays given at x room p on end room
+  pub pass-measure : p ≡ Measure → InRoom (length x) at (length room) on end → Lays given at x room p on end room
   pass-measure e f = subst (λ (q : Pass). Lays given at x room q on end room) (sym e) (Lays.measured f)
 
-  pub pass-write : {after : List ℕ} → p ≡ Write → Fits (length x) at (length room) on end → on ≡ true → after ≡ sets room at x → Lays given at x room p on end after
+  pub pass-write : {after : List ℕ} → p ≡ Write → InRoom (length x) at (length room) on end → on ≡ true → after ≡ sets room at x → Lays given at x room p on end after
   pass-write {after} e f o s = subst (λ (q : Pass). Lays given at x room q on end after) (sym e) (subst (Lays given at x room Write on end) (sym s) (go f o))
     where
-      go : {on : Bool} {end : ℕ} → Fits (length x) at (length room) on end → on ≡ true → Lays given at x room Write on end (sets room at x)
+      go : {on : Bool} {end : ℕ} → InRoom (length x) at (length room) on end → on ≡ true → Lays given at x room Write on end (sets room at x)
       go (fits h) o = Lays.written h
-      go (Fits.short h) o = absurd (true≢false (sym o))
+      go (InRoom.short h) o = absurd (true≢false (sym o))
 
-  pub pass-short : p ≡ Write → Fits (length x) at (length room) on end → on ≡ false → Lays given at x room p on end room
+  pub pass-short : p ≡ Write → InRoom (length x) at (length room) on end → on ≡ false → Lays given at x room p on end room
   pass-short e f o = subst (λ (q : Pass). Lays given at x room q on end room) (sym e) (go f o)
     where
-      go : {on : Bool} {end : ℕ} → Fits (length x) at (length room) on end → on ≡ false → Lays given at x room Write on end room
+      go : {on : Bool} {end : ℕ} → InRoom (length x) at (length room) on end → on ≡ false → Lays given at x room Write on end room
       go (fits h) o = absurd (true≢false o)
-      go (Fits.short h) o = Lays.short h refl
+      go (InRoom.short h) o = Lays.short h refl

@@ -17,9 +17,9 @@ agree (a ∷ x) [] = 0
 agree (a ∷ x) (b ∷ y) = cond (eqb a b) (suc (agree x y)) 0
 
 -- whether so many bytes are in the room from a place on: the place behind them, or the room's end
-pub data Fits (size at room : ℕ) : Bool → ℕ → Type 0 where
-  fits : size ≤ room - at → Fits size at room true (at + size)
-  short : room - at < size → Fits size at room false room
+pub data InRoom (size at room : ℕ) : Bool → ℕ → Type 0 where
+  fits : size ≤ room - at → InRoom size at room true (at + size)
+  short : room - at < size → InRoom size at room false room
 
 -- whether the given bytes go on with x from a place on: the place behind it, or the first where they don't
 pub data Agrees (x : List ℕ) (at : ℕ) (given : List ℕ) : Bool → ℕ → Type 0 where
@@ -29,7 +29,7 @@ pub data Agrees (x : List ℕ) (at : ℕ) (given : List ℕ) : Bool → ℕ → 
 -- what a pass makes of the content x at a place: whether it goes on, and where, and the room afterwards. A pass that writes was measured
 -- before, so what it leaves in a room that is too short isn't said.
 pub data Lays (given : List ℕ) (at : ℕ) (x room : List ℕ) : Pass → Bool → ℕ → List ℕ → Type 0 where
-  measured : {on : Bool} {end : ℕ} → Fits (length x) at (length room) on end → Lays given at x room Measure on end room
+  measured : {on : Bool} {end : ℕ} → InRoom (length x) at (length room) on end → Lays given at x room Measure on end room
   written : length x ≤ length room - at → Lays given at x room Write true (at + length x) (sets room at x)
   short : {after : List ℕ} → length room - at < length x → length after ≡ length room → Lays given at x room Write false (length room) after
   compared : {on : Bool} {end : ℕ} → Agrees x at given on end → Lays given at x room Compare on end room

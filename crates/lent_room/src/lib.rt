@@ -6,8 +6,8 @@ ghost use mathlib.Core.Path.{_≡_};
 ghost use lib.ListN.{length, take, drop};
 ghost use lib.Seq.{sets};
 ghost use Rattle.paper.specs.Values.{decimal};
-ghost use Rattle.lent_room.specs.Room.{Fits, Agrees, Lays, LaysRead};
-ghost use Rattle.lent_room.specs.Spelled.{littleEnd, Firsts};
+ghost use Rattle.lent_room.specs.Room.{InRoom, Agrees, Lays, LaysRead};
+ghost use Rattle.lent_room.specs.Spelled.{littleEnd, FirstCharacter};
 
 // What a pass over content does with it.
 pub enum Pass {
@@ -34,7 +34,7 @@ struct Character {
 
 // Whether the room has `size` bytes from `at` on.
 fn fit(size: usize, at: usize, room: usize) -> Laid
-    ensures { λ r. ⌜ Fits size at room (r .on) (r .at) ⌝ }
+    ensures { λ r. ⌜ InRoom size at room (r .on) (r .at) ⌝ }
 {
     if size == 0 {
         return Laid { on: true, at };
@@ -147,7 +147,7 @@ pub fn lay_decimal(pass: Pass, n: usize, at: usize, given: &[u8], room: &mut [u8
 // The character that is written from `at` on.
 fn first(text: &[u8], at: usize) -> Character
     requires { ⌜ at < length (now text) ⌝ }
-    ensures { λ r. ⌜ Firsts (now (text .entry)) at (r .byte) (r .next) ⌝ }
+    ensures { λ r. ⌜ FirstCharacter (now (text .entry)) at (r .byte) (r .next) ⌝ }
 {
     let byte = text[at];
     if byte != b'&' {

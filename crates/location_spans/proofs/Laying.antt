@@ -14,7 +14,7 @@ use Rattle.paper.specs.Answers.{triples, front}
 use Rattle.lent_room.proofs.Laws.{sets-append, sets-front}
 use Rattle.location_judge.specs.Judging.{Spells, Judges}
 use Rattle.location_spans.specs.Walking.{Left, Steps, Starts, spanIs}
-use Rattle.location_spans.specs.Room.{Puts, Asked, Answers}
+use Rattle.location_spans.specs.Room.{PutsSpans, Asked, Answers}
 use Rattle.location_judge.specs.declared.judging.Facts.{Facts}
 use Rattle.location_judge.specs.declared.judging.Verdict.the-variants as verdict
 use Rattle.location_spans.specs.declared.walking.Span.{Span as Given}
@@ -69,12 +69,12 @@ module _ {s : List ℕ} {L : ℕ} {from : Walk} {count : ℕ} {before : List ℕ
       }
 
   module _ {after : List ℕ} {w : Walk} {k : ℕ} (y : Laying s L from count before after w k) where
-    pub laying-done : k < count → Steps s L w next.Done → Puts s L from count before after
+    pub laying-done : k < count → Steps s L w next.Done → PutsSpans s L from count before after
     laying-done h f l x e =
         let z = y .laid l x e in
         absurd (omega (arith, ap length (z .all), length-append (z .done) (z .others), ap length (f .yields (z .others) (z .left)), z .many))
 
-    pub laying-end : count ≤ k → Puts s L from count before after
+    pub laying-end : count ≤ k → PutsSpans s L from count before after
     laying-end h l x e = let z = y .laid l x e in go z (z .others) (z .all)
       where
         go : (z : Laid s L before after w k l) (r : List Span) → l ≡ z .done ++ r → after ≡ front (triples l) before
@@ -118,7 +118,7 @@ module _ {s : List ℕ} {L : ℕ} {f : Facts} (h : Judges s L (verdict.Is f)) wh
     pub spans-short : (out : List ℕ) → length out / 3 < f .count → Answers s L out answer.Short out
     spans-short out l = (refl, (h .0, asked, omega (arith, h .2 .count, triples-size (spans (h .0)))))
 
-    pub spans-are : (out : List ℕ) (from : Walk) {after : List ℕ} → f .count ≤ length out / 3 → Starts s from → Puts s L from (f .count) out after
+    pub spans-are : (out : List ℕ) (from : Walk) {after : List ℕ} → f .count ≤ length out / 3 → Starts s from → PutsSpans s L from (f .count) out after
         → Answers s L out (answer.Are (f .operator) (f .count)) after
     spans-are out from l st p = (
       h .0,

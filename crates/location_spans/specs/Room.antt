@@ -14,8 +14,8 @@ use Rattle.location_spans.specs.declared.room.Answer.{Answer}
 use Rattle.location_spans.specs.declared.room.Answer.the-variants as answer
 
 -- whichever `count` spans are left of the walk stand at the front
-abbrev pub Puts : List ℕ → ℕ → Walk → ℕ → List ℕ → List ℕ → Type 0
-Puts s L w count out after = (l : List Span) → Left s L w l → length l ≡ count → after ≡ front (triples l) out
+abbrev pub PutsSpans : List ℕ → ℕ → Walk → ℕ → List ℕ → List ℕ → Type 0
+PutsSpans s L w count out after = (l : List Span) → Left s L w l → length l ≡ count → after ≡ front (triples l) out
 
 -- the spans of a location that keeps rule 25 are asked
 pub record Asked (s : List ℕ) (L : ℕ) (t : Location) : Type 0 where

@@ -7,7 +7,7 @@ use location_judge::judging::Verdict;
 use location_judge::judging::judge;
 ghost use Prim.Native.Nat.{_*_, _≤_};
 ghost use lib.ListN.{length};
-ghost use Rattle.location_spans.specs.Room.{Puts, Answers, AnswersPart};
+ghost use Rattle.location_spans.specs.Room.{PutsSpans, Answers, AnswersPart};
 
 pub enum Answer {
     // It is no location (rule 24).
@@ -23,7 +23,7 @@ pub enum Answer {
 // The spans that are left of a walk, of which there are `count`.
 fn put_spans(s: &[u8], from: Walk, top: u32, count: usize, out: &mut [u32])
     requires { ⌜ count * 3 ≤ length (now out) ⌝ }
-    ensures { λ _. ⌜ Puts (now (s .entry)) top from count (now (out .entry)) (now (out .exit)) ⌝ }
+    ensures { λ _. ⌜ PutsSpans (now (s .entry)) top from count (now (out .entry)) (now (out .exit)) ⌝ }
 {
     let mut w = from;
     let mut k: usize = 0;

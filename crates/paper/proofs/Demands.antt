@@ -10,7 +10,7 @@ use Rattle.paper.specs.Lists.{_∈_, Numbered, gather, present}
 use Rattle.paper.specs.Tree.{Text, Qualifier, Feature, Sequence, Listing, featuresOf, qualifiersOf, qualifierTexts, featureTexts, sequenceTexts, attributeTexts, partiesTexts, spokenTexts, textsOf}
 use Rattle.paper.specs.Layout.{LaidOut}
 use Rattle.paper.specs.Answers.{Checked, give, FindsSequence, FindsFeature, FindsQualifier, FindsTranslation, FindsTranslations, Part, noPart, partOf, valuePart, SequenceSays, FeatureSays, QualifierSays, SpansSays}
-use Rattle.paper.specs.Demands.{Ends, InListing, Demand1, Demand2}
+use Rattle.paper.specs.Demands.{AnswerOrRefusal, InListing, Demand1, Demand2}
 use Rattle.paper.proofs.Refusals.{checked, own, sequence-refused, feature-refused, qualifier-refused, location-refused, translation-refused, translations-refused, lent-ends}
 use Rattle.paper.proofs.Inside.{accepted-inside}
 use Rattle.paper.proofs.Shown.{parts-shown}
@@ -27,21 +27,21 @@ demand1 =
       translations = λ w k n p m out after c. lent-ends (c .outcome) (λ m q e. translations-refused (subst (FindsTranslations w k) e (c .finds))) (c .lent);
     }
   where
-    sequence-ends : {w : List ℕ} {k n p d : ℕ} {x : Part} → SequenceSays w k n p d x → Ends n p ((d ≡ 0) × (x ≡ noPart))
+    sequence-ends : {w : List ℕ} {k n p d : ℕ} {x : Part} → SequenceSays w k n p d x → AnswerOrRefusal n p ((d ≡ 0) × (x ≡ noPart))
     sequence-ends (SequenceSays.refused c) = inr (sequence-refused c, (refl, refl))
     sequence-ends (SequenceSays.found d c i) = inl (refl, refl)
 
-    feature-ends : {w : List ℕ} {k j n p : ℕ} {x y : Part} → FeatureSays w k j n p x y → Ends n p ((x ≡ noPart) × (y ≡ noPart))
+    feature-ends : {w : List ℕ} {k j n p : ℕ} {x y : Part} → FeatureSays w k j n p x y → AnswerOrRefusal n p ((x ≡ noPart) × (y ≡ noPart))
     feature-ends (FeatureSays.refused c) = inr (feature-refused c, (refl, refl))
     feature-ends (FeatureSays.found c) = inl (refl, refl)
 
     qualifier-ends : {w : List ℕ} {k j i n p : ℕ} {x y : Part} {b : Bool} → QualifierSays w k j i n p x b y
-        → Ends n p ((x ≡ noPart) × (b ≡ false) × (y ≡ noPart))
+        → AnswerOrRefusal n p ((x ≡ noPart) × (b ≡ false) × (y ≡ noPart))
     qualifier-ends (QualifierSays.refused c) = inr (qualifier-refused c, (refl, refl, refl))
     qualifier-ends (QualifierSays.found c) = inl (refl, refl)
 
     spans-ends : {w : List ℕ} {k j : ℕ} {out after : List ℕ} {n p o c : ℕ} → SpansSays w k j out n p o c after
-        → Ends n p ((o ≡ 0) × (c ≡ 0) × (after ≡ out))
+        → AnswerOrRefusal n p ((o ≡ 0) × (c ≡ 0) × (after ≡ out))
     spans-ends (SpansSays.refused c) = inr (location-refused c, (refl, refl, refl))
     spans-ends (SpansSays.short c l) = inr (own 34 (omega arith) (omega arith), (refl, refl, refl))
     spans-ends (SpansSays.found c l) = inl (refl, refl)

@@ -7,7 +7,7 @@ use mathlib.Core.List.{List}
 use Rattle.paper.specs.Tree.{Sequence, Feature, Listing}
 use Rattle.paper.specs.Rules.{Broken, header, rule-14, sequence, InHeader, InResidues, InTexts, InSource, InLocation, InCoding, InTable, InSequence}
 use Rattle.paper.specs.Answers.{Outcome, refuse, give, Checked, FindsSequence, FindsFeature, FindsQualifier, FindsLocation, FindsTranslation, FindsTranslations, Translates, Lent}
-use Rattle.paper.specs.Demands.{Refusal, Ends}
+use Rattle.paper.specs.Demands.{Refusal, AnswerOrRefusal}
 
 -- the value rules
 broken-value : {l : Listing ℕ} {n p : ℕ} → Broken l n p → (10 ≤ n) × (n ≤ 29)
@@ -83,7 +83,7 @@ translations-refused (FindsTranslations.earlier c) = sequence-refused c
 -- ---- what is answered
 
 pub lent-ends : {out : List ℕ} {n p size : ℕ} {after : List ℕ} (o : Outcome (List ℕ)) → ((m q : ℕ) → o ≡ refuse m q → Refusal m q) → Lent out o n p size after
-    → Ends n p ((size ≡ 0) × (after ≡ out))
+    → AnswerOrRefusal n p ((size ≡ 0) × (after ≡ out))
 lent-ends (refuse n p) h Lent.refused = inr (h n p refl, (refl, refl))
 lent-ends (give x) h (Lent.short l) = inr (own 34 (omega arith) (omega arith), (refl, refl))
 lent-ends (give x) h (Lent.written l) = inl (refl, refl)
@@ -95,6 +95,6 @@ refusal-most Refusal.not-laid-out = omega arith
 refusal-most (Refusal.value h k) = omega (arith, k)
 refusal-most (Refusal.lookup h k) = k
 
-pub ends-most : {n p : ℕ} {A : Type 0} → Ends n p A → n ≤ 37
+pub ends-most : {n p : ℕ} {A : Type 0} → AnswerOrRefusal n p A → n ≤ 37
 ends-most (inl e) = omega (arith, e .0)
 ends-most (inr r) = refusal-most (r .0)

@@ -14,7 +14,7 @@ use Rattle.paper.specs.Lists.{Nth, _∈_, gather, present}
 use Rattle.paper.specs.Tree.{Text, Spoken, Party, Identification, Heading, reference, application, Qualifier, Feature, Table, Sequence, Listing, featuresIn, listed, spokenTexts, partyTexts, identificationTexts, headingTexts, qualifierTexts, featureTexts, sequenceTexts, attributeTexts, partiesTexts, textsOf}
 use Rattle.paper.specs.Layout.{blanks, gap, text, tag, close, attribute, content, leaf, spoken, child, child?, holding, holding?, identification, heading, party, qualifier, quals, feature, table, otherIds, inner, sequence, attributes, parties, root, doctype, document, LaidOut}
 use Rattle.paper.specs.Answers.{shown, partOf}
-use Rattle.paper.specs.Demands.{Stretch}
+use Rattle.paper.specs.Demands.{StatedStretch}
 
 -- the text t stands in the bytes w, which stand at `at`
 record Standing (t : Text ℕ) (at : ℕ) (w : List ℕ) : Type 0 where
@@ -275,7 +275,7 @@ in-root l =
     ⊗ in-each⁺ (child sequence) sequenceTexts (λ s. in-child sequence s (in-sequence s)) (l .sequences))
 
 -- every part shown is the stated stretch
-pub parts-shown : (w : List ℕ) (l : Listing ℕ) → LaidOut l w → (t : Text ℕ) → t ∈ textsOf l → Stretch w t
+pub parts-shown : (w : List ℕ) (l : Listing ℕ) → LaidOut l w → (t : Text ℕ) → t ∈ textsOf l → StatedStretch w t
 parts-shown w l laid t m =
     let s = (lit "<?xml version=\"1.0\" encoding=\"UTF-8\"?>" · blanks · doctype · blanks ▷ in-root l ◁ blanks) .has 0 w (laid .is) t m in
     let r = raw (t .read) in

@@ -32,19 +32,19 @@ pub data Refusal : (number place : ℕ) → Type 0 where
 
 -- "Each call ends with an answer or one of the numbered refusals of document 01. A refused call leaves lent output as it found it and
 -- shows an empty part.": number 0, or a refusal and then nothing is shown or changed
-abbrev pub Ends : (number place : ℕ) → Type 0 → Type 0
-Ends number place nothing = ((number ≡ 0) × (place ≡ 0)) ⊎ (Refusal number place × nothing)
+abbrev pub AnswerOrRefusal : (number place : ℕ) → Type 0 → Type 0
+AnswerOrRefusal number place nothing = ((number ≡ 0) × (place ≡ 0)) ⊎ (Refusal number place × nothing)
 
 pub record Demand1 : Type 0 where
   pub check : (w : List ℕ) (n p : ℕ) → CheckSays w (Refused n p) → Refusal n p
-  pub sequence : (w : List ℕ) (k n p kind : ℕ) (residues : Part) → SequenceSays w k n p kind residues → Ends n p ((kind ≡ 0) × (residues ≡ noPart))
-  pub feature : (w : List ℕ) (k j n p : ℕ) (key location : Part) → FeatureSays w k j n p key location → Ends n p ((key ≡ noPart) × (location ≡ noPart))
+  pub sequence : (w : List ℕ) (k n p kind : ℕ) (residues : Part) → SequenceSays w k n p kind residues → AnswerOrRefusal n p ((kind ≡ 0) × (residues ≡ noPart))
+  pub feature : (w : List ℕ) (k j n p : ℕ) (key location : Part) → FeatureSays w k j n p key location → AnswerOrRefusal n p ((key ≡ noPart) × (location ≡ noPart))
   pub qualifier : (w : List ℕ) (k j i n p : ℕ) (name value : Part) (present : Bool) → QualifierSays w k j i n p name present value
-      → Ends n p ((name ≡ noPart) × (present ≡ false) × (value ≡ noPart))
+      → AnswerOrRefusal n p ((name ≡ noPart) × (present ≡ false) × (value ≡ noPart))
   pub spans : (w : List ℕ) (k j n p operator count : ℕ) (out after : List ℕ) → SpansSays w k j out n p operator count after
-      → Ends n p ((operator ≡ 0) × (count ≡ 0) × (after ≡ out))
-  pub translation : (w : List ℕ) (k j n p size : ℕ) (out after : List ℕ) → TranslationSays w k j out n p size after → Ends n p ((size ≡ 0) × (after ≡ out))
-  pub translations : (w : List ℕ) (k n p size : ℕ) (out after : List ℕ) → TranslationsSays w k out n p size after → Ends n p ((size ≡ 0) × (after ≡ out))
+      → AnswerOrRefusal n p ((operator ≡ 0) × (count ≡ 0) × (after ≡ out))
+  pub translation : (w : List ℕ) (k j n p size : ℕ) (out after : List ℕ) → TranslationSays w k j out n p size after → AnswerOrRefusal n p ((size ≡ 0) × (after ≡ out))
+  pub translations : (w : List ℕ) (k n p size : ℕ) (out after : List ℕ) → TranslationsSays w k out n p size after → AnswerOrRefusal n p ((size ≡ 0) × (after ≡ out))
 
 -- ---- demand 2: verdict, counts, spans and translations, the first broken rule and its place stand in Answers
 
@@ -53,7 +53,7 @@ abbrev pub InListing : List ℕ → Part → Type 0
 InListing w x = x .start + x .size ≤ length w
 
 -- the part of a text lies in the listing and is the text as it is written
-pub record Stretch (w : List ℕ) (t : Text ℕ) : Type 0 where
+pub record StatedStretch (w : List ℕ) (t : Text ℕ) : Type 0 where
   pub inside : InListing w (partOf t)
   pub holds : shown w (partOf t) ≡ raw (t .read)
 
@@ -66,7 +66,7 @@ pub record Inside (n : ℕ) (x : Span) : Type 0 where
 
 pub record Demand2 : Type 0 where
   -- "Every part shown is the stated stretch of the lent listing."
-  pub parts : (w : List ℕ) (l : Listing ℕ) → LaidOut l w → (t : Text ℕ) → t ∈ textsOf l → Stretch w t
+  pub parts : (w : List ℕ) (l : Listing ℕ) → LaidOut l w → (t : Text ℕ) → t ∈ textsOf l → StatedStretch w t
   -- the same of the calls that show parts, refused ones too: whoever reads start and size never leaves the listing
   pub sequence : (w : List ℕ) (k n p kind : ℕ) (residues : Part) → SequenceSays w k n p kind residues → InListing w residues
   pub feature : (w : List ℕ) (k j n p : ℕ) (key location : Part) → FeatureSays w k j n p key location → InListing w key × InListing w location

@@ -19,7 +19,7 @@ use Rattle.protein_codons.proofs.Readings.{span-within, run-gives}
 use Rattle.protein_measure.specs.declared.Size.{Size}
 use Rattle.protein_measure.specs.declared.Size.the-variants as size
 use Rattle.protein_measure.specs.Measuring.{Measured, Measures}
-use Rattle.protein_write.specs.Writing.{Lays, Puts, afterOf, Writes}
+use Rattle.protein_write.specs.Writing.{LaysLetters, PutsLetters, afterOf, WritesTranslation}
 use Rattle.protein_measure.proofs.Measuring.{measured-once}
 
 -- ---- the translation is at the front of the letters
@@ -83,7 +83,7 @@ module _ {gc : Code} {s loc : List ℕ} {L : ℕ} {from : Reading} {count : ℕ}
     next-of : (l : List ℕ) → k < length l → drop k l ≡ getD l k 0 ∷ drop (k + 1) l
     next-of l h = rw (add-one k) (drop-cons l k 0 h)
 
-    pub putting-end : count ≤ k → Puts gc s loc L from count before after
+    pub putting-end : count ≤ k → PutsLetters gc s loc L from count before after
     putting-end h =
         let w = f .within in
         let e : k ≡ count = omega arith in
@@ -125,14 +125,14 @@ module _ {gc : Code} {s loc : List ℕ} {L : ℕ} {from : Reading} {count : ℕ}
         putting-on (g .one) refl (omega arith) refl
 
     pub putting-run : {n : ℕ} {y : Reading} {out : List ℕ} → Onward x n y
-        → Lays (x .low) (x .high) (spanLetters gc s (x .low) (x .high) (x .turned)) k count n after out → Putting gc s loc L from count before out y (k + n)
+        → LaysLetters (x .low) (x .high) (spanLetters gc s (x .low) (x .high) (x .turned)) k count n after out → Putting gc s loc L from count before out y (k + n)
     putting-run {n} o w =
         let l = spanLetters gc s (x .low) (x .high) (x .turned) in
         putting-on (run-gives s (f .ready) o gc) (length-take-le n l (span-within gc s (x .low) (x .high) (x .turned) n (w .within) (f .ready .inside)))
         (w .inside) (w .is)
 
     module _ (h : k < count) where
-      pub putting-done : ((text : List ℕ) → TextLeft s loc L x text → letters gc text ≡ []) → Puts gc s loc L from count before after
+      pub putting-done : ((text : List ℕ) → TextLeft s loc L x text → letters gc text ≡ []) → PutsLetters gc s loc L from count before after
       putting-done g =
           record {
             says = λ text t n.
@@ -146,7 +146,7 @@ module _ {gc : Code} {s loc : List ℕ} {L : ℕ} {from : Reading} {count : ℕ}
 
 module _ {gc : Code} {s loc : List ℕ} {L start : ℕ} {out : List ℕ} where
   pub writes-is : {from : Reading} {n : ℕ} {after : List ℕ} → Begins s loc L start from → Measures gc s loc L start (length out) (size.Is n)
-      → Puts gc s loc L from n out after → Writes gc s loc L start out (size.Is n) after
+      → PutsLetters gc s loc L from n out after → WritesTranslation gc s loc L start out (size.Is n) after
   writes-is {from} {n} b m p =
       record {
         says = λ t h.
@@ -157,10 +157,10 @@ module _ {gc : Code} {s loc : List ℕ} {L start : ℕ} {out : List ℕ} where
             (k, p .says w (b .leaves t h) (omega (arith, k .1, translation-short l)) ∙ ap (λ (x : List ℕ). front x out) e);
       }
 
-  pub writes-short : Measures gc s loc L start (length out) size.Short → Writes gc s loc L start out size.Short out
+  pub writes-short : Measures gc s loc L start (length out) size.Short → WritesTranslation gc s loc L start out size.Short out
   writes-short m = record { says = λ t h. (m .says t h, refl) }
 
-  pub writes-stop : Measures gc s loc L start (length out) size.Stop → Writes gc s loc L start out size.Stop out
+  pub writes-stop : Measures gc s loc L start (length out) size.Stop → WritesTranslation gc s loc L start out size.Stop out
   writes-stop m = record { says = λ t h. (m .says t h, refl) }
 
 -- two answers that are allowed are equal, and what they leave

@@ -4,14 +4,14 @@ use mathlib.Core.Path.{_≡_, refl, subst, _∙_}
 use mathlib.Core.List.{List}
 use lib.ListN.{length, getD, set, length-set}
 use Rattle.lent_room.proofs.Leaves.{sets-more}
-use Rattle.protein_write.specs.Writing.{LaysOn, Lays}
+use Rattle.protein_write.specs.Writing.{LaysLettersOn, LaysLetters}
 
 module _ (l : List ℕ) (from k : ℕ) (out : List ℕ) where
-  pub lays-none : LaysOn l from k k out out
+  pub lays-none : LaysLettersOn l from k k out out
   lays-none = record { size = refl; is = λ o h. h }
 
-  pub lays-more : {n c : ℕ} {after : List ℕ} → LaysOn l from k n out after → n < length l → c ≡ getD l n 0
-      → LaysOn l from k (n + 1) out (set after (from + n) c)
+  pub lays-more : {n c : ℕ} {after : List ℕ} → LaysLettersOn l from k n out after → n < length l → c ≡ getD l n 0
+      → LaysLettersOn l from k (n + 1) out (set after (from + n) c)
   lays-more {n} {c} {after} f h e =
       record {
         size = length-set after (from + n) c ∙ f .size;
@@ -19,13 +19,13 @@ module _ (l : List ℕ) (from k : ℕ) (out : List ℕ) where
       }
 
 -- that many
-pub lays-are : {l : List ℕ} {from k n m : ℕ} {out after : List ℕ} → LaysOn l from k n out after → n ≡ m → LaysOn l from k m out after
-lays-are {l} {from} {k} {n} {m} {out} {after} f e = subst (λ (n : ℕ). LaysOn l from k n out after) e f
+pub lays-are : {l : List ℕ} {from k n m : ℕ} {out after : List ℕ} → LaysLettersOn l from k n out after → n ≡ m → LaysLettersOn l from k m out after
+lays-are {l} {from} {k} {n} {m} {out} {after} f e = subst (λ (n : ℕ). LaysLettersOn l from k n out after) e f
 
 -- runs of codons, one behind another
-pub lays-join : {l : List ℕ} {from a b c : ℕ} {x y z : List ℕ} → LaysOn l from a b x y → LaysOn l from b c y z → LaysOn l from a c x z
+pub lays-join : {l : List ℕ} {from a b c : ℕ} {x y z : List ℕ} → LaysLettersOn l from a b x y → LaysLettersOn l from b c y z → LaysLettersOn l from a c x z
 lays-join f g = record { size = g .size ∙ f .size; is = λ o h. g .is o (f .is o h) }
 
-pub lays-all : {low high from count n : ℕ} {l out after : List ℕ} → LaysOn l from 0 n out after → low + 3 * n ≤ high
-    → from + n ≤ count → Lays low high l from count n out after
+pub lays-all : {low high from count n : ℕ} {l out after : List ℕ} → LaysLettersOn l from 0 n out after → low + 3 * n ≤ high
+    → from + n ≤ count → LaysLetters low high l from count n out after
 lays-all {out = out} f h i = record { within = h; inside = i; is = f .is out refl }

@@ -15,7 +15,7 @@ ghost use Prim.Native.Nat.{_+_, _*_, _≤_};
 ghost use lib.ListN.{length};
 ghost use Rattle.protein_code.specs.Tables.{Coded, codeOf};
 ghost use Rattle.protein_codons.specs.Reading.{Ready, spanLetters, PlainBlock};
-ghost use Rattle.protein_write.specs.Writing.{LaysOn, Lays, Puts, Writes};
+ghost use Rattle.protein_write.specs.Writing.{LaysLettersOn, LaysLetters, PutsLetters, WritesTranslation};
 
 // The letters of the codons of a span from `start` to before `end`, laid into out behind those of the codons before, looked up one by one.
 fn lay_each(
@@ -34,7 +34,7 @@ fn lay_each(
     requires { ⌜ high ≤ length (now r) ⌝ }
     requires { ⌜ from + end ≤ length (now out) ⌝ }
     requires { ⌜ Coded (now code) ⌝ }
-    ensures { λ _. ⌜ LaysOn (spanLetters (codeOf (now (code .entry))) (now (r .entry)) low high turned) from start end (now (out .entry)) (now (out .exit)) ⌝ }
+    ensures { λ _. ⌜ LaysLettersOn (spanLetters (codeOf (now (code .entry))) (now (r .entry)) low high turned) from start end (now (out .entry)) (now (out .exit)) ⌝ }
 {
     let mut k = start;
     while k < end {
@@ -59,7 +59,7 @@ fn lay_plain(
     requires { ⌜ PlainBlock (now r) low high turned start ⌝ }
     requires { ⌜ from + (start + 64) ≤ length (now out) ⌝ }
     requires { ⌜ Coded (now code) ⌝ }
-    ensures { λ _. ⌜ LaysOn (spanLetters (codeOf (now (code .entry))) (now (r .entry)) low high turned) from start (start + 64) (now (out .entry)) (now (out .exit)) ⌝ }
+    ensures { λ _. ⌜ LaysLettersOn (spanLetters (codeOf (now (code .entry))) (now (r .entry)) low high turned) from start (start + 64) (now (out .entry)) (now (out .exit)) ⌝ }
 {
     let end = start + 64;
     let mut k = start;
@@ -84,7 +84,7 @@ fn lay_block(
     requires { ⌜ high ≤ length (now r) ⌝ }
     requires { ⌜ from + (start + 64) ≤ length (now out) ⌝ }
     requires { ⌜ Coded (now code) ⌝ }
-    ensures { λ _. ⌜ LaysOn (spanLetters (codeOf (now (code .entry))) (now (r .entry)) low high turned) from start (start + 64) (now (out .entry)) (now (out .exit)) ⌝ }
+    ensures { λ _. ⌜ LaysLettersOn (spanLetters (codeOf (now (code .entry))) (now (r .entry)) low high turned) from start (start + 64) (now (out .entry)) (now (out .exit)) ⌝ }
 {
     if plain_block(r, low, high, turned, start) {
         lay_plain(r, low, high, turned, from, start, code, out);
@@ -108,7 +108,7 @@ fn lay_blocks(
     requires { ⌜ high ≤ length (now r) ⌝ }
     requires { ⌜ from + whole ≤ length (now out) ⌝ }
     requires { ⌜ Coded (now code) ⌝ }
-    ensures { λ n. ⌜ (n ≤ whole) × LaysOn (spanLetters (codeOf (now (code .entry))) (now (r .entry)) low high turned) from 0 n (now (out .entry)) (now (out .exit)) ⌝ }
+    ensures { λ n. ⌜ (n ≤ whole) × LaysLettersOn (spanLetters (codeOf (now (code .entry))) (now (r .entry)) low high turned) from 0 n (now (out .entry)) (now (out .exit)) ⌝ }
 {
     if whole < 64 {
         return 0;
@@ -137,7 +137,7 @@ fn lay(
     requires { ⌜ from ≤ count ⌝ }
     requires { ⌜ count ≤ length (now out) ⌝ }
     requires { ⌜ Coded (now code) ⌝ }
-    ensures { λ n. ⌜ Lays low high (spanLetters (codeOf (now (code .entry))) (now (r .entry)) low high turned) from count n (now (out .entry)) (now (out .exit)) ⌝ }
+    ensures { λ n. ⌜ LaysLetters low high (spanLetters (codeOf (now (code .entry))) (now (r .entry)) low high turned) from count n (now (out .entry)) (now (out .exit)) ⌝ }
 {
     let whole = least((high - low) / 3, count - from);
     let k = lay_blocks(r, low, high, turned, from, whole, code, out);
@@ -159,7 +159,7 @@ fn put(
     requires { ⌜ Ready (length (now r)) from ⌝ }
     requires { ⌜ Coded (now code) ⌝ }
     requires { ⌜ count ≤ length (now out) ⌝ }
-    ensures { λ _. ⌜ Puts (codeOf (now (code .entry))) (now (r .entry)) (now (loc .entry)) top from count (now (out .entry)) (now (out .exit)) ⌝ }
+    ensures { λ _. ⌜ PutsLetters (codeOf (now (code .entry))) (now (r .entry)) (now (loc .entry)) top from count (now (out .entry)) (now (out .exit)) ⌝ }
 {
     let mut x = from;
     let mut k: usize = 0;
@@ -196,7 +196,7 @@ pub fn write(
     out: &mut [u8],
 ) -> Size
     requires { ⌜ Coded (now code) ⌝ }
-    ensures { λ y. ⌜ Writes (codeOf (now (code .entry))) (now (r .entry)) (now (loc .entry)) top frame (now (out .entry)) y (now (out .exit)) ⌝ }
+    ensures { λ y. ⌜ WritesTranslation (codeOf (now (code .entry))) (now (r .entry)) (now (loc .entry)) top frame (now (out .entry)) y (now (out .exit)) ⌝ }
 {
     if r.len() < top as usize {
         return Size::Stop;

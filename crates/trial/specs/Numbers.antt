@@ -13,7 +13,7 @@ use Rattle.location_spans.specs.declared.room.Answer.{Answer}
 use Rattle.location_spans.specs.declared.room.Answer.the-variants as answer
 use Rattle.paper.specs.Translation.{code1}
 use Rattle.protein_compare.specs.Comparing.{Compares}
-use Rattle.protein_write.specs.Writing.{Writes}
+use Rattle.protein_write.specs.Writing.{WritesTranslation}
 use Rattle.protein_measure.specs.declared.Size.{Size}
 use Rattle.protein_measure.specs.declared.Size.the-variants as size
 
@@ -65,7 +65,7 @@ sizeLength size.Stop = 0
 
 pub record TranslationNumbers (s loc : List ℕ) (L start : ℕ) (out : List ℕ) (number length : ℕ) (after : List ℕ) : Type 0 where
   pub says : Size
-  pub writes : Writes code1 s loc L start out says after
+  pub writes : WritesTranslation code1 s loc L start out says after
   pub number-is : number ≡ sizeNumber says
   pub length-is : length ≡ sizeLength says
 

@@ -1,7 +1,7 @@
 -- No bytes are in any room; others where so many are left.
 use native.Mathlib.Omega.{arith}
 use Rattle.lent_room.specs.Room.{fits}
-use Rattle.lent_room.specs.Room.Fits.{short}
+use Rattle.lent_room.specs.Room.InRoom.{short}
 use Rattle.lent_room.proofs.Leaves.{fits-none}
 use Rattle.lent_room.proofs.fit.Statement.{statement}
 use Rattle.lent_room.proofs.fit.Tie as tie

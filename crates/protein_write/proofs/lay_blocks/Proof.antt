@@ -3,14 +3,14 @@ use Prim.Native.Nat.{_≤_, _-_}
 use native.Mathlib.Omega.{arith}
 use Rattle.protein_code.specs.Tables.{codeOf}
 use Rattle.protein_codons.specs.Reading.{spanLetters}
-use Rattle.protein_write.specs.Writing.{LaysOn}
+use Rattle.protein_write.specs.Writing.{LaysLettersOn}
 use Rattle.protein_write.proofs.Runs.{lays-none, lays-join}
 use borrow.Author.Needs.{needs}
 use Rattle.protein_write.proofs.lay_blocks.Statement.{statement}
 use Rattle.protein_write.proofs.lay_blocks.Tie as tie
 
 abbrev Inv-loop : tie.InvT-loop
-Inv-loop r low high turned from whole code out₀ k₀ out k = (k ≤ whole) × LaysOn (spanLetters (codeOf code) r low high turned) from 0 k out₀ out
+Inv-loop r low high turned from whole code out₀ k₀ out k = (k ≤ whole) × LaysLettersOn (spanLetters (codeOf code) r low high turned) from 0 k out₀ out
 
 abbrev μ-loop : tie.MeasureT-loop
 μ-loop r low high turned from whole code out₀ k₀ out k = whole - k

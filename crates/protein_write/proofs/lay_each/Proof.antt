@@ -4,14 +4,14 @@ use native.Mathlib.Omega.{arith}
 use Rattle.protein_code.specs.Tables.{codeOf}
 use Rattle.protein_codons.specs.Reading.{spanLetters}
 use Rattle.protein_codons.proofs.Readings.{span-within}
-use Rattle.protein_write.specs.Writing.{LaysOn}
+use Rattle.protein_write.specs.Writing.{LaysLettersOn}
 use Rattle.protein_write.proofs.Runs.{lays-none, lays-more, lays-are}
 use borrow.Author.Needs.{needs}
 use Rattle.protein_write.proofs.lay_each.Statement.{statement}
 use Rattle.protein_write.proofs.lay_each.Tie as tie
 
 abbrev Inv-loop : tie.InvT-loop
-Inv-loop r low high turned from start end code out₀ k₀ out k = (k ≤ end) × LaysOn (spanLetters (codeOf code) r low high turned) from start k out₀ out
+Inv-loop r low high turned from start end code out₀ k₀ out k = (k ≤ end) × LaysLettersOn (spanLetters (codeOf code) r low high turned) from start k out₀ out
 
 abbrev μ-loop : tie.MeasureT-loop
 μ-loop r low high turned from start end code out₀ k₀ out k = end - k

@@ -5,14 +5,14 @@ use Rattle.protein_code.specs.Tables.{codeOf}
 use Rattle.protein_codons.specs.Reading.{spanLetters}
 use Rattle.protein_codons.proofs.Readings.{span-within}
 use Rattle.protein_codons.proofs.Blocks.{plain-nth}
-use Rattle.protein_write.specs.Writing.{LaysOn}
+use Rattle.protein_write.specs.Writing.{LaysLettersOn}
 use Rattle.protein_write.proofs.Runs.{lays-none, lays-more, lays-are}
 use borrow.Author.Needs.{needs}
 use Rattle.protein_write.proofs.lay_plain.Statement.{statement}
 use Rattle.protein_write.proofs.lay_plain.Tie as tie
 
 abbrev Inv-loop : tie.InvT-loop
-Inv-loop r low high turned from start code out₀ end k₀ out k = (start ≤ k) × (k ≤ end) × LaysOn (spanLetters (codeOf code) r low high turned) from start k out₀ out
+Inv-loop r low high turned from start code out₀ end k₀ out k = (start ≤ k) × (k ≤ end) × LaysLettersOn (spanLetters (codeOf code) r low high turned) from start k out₀ out
 
 abbrev μ-loop : tie.MeasureT-loop
 μ-loop r low high turned from start code out₀ end k₀ out k = end - k
