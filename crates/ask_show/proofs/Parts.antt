@@ -17,11 +17,13 @@ use Rattle.ask_answers.specs.declared.Stretch.{Stretch}
 use Rattle.ask_show.specs.Shown.{StretchOf, IsPresent, ValueOf, PointsAt}
 
 pub stretch-none : {p : Part} → p .to < p .from → StretchOf p noStretch
-stretch-none h = record { says = λ s x i. absurd (omega (arith, i .first, i .behind, h)) }
+stretch-none h = record { so = λ k. absurd (omega (arith, h, k)); none = λ k. refl; says = λ s x i. absurd (omega (arith, i .first, i .behind, h)) }
 
 pub stretch-so : {p : Part} → p .from ≤ p .to → StretchOf p (record { start = p .from; size = p .to - p .from })
 stretch-so {p} h =
     record {
+      so = λ k. refl;
+      none = λ k. absurd (omega (arith, h, k));
       says =
           λ s x i.
           let n : p .to - p .from ≡ length (raw (x .read)) = omega (arith, i .first, i .behind) in
@@ -66,8 +68,8 @@ value-some {p} {r} t = record { says = λ s o h. some-so s o h }
 
 -- ---- the bytes of a stretch
 
-pub points-so : {w : List ℕ} {at : ℕ × ℕ} (x : Stretch) → PointsAt w at x (take (x .start + x .size - x .start) (drop (x .start) w)) (at .0, x .start + at .1)
-points-so {w} x =
+pub points-so : {w : List ℕ} {at : ℕ × ℕ} (x : Stretch) → Lies w x → PointsAt w at x (take (x .start + x .size - x .start) (drop (x .start) w)) (at .0, x .start + at .1)
+points-so {w} x l =
     record {
       says =
           λ h.
@@ -75,8 +77,9 @@ points-so {w} x =
             bytes = ap (λ (n : ℕ). take n (drop (x .start) w)) (let e : x .start + x .size - x .start ≡ x .size = omega arith in e);
             there = refl;
           };
+      none = λ n. absurd (n l);
     }
 
--- where it lies outside nothing is said
-pub points-none : {w r : List ℕ} {at p : ℕ × ℕ} (x : Stretch) → length w < x .start + x .size → PointsAt w at x r p
-points-none x h = record { says = λ l. absurd (omega (arith, h, l)) }
+-- where it lies outside, none
+pub points-none : {w : List ℕ} {at : ℕ × ℕ} (x : Stretch) → length w < x .start + x .size → PointsAt w at x (take 0 (drop 0 w)) (at .0, 0 + at .1)
+points-none x h = record { says = λ l. absurd (omega (arith, h, l)); none = λ n. record { bytes = refl; there = refl } }

@@ -1,23 +1,25 @@
 -- What is shown of what the walk found: the stretch of a text, the number of a kind, and the bytes of a stretch in the lent listing
 -- itself.
-use Prim.Native.Nat.{ℕ, _+_}
+use Prim.Native.Nat.{ℕ, _+_, _-_, _≤_, _<_}
 use mathlib.Core.Path.{_≡_}
 use mathlib.Core.Bool.{Bool}
 use mathlib.Core.List.{List}
 use mathlib.Core.Option.{Option}
 use Rattle.paper.specs.Tree.{Text}
-use Rattle.paper.specs.Answers.{shown, partOf, isPresent, valuePart}
+use Rattle.paper.specs.Answers.{shown, noPart, partOf, isPresent, valuePart}
 use Rattle.paper.specs.Answers as paper
 use Rattle.value_words.specs.declared.Kind.{Kind}
 use Rattle.value_words.specs.declared.Kind.the-variants.{Dna, Rna, Aa, Other}
 use Rattle.walk_steps.specs.Stands.{IsPart, MaybeIs}
 use Rattle.walk_steps.specs.declared.Part.{Part}
 use Rattle.walk_steps.specs.declared.Maybe.{Maybe}
-use Rattle.ask_answers.specs.Stretches.{partIs, Lies}
+use Rattle.ask_answers.specs.Stretches.{noStretch, partIs, Lies}
 use Rattle.ask_answers.specs.declared.Stretch.{Stretch}
 
--- whichever text is found there, this is its part
+-- from one place to the other, or none; and whichever text is found there, this is its part
 pub record StretchOf (p : Part) (r : Stretch) : Type 0 where
+  pub so : p .from ≤ p .to → r ≡ record { start = p .from; size = p .to - p .from }
+  pub none : p .to < p .from → r ≡ noStretch
   pub says : (s : List ℕ) (x : Text ℕ) → IsPart s x p → (partIs r ≡ partOf x) × Lies s r
 
 pub record IsPresent (p : Maybe) (r : Bool) : Type 0 where
@@ -39,6 +41,7 @@ pub record Points (w : List ℕ) (at : ℕ × ℕ) (x : paper.Part) (r : List �
   pub bytes : r ≡ shown w x
   pub there : p ≡ (at .0, x .start + at .1)
 
--- where the stretch lies within the listing
+-- where the stretch lies within the listing; where it doesn't, no part is shown
 pub record PointsAt (w : List ℕ) (at : ℕ × ℕ) (x : Stretch) (r : List ℕ) (p : ℕ × ℕ) : Type 0 where
   pub says : Lies w x → Points w at (partIs x) r p
+  pub none : ¬ Lies w x → Points w at noPart r p

@@ -12,23 +12,6 @@ ghost use Rattle.read_steps.specs.declared.Step.the-variants.{Ok};
 ghost use Rattle.read_layout.specs.Parts.{Enters, Leaves, MaybeParty, StartsPast, QualsRest, IdsRest, held, attributed, introduced, titled, totalled, close-tag, earlier};
 ghost use Rattle.read_layout.specs.Says.{ShapeSays};
 
-// The cursor of a listing: where a reading stands.
-pub struct Cursor {
-    pub at: usize,
-}
-
-impl Cursor {
-    // "16,777,216 bytes is the longest listing."
-    pub const LIMIT: usize = 16_777_216;
-
-    // At the start of a listing.
-    pub fn fresh() -> Self
-        ensures { λ r. ⌜ r .at ≡ 0 ⌝ }
-    {
-        Cursor { at: 0 }
-    }
-}
-
 // What the layout says of some bytes.
 pub enum Shape {
     Laid,
@@ -418,14 +401,11 @@ fn doctype(s: &[u8], st: Step) -> Step
 }
 
 // The whole text.
-fn document(s: &[u8], c: Cursor, t: &[u8; 256]) -> Step
+fn document(s: &[u8], t: &[u8; 256]) -> Step
     requires { ⌜ ClassTable (now t) ⌝ }
-    requires { ⌜ c .at ≡ 0 ⌝ }
     ensures { λ r. ⌜ Reads Form.document nothing (now (s .entry)) (Ok 0 0) r × AtEnd (now (s .entry)) r ⌝ }
 {
-    let at = c.at;
-    let start = Step::Ok { next: at, far: at };
-    let a = read_steps::word(s, start, b"<?xml version=\"1.0\" encoding=\"UTF-8\"?>");
+    let a = read_steps::word(s, Step::fresh(), b"<?xml version=\"1.0\" encoding=\"UTF-8\"?>");
     let b = doctype(s, read_steps::blanks(s, a));
     let d = root(s, read_steps::blanks(s, b), t);
     read_steps::end(s, read_steps::blanks(s, d))
@@ -435,11 +415,11 @@ fn document(s: &[u8], c: Cursor, t: &[u8; 256]) -> Step
 pub fn layout(listing: &[u8]) -> Shape
     ensures { λ r. ⌜ ShapeSays (now (listing .entry)) r ⌝ }
 {
-    if listing.len() > Cursor::LIMIT {
+    if listing.len() > Step::LIMIT {
         return Shape::Refused { rule: 1, place: 0 };
     }
     let t = read_steps::class_table();
-    match document(listing, Cursor::fresh(), &t) {
+    match document(listing, &t) {
         Step::Ok { next: _, far: _ } => Shape::Laid,
         Step::Fail(k) => Shape::Refused { rule: 2, place: k },
     }

@@ -11,16 +11,30 @@ ghost use Rattle.paper.specs.Bytes.{isBlank};
 ghost use Rattle.paper.specs.Form.{these, one};
 ghost use Rattle.paper.specs.Layout;
 ghost use Rattle.read_bytes.specs.Words.{StandsAt};
+ghost use Rattle.read_steps.specs.declared.Step.the-variants.{Ok};
 ghost use Rattle.read_steps.specs.Parts.{Shows};
 ghost use Rattle.read_steps.specs.Reads.{Reads, Passes, AtEnd, raised, chosen, stayed};
 ghost use Rattle.read_steps.specs.Follow.{Not, anything, nothing};
 ghost use Rattle.read_steps.specs.Words.{Eight};
 ghost use Rattle.read_steps.specs.Texts.{allowedIn, isPlain, isText, letter, One, ClassTable, Scanned, Passed, Below, Odd, Block};
 
-// How far a reading got: `next` is where the next part starts, `far` the furthest place to which some layout goes.
+// The cursor of a listing, how far a reading got: `next` is where the next part starts, `far` the furthest place to which some layout
+// goes.
 pub enum Step {
     Ok { next: usize, far: usize },
     Fail(usize),
+}
+
+impl Step {
+    // "16,777,216 bytes is the longest listing."
+    pub const LIMIT: usize = 16_777_216;
+
+    // At the start of a listing.
+    pub fn fresh() -> Self
+        ensures { λ r. ⌜ r ≡ Ok 0 0 ⌝ }
+    {
+        Step::Ok { next: 0, far: 0 }
+    }
 }
 
 pub fn most(a: usize, b: usize) -> usize

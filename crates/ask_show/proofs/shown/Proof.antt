@@ -45,7 +45,7 @@ part-result-end-3 : tie.Need-part-result-end-3
 part-result-end-3 c = search needs
 
 returns-3 : tie.Need-returns-3
-returns-3 c = points-so (c .before .before .before .args .x)
+returns-3 c = points-so (c .before .before .before .args .x) (omega (arith, c .before .before .if1 .left, c .before .if2 .left))
 
 pub shown-spec : {M : Type 1} → statement M
 shown-spec =

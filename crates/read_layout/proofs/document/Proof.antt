@@ -1,12 +1,12 @@
 -- `read_layout::document` meets its contract: its parts one after another, up to the end.
-use Prim.Native.Nat.{ℕ}
-use mathlib.Core.Path.{sym, ap}
-use Rattle.read_steps.specs.declared.Step.the-variants.{Ok}
 use Rattle.read_steps.proofs.Steps.{step-from}
 use Rattle.read_layout.proofs.Wholes.{document-reads}
 use borrow.Author.Needs.{needs}
 use Rattle.read_layout.proofs.document.Statement.{statement}
 use Rattle.read_layout.proofs.document.Tie as tie
+
+fresh-requires : tie.Need-fresh-requires
+fresh-requires c κs = search needs
 
 slice-aggregate-word : tie.Need-slice-aggregate-word
 slice-aggregate-word c = search needs
@@ -33,19 +33,16 @@ end-requires : tie.Need-end-requires
 end-requires c κs = search needs
 
 returns : tie.Need-returns
-returns c =
-    let pre' = c .before .before .before .before .before .before .before .before .before .pre in
-    let word = c .before .before .before .before .before .before .word in
-    let blanks = c .before .before .before .before .before .blanks in (
-      document-reads (step-from (ap (λ (n : ℕ). Ok n n) (sym (pre' .1))) (word .ensures)) (blanks .ensures) (c .before .before .before .before .doctype .ensures) (c .before .before .before .blanks2 .ensures)
-          (c .before .before .root .ensures) (c .before .blanks3 .ensures) (c .end .ensures .0),
-      c .end .ensures .1,
-    )
+returns c = (
+  document-reads (step-from (c@fresh .ensures) (c@word .ensures)) (c@blanks .ensures) (c@doctype .ensures) (c@blanks2 .ensures) (c@root .ensures) (c@blanks3 .ensures) (c@end .ensures .0),
+  c@end .ensures .1,
+)
 
 pub document-spec : {M : Type 1} → statement M
 document-spec =
     tie.close
     (tie.spec
+    fresh-requires
     slice-aggregate-word
     word-requires
     blanks-requires

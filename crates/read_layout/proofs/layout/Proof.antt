@@ -15,9 +15,6 @@ returns c = too-long (c .if1 .taken)
 class-table-requires : tie.Need-class-table-requires
 class-table-requires c κs = search needs
 
-fresh-requires : tie.Need-fresh-requires
-fresh-requires c κs = search needs
-
 document-requires : tie.Need-document-requires
 document-requires c κs = search needs
 
@@ -43,7 +40,6 @@ layout-spec =
     (tie.spec
     returns
     class-table-requires
-    fresh-requires
     document-requires
     enum-told
     enum-known-k
