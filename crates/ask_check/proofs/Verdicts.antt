@@ -15,7 +15,7 @@ use Rattle.judge_faults.specs.declared.Fault.the-variants.{Clean, At}
 use Rattle.paper.specs.declared.Verdict.the-variants.{Accepted}
 use Rattle.paper.specs.declared.Verdict.the-variants as verdict
 use Rattle.judge_faults.proofs.Parts.{_or_}
-use Rattle.read_steps.specs.Parts.{Shows}
+use Rattle.read_steps.specs.Parts.{ShowsBytes}
 use Rattle.value_words.specs.Reading.{OfRead}
 use Rattle.read_layout.specs.Says.{Lays, Refuses, too-long, strays}
 use Rattle.judge_faults.specs.Sets.{Least, Earlier, Faults, Firsts, Bad, Some, unlessOf}
@@ -47,7 +47,7 @@ module _ (l : Listing ℕ) where
   of-broken n p (sequence k q i h) = inr (inr (k, q, i, h))
 
 pub listing-judged : {w p : List ℕ} {h : Headed} {t : Total} {ok : Bool} {c : Fault} (d r : Fault) → JudgesHeader w h → JudgesSequences w (h .first) t
-    → Shows w (h .total .from) (h .total .to) p → OfRead p (Number (t .total)) ok → c ≡ unlessOf ok 14 (h .total .from) → Earlier c (t .fault) d → Earlier (h .fault) d r
+    → ShowsBytes w (h .total .from) (h .total .to) p → OfRead p (Number (t .total)) ok → c ≡ unlessOf ok 14 (h .total .from) → Earlier c (t .fault) d → Earlier (h .fault) d r
     → JudgesListing w (record { fault = r; total = t .total; skipped = t .skipped; features = t .features; judged = t .judged; unjudged = t .unjudged })
 listing-judged {t = t} {ok} {c} d r jh js sh on ec e1 e2 =
     record {

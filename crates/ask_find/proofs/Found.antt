@@ -46,7 +46,7 @@ module _ {w : List ℕ} {first k : ℕ} (f : FirstIs w first) where
   pub no-sequence : SeeksIn (child layout.sequence) w first k Missing → FindsSequence w k (refuse 30 0)
   no-sequence n = paper.no-sequence (f .accepted) (sought n)
 
-  module _ {at : ℕ} {r : FoundSequence} {b : Bool} (n : SeeksIn (child layout.sequence) w first k (At at)) (found : items.FindsSequence w at r)
+  module _ {at : ℕ} {r : FoundSequence} {b : Bool} (n : SeeksIn (child layout.sequence) w first k (At at)) (found : items.MeetsSequence w at r)
       (tells : TellsSkipped w (r .residues) b) where
     here : Here (child layout.sequence) w (f .listing .sequences) k at
     here = sought n

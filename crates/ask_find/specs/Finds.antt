@@ -17,8 +17,8 @@ use Rattle.walk_seek.specs.declared.FeatureAt.{FeatureAt}
 use Rattle.walk_seek.specs.declared.FeatureAt.the-variants as feature
 use Rattle.walk_seek.specs.declared.QualifierAt.{QualifierAt}
 use Rattle.walk_seek.specs.declared.QualifierAt.the-variants as qualifier
-use Rattle.ask_find.specs.declared.First.{First}
-use Rattle.ask_find.specs.declared.First.the-variants as first
+use Rattle.ask_find.specs.declared.SequencesFrom.{SequencesFrom}
+use Rattle.ask_find.specs.declared.SequencesFrom.the-variants as first
 use Rattle.ask_find.specs.declared.SequenceAt.{SequenceAt}
 use Rattle.ask_find.specs.declared.SequenceAt.the-variants as sequence
 
@@ -31,7 +31,7 @@ pub record FirstIs (w : List ℕ) (at : ℕ) : Type 0 where
   pub sequences : Stands (each (child sequence) (listing .sequences)) w at end
   pub closes : Starts closing (drop end w)
 
-abbrev pub FindsFirst : List ℕ → First → Type 0
+abbrev pub FindsFirst : List ℕ → SequencesFrom → Type 0
 FindsFirst w (first.Refused n p) = Checked w (refuse n p)
 FindsFirst w (first.At at) = FirstIs w at
 

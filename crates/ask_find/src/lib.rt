@@ -13,16 +13,16 @@ use walk_seek::qualifier_in;
 ghost use Rattle.ask_find.specs.Finds.{FindsFirst, SequenceAsked, FeatureAsked, QualifierAsked};
 
 // Where the sequences of an accepted listing start; or the check's refusal.
-enum First {
+enum SequencesFrom {
     Refused { rule: usize, place: usize },
     At(usize),
 }
 
-fn first_sequence(listing: &[u8]) -> First
+fn first_sequence(listing: &[u8]) -> SequencesFrom
     ensures { λ r. ⌜ FindsFirst (now (listing .entry)) r ⌝ }
 {
     match ask_check::check(listing) {
-        Verdict::Refused { rule, place } => First::Refused { rule, place },
+        Verdict::Refused { rule, place } => SequencesFrom::Refused { rule, place },
         Verdict::Accepted {
             total: _,
             skipped: _,
@@ -35,7 +35,7 @@ fn first_sequence(listing: &[u8]) -> First
                 total: _,
                 first,
             } = judge_header::judge_header(listing);
-            First::At(first)
+            SequencesFrom::At(first)
         }
     }
 }
@@ -50,8 +50,8 @@ pub fn find_sequence(listing: &[u8], k: usize) -> SequenceAt
     ensures { λ r. ⌜ SequenceAsked (now (listing .entry)) k r ⌝ }
 {
     match first_sequence(listing) {
-        First::Refused { rule, place } => SequenceAt::Refused { rule, place },
-        First::At(first) => match nth(listing, first, k, Item::Sequence) {
+        SequencesFrom::Refused { rule, place } => SequenceAt::Refused { rule, place },
+        SequencesFrom::At(first) => match nth(listing, first, k, Item::Sequence) {
             Place::Missing => SequenceAt::Refused { rule: 30, place: 0 },
             Place::At(at) => {
                 let found = walk_items::sequence(listing, at);

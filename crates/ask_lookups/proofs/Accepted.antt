@@ -10,8 +10,8 @@ use Rattle.paper.specs.Rules as Rules
 use Rattle.paper.specs.Answers.{limit, give, kindNumber, FindsSequence}
 use Rattle.paper.specs.Answers as paper
 use Rattle.value_words.specs.Reading.{KindIs}
-use Rattle.value_words.specs.declared.Kind.{Kind}
-use Rattle.value_words.specs.declared.Kind.the-variants.{Dna, Rna, Aa, Other}
+use Rattle.value_words.specs.declared.Molecule.{Molecule}
+use Rattle.value_words.specs.declared.Molecule.the-variants.{Dna, Rna, Aa, Other}
 use Rattle.ask_translation.specs.Plans.{Keeps}
 use Rattle.ask_show.specs.Shown.{kindIs}
 
@@ -32,12 +32,12 @@ pub keeps-feature : {w : List ℕ} {q : Sequence ℕ} → Accepts w q → (f : F
 keeps-feature a f m = record { texts = a .texts; feature = a .features f m }
 
 -- the kind that its moltype names (rule 16)
-pub record KindOf (q : Sequence ℕ) (c : Kind) : Type 0 where
+pub record KindOf (q : Sequence ℕ) (c : Molecule) : Type 0 where
   pub kind : Rules.Kind
   pub is : IsKind kind q
   pub number : kindIs c ≡ kindNumber kind
 
-pub kind-found : {w : List ℕ} {q : Sequence ℕ} (c : Kind) → Accepts w q → KindIs (q .moltype .read) c → KindOf q c
+pub kind-found : {w : List ℕ} {q : Sequence ℕ} (c : Molecule) → Accepts w q → KindIs (q .moltype .read) c → KindOf q c
 kind-found Dna a h = record { kind = dna; is = h; number = refl }
 kind-found Rna a h = record { kind = rna; is = h; number = refl }
 kind-found Aa a h = record { kind = aa; is = h; number = refl }

@@ -5,9 +5,9 @@ use mathlib.Core.Bool.{Bool, false}
 use mathlib.Core.List.{List}
 use Rattle.paper.specs.Answers.{refuse, isPresent, FindsSequence, FindsFeature, FindsQualifier, SequenceSays, FeatureSays, QualifierSays}
 use Rattle.paper.specs.Answers as paper
-use Rattle.read_steps.specs.Parts.{Shows}
+use Rattle.read_steps.specs.Parts.{ShowsBytes}
 use Rattle.value_words.specs.Reading.{Moltypes}
-use Rattle.value_words.specs.declared.Kind.{Kind}
+use Rattle.value_words.specs.declared.Molecule.{Molecule}
 use Rattle.judge_faults.proofs.Bytes.{part-shows}
 use Rattle.walk_items.specs.declared.FoundSequence.{FoundSequence}
 use Rattle.walk_items.specs.declared.FoundFeature.{FoundFeature}
@@ -25,7 +25,7 @@ module _ {w : List ℕ} {k : ℕ} where
   pub sequence-refused : {n p : ℕ} {x : Stretch} → FindsSequence w k (refuse n p) → x ≡ noStretch → SequenceSays w k n p 0 (partIs x) × Lies w x
   sequence-refused {n} {p} h e = subst (λ (y : Stretch). SequenceSays w k n p 0 (partIs y) × Lies w y) (sym e) (paper.refused h, lies-none w)
 
-  pub sequence-located : {f : FoundSequence} {m : List ℕ} {c : Kind} {d : ℕ} {x : Stretch} → SequenceIs w k f → Shows w (f .moltype .from) (f .moltype .to) m
+  pub sequence-located : {f : FoundSequence} {m : List ℕ} {c : Molecule} {d : ℕ} {x : Stretch} → SequenceIs w k f → ShowsBytes w (f .moltype .from) (f .moltype .to) m
       → Moltypes m c → d ≡ kindIs c → StretchOf (f .residues) x → SequenceSays w k 0 0 d (partIs x) × Lies w x
   sequence-located {c = c} y h t e r =
       let q = y .asked in

@@ -10,16 +10,16 @@ use Rattle.paper.specs.Bytes.{raw}
 use Rattle.paper.specs.Tree.{Text}
 use Rattle.paper.specs.Answers.{isPresent, valuePart}
 use Rattle.walk_steps.specs.Stands.{MaybeIs}
-use Rattle.walk_steps.specs.declared.Part.{Part}
+use Rattle.walk_steps.specs.declared.Range.{Range}
 use Rattle.walk_steps.specs.declared.Maybe.the-variants.{Absent, Present}
 use Rattle.ask_answers.specs.Stretches.{noStretch, partIs, Lies}
 use Rattle.ask_answers.specs.declared.Stretch.{Stretch}
 use Rattle.ask_show.specs.Shown.{StretchOf, IsPresent, ValueOf, PointsAt}
 
-pub stretch-none : {p : Part} → p .to < p .from → StretchOf p noStretch
+pub stretch-none : {p : Range} → p .to < p .from → StretchOf p noStretch
 stretch-none h = record { so = λ k. absurd (omega (arith, h, k)); none = λ k. refl; says = λ s x i. absurd (omega (arith, i .first, i .behind, h)) }
 
-pub stretch-so : {p : Part} → p .from ≤ p .to → StretchOf p (record { start = p .from; size = p .to - p .from })
+pub stretch-so : {p : Range} → p .from ≤ p .to → StretchOf p (record { start = p .from; size = p .to - p .from })
 stretch-so {p} h =
     record {
       so = λ k. refl;
@@ -45,7 +45,7 @@ present-none = record { says = λ s o h. none-so s o h }
     none-so s none h = refl
     none-so s (some x) h = absurd h
 
-pub present-some : (p : Part) → IsPresent (Present p) true
+pub present-some : (p : Range) → IsPresent (Present p) true
 present-some p = record { says = λ s o h. some-so s o h }
   where
     some-so : (s : List ℕ) (o : Option (Text ℕ)) → MaybeIs s o (Present p) → true ≡ isPresent o
@@ -59,7 +59,7 @@ value-none = record { says = λ s o h. none-so s o h }
     none-so s none h = (refl, lies-none s)
     none-so s (some x) h = absurd h
 
-pub value-some : {p : Part} {r : Stretch} → StretchOf p r → ValueOf (Present p) r
+pub value-some : {p : Range} {r : Stretch} → StretchOf p r → ValueOf (Present p) r
 value-some {p} {r} t = record { says = λ s o h. some-so s o h }
   where
     some-so : (s : List ℕ) (o : Option (Text ℕ)) → MaybeIs s o (Present p) → (partIs r ≡ valuePart o) × Lies s r

@@ -8,16 +8,16 @@ use mathlib.Core.Option.{Option}
 use Rattle.paper.specs.Tree.{Text}
 use Rattle.paper.specs.Answers.{shown, noPart, partOf, isPresent, valuePart}
 use Rattle.paper.specs.Answers as paper
-use Rattle.value_words.specs.declared.Kind.{Kind}
-use Rattle.value_words.specs.declared.Kind.the-variants.{Dna, Rna, Aa, Other}
+use Rattle.value_words.specs.declared.Molecule.{Molecule}
+use Rattle.value_words.specs.declared.Molecule.the-variants.{Dna, Rna, Aa, Other}
 use Rattle.walk_steps.specs.Stands.{IsPart, MaybeIs}
-use Rattle.walk_steps.specs.declared.Part.{Part}
+use Rattle.walk_steps.specs.declared.Range.{Range}
 use Rattle.walk_steps.specs.declared.Maybe.{Maybe}
 use Rattle.ask_answers.specs.Stretches.{noStretch, partIs, Lies}
 use Rattle.ask_answers.specs.declared.Stretch.{Stretch}
 
 -- from one place to the other, or none; and whichever text is found there, this is its part
-pub record StretchOf (p : Part) (r : Stretch) : Type 0 where
+pub record StretchOf (p : Range) (r : Stretch) : Type 0 where
   pub so : p .from ≤ p .to → r ≡ record { start = p .from; size = p .to - p .from }
   pub none : p .to < p .from → r ≡ noStretch
   pub says : (s : List ℕ) (x : Text ℕ) → IsPart s x p → (partIs r ≡ partOf x) × Lies s r
@@ -28,7 +28,7 @@ pub record IsPresent (p : Maybe) (r : Bool) : Type 0 where
 pub record ValueOf (p : Maybe) (r : Stretch) : Type 0 where
   pub says : (s : List ℕ) (o : Option (Text ℕ)) → MaybeIs s o p → (partIs r ≡ valuePart o) × Lies s r
 
-abbrev pub kindIs : Kind → ℕ
+abbrev pub kindIs : Molecule → ℕ
 kindIs Dna = 1
 kindIs Rna = 2
 kindIs Aa = 3

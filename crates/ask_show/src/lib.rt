@@ -3,14 +3,14 @@
 // kind, and on ask_answers for a stretch.
 use ask_answers::Stretch;
 use ask_answers::no_stretch;
-use value_words::Kind;
+use value_words::Molecule;
 use walk_steps::Maybe;
-use walk_steps::Part;
+use walk_steps::Range;
 ghost use mathlib.Core.Path.{_≡_};
 ghost use Rattle.ask_show.specs.Shown.{StretchOf, IsPresent, ValueOf, kindIs, PointsAt};
 
 // The stretch of a part.
-pub fn stretch_of(part: Part) -> Stretch
+pub fn stretch_of(part: Range) -> Stretch
     ensures { λ r. ⌜ StretchOf part r ⌝ }
 {
     if part.to < part.from {
@@ -38,14 +38,14 @@ pub fn shown<'l>(listing: &'l [u8], x: Stretch) -> &'l [u8]
 }
 
 // 0 none, 1 DNA, 2 RNA, 3 AA.
-pub fn kind_number(kind: Kind) -> u8
+pub fn kind_number(kind: Molecule) -> u8
     ensures { λ r. ⌜ r ≡ kindIs kind ⌝ }
 {
     match kind {
-        Kind::Dna => 1,
-        Kind::Rna => 2,
-        Kind::Aa => 3,
-        Kind::Other => 0,
+        Molecule::Dna => 1,
+        Molecule::Rna => 2,
+        Molecule::Aa => 3,
+        Molecule::Other => 0,
     }
 }
 

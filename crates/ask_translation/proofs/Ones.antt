@@ -7,7 +7,7 @@ use native.Mathlib.Omega.{arith}
 use Rattle.paper.specs.Tree.{Sequence, Feature}
 use Rattle.paper.specs.Translation.{Code, code1, dropStop}
 use Rattle.paper.specs.Answers.{refuse, give, Translates, Lent}
-use Rattle.read_steps.specs.Parts.{Shows}
+use Rattle.read_steps.specs.Parts.{ShowsBytes}
 use Rattle.walk_items.specs.declared.FoundFeature.{FoundFeature}
 use Rattle.protein_codons.specs.Letters.{lettersOf}
 use Rattle.protein_measure.specs.Measuring.{Measured}
@@ -46,8 +46,8 @@ module _ {s out : List ℕ} {known : Known} {g : FoundFeature} {p : Plan} (plans
             record { outcome = refuse 36 0; translates = Translates.unjudged (x .0) (x .1); lent = Lent.refused };
       }
 
-  module _ {gc : Code} {r loc after : List ℕ} {start : ℕ} {y : Size} (code : gc ≡ code1) (z : p ≡ From start) (shr : Shows s (known .residues .from) (known .residues .to) r)
-      (shl : Shows s (g .location .from) (g .location .to) loc) (w : WritesTranslation gc r loc (known .top) start out y after) where
+  module _ {gc : Code} {r loc after : List ℕ} {start : ℕ} {y : Size} (code : gc ≡ code1) (z : p ≡ From start) (shr : ShowsBytes s (known .residues .from) (known .residues .to) r)
+      (shl : ShowsBytes s (g .location .from) (g .location .to) loc) (w : WritesTranslation gc r loc (known .top) start out y after) where
     wrote : {x : Size} → y ≡ x → (q : Sequence ℕ) (f : Feature ℕ) (d : FoundCds r loc (known .top) start q f)
         → Measured (lettersOf code1 r start (d .location)) (length out) x × (after ≡ afterOf (lettersOf code1 r start (d .location)) out x)
     wrote e q f d = subst₂ (λ (c : Code) (x : Size). WritesTranslation c r loc (known .top) start out x after) code e w .says (d .location) (d .codes)

@@ -9,14 +9,14 @@ use Rattle.paper.specs.Tree.{Sequence, Feature}
 use Rattle.paper.specs.Translation.{code1}
 use Rattle.paper.specs.Locations.{Location, Locates, breaks25}
 use Rattle.paper.specs.Rules.{L, isSymbol, Coding, Judged, residues, rule-18, rule-24, rule-25, rule-27}
-use Rattle.read_steps.specs.Parts.{Shows}
+use Rattle.read_steps.specs.Parts.{ShowsBytes}
 use Rattle.value_words.specs.Reading.{Tells}
 use Rattle.value_words.proofs.Tests.{tells-true, tells-false}
 use Rattle.walk_items.specs.Items.{IsFeature}
 use Rattle.walk_items.specs.declared.FoundFeature.{FoundFeature}
-use Rattle.location_judge.specs.Judging.{JudgesPart, Judged as Placed}
-use Rattle.location_judge.specs.declared.judging.Verdict.{Verdict}
-use Rattle.location_judge.specs.declared.judging.Verdict.the-variants.{Bad, Is}
+use Rattle.location_judge.specs.Judging.{JudgesPart, JudgedText as Placed}
+use Rattle.location_judge.specs.declared.judging.Judgement.{Judgement}
+use Rattle.location_judge.specs.declared.judging.Judgement.the-variants.{Bad, Is}
 use Rattle.location_judge.proofs.Verdicts.{judged-by}
 use Rattle.protein_codons.specs.Reading.{Codes}
 use Rattle.protein_codons.specs.Letters.{lettersOf}
@@ -42,7 +42,7 @@ module _ {q : Sequence ℕ} {f : Feature ℕ} (keeps : Keeps q f) where
       by true t = t
       by false t = absurd (keeps .texts 18 (q .residues .place) (residues (rule-18 (c .kind) (c .is) t)))
 
-  location-right : (v : Verdict) → Placed (L q) (f .location .read) v → (t : Location) × Locates t (f .location .read) × (breaks25 (L q) t ≡ false)
+  location-right : (v : Judgement) → Placed (L q) (f .location .read) v → (t : Location) × Locates t (f .location .read) × (breaks25 (L q) t ≡ false)
   location-right Bad j = absurd (keeps .feature 24 (f .location .place) (inl (rule-24 j)))
   location-right (Is x) j = (j .0, j .1, by (breaks25 (L q) (j .0)) refl)
     where
@@ -52,11 +52,11 @@ module _ {q : Sequence ℕ} {f : Feature ℕ} (keeps : Keeps q f) where
 
 -- ---- the plan
 
-module _ {s wk : List ℕ} {known : Known} {g : FoundFeature} {named : Bool} (sk : Shows s (g .key .from) (g .key .to) wk) (nc : NamesCoding wk (known .kind) named) where
+module _ {s wk : List ℕ} {known : Known} {g : FoundFeature} {named : Bool} (sk : ShowsBytes s (g .key .from) (g .key .to) wk) (nc : NamesCoding wk (known .kind) named) where
   pub plan-none : named ≡ false → Plans s known g NoCds
   plan-none h = record { says = λ q f e k i keeps. tells-false named h (nc .says q f (k .kind) (part-shows (i .key) sk)) }
 
-  module _ (v : Verdict) {r : Start} (h : named ≡ true) (jl : JudgesPart s (g .location .from) (g .location .to) (known .top) v) (st : StartsAt s (g .quals) v r) where
+  module _ (v : Judgement) {r : Start} (h : named ≡ true) (jl : JudgesPart s (g .location .from) (g .location .to) (known .top) v) (st : StartsAt s (g .quals) v r) where
     planned : (q : Sequence ℕ) (f : Feature ℕ) (e : ℕ) → Knows s q known → IsFeature s f e g → Keeps q f → Coding q f × Placed (L q) (f .location .read) v × StartIs f r
     planned q f e k i keeps =
         let c = tells-true named h (nc .says q f (k .kind) (part-shows (i .key) sk)) in
@@ -97,7 +97,7 @@ pub record FoundCds (r loc : List ℕ) (top start : ℕ) (q : Sequence ℕ) (f :
   pub judged : Judged q f (lettersOf code1 r start location)
 
 pub found-cds : {s r loc : List ℕ} {known : Known} {g : FoundFeature} {p : Plan} {start : ℕ} → Plans s known g p → p ≡ From start
-    → Shows s (known .residues .from) (known .residues .to) r → Shows s (g .location .from) (g .location .to) loc
+    → ShowsBytes s (known .residues .from) (known .residues .to) r → ShowsBytes s (g .location .from) (g .location .to) loc
     → (q : Sequence ℕ) (f : Feature ℕ) (e : ℕ) → Knows s q known → IsFeature s f e g → Keeps q f → FoundCds r loc (known .top) start q f
 found-cds {start = start} plans z shr shl q f e k i keeps =
     let p : PlannedFrom q f start = subst (PlanIs q f) z (plans .says q f e k i keeps) in

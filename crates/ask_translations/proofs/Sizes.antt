@@ -11,8 +11,8 @@ use Rattle.paper.specs.Translation.{Code, code1, dropStop, hasStopInside}
 use Rattle.paper.specs.Answers.{Translates}
 use Rattle.paper.specs.Answers as paper
 use Rattle.read_bytes.specs.Words.{There}
-use Rattle.read_steps.specs.Parts.{Shows}
-use Rattle.walk_items.specs.Items.{FindsFeature}
+use Rattle.read_steps.specs.Parts.{ShowsBytes}
+use Rattle.walk_items.specs.Items.{MeetsFeature}
 use Rattle.walk_items.specs.declared.FoundFeature.{FoundFeature}
 use Rattle.protein_codons.specs.Letters.{lettersOf}
 use Rattle.protein_measure.specs.Measuring.{Measured, Measures}
@@ -55,8 +55,8 @@ module _ {s : List ℕ} {known : Known} {g : FoundFeature} {p : Plan} {room : �
             record { line = bytes "-\n"; is = Line.unjudged (Translates.unjudged (y .0) (y .1)); size = d .is };
       }
 
-  module _ {gc : Code} {r loc : List ℕ} {start : ℕ} {y : Size} (code : gc ≡ code1) (z : p ≡ From start) (shr : Shows s (known .residues .from) (known .residues .to) r)
-      (shl : Shows s (g .location .from) (g .location .to) loc) (w : Measures gc r loc (known .top) start room y) where
+  module _ {gc : Code} {r loc : List ℕ} {start : ℕ} {y : Size} (code : gc ≡ code1) (z : p ≡ From start) (shr : ShowsBytes s (known .residues .from) (known .residues .to) r)
+      (shl : ShowsBytes s (g .location .from) (g .location .to) loc) (w : Measures gc r loc (known .top) start room y) where
     measured : Measures code1 r loc (known .top) start room y
     measured = subst (λ (c : Code). Measures c r loc (known .top) start room y) code w
 
@@ -143,7 +143,7 @@ sizing-none {first = first} {room = room} =
     }
 
 module _ {s : List ℕ} {first at : ℕ} {known : Known} {room : ℕ} {x : Lined} {t : Bool} (here : There (bytes "<INSDFeature") s at t) (w : Sizing s first at known room x) where
-  module _ {n : ℕ} {g : FoundFeature} (h : t ≡ true) (f : FindsFeature s at g) (p : PassesFeature s g n) where
+  module _ {n : ℕ} {g : FoundFeature} (h : t ≡ true) (f : MeetsFeature s at g) (p : PassesFeature s g n) where
     pub sizing-more : {y z : Lined} → MeasuresLine s known g room y → Adds x y room z → Sizing s first n known room z
     sizing-more {z = z} m a =
         record {

@@ -12,7 +12,7 @@ use Rattle.read_bytes.specs.Words.{There}
 use Rattle.read_steps.specs.Follow.{Not, Starts, closing}
 use Rattle.walk_steps.specs.Stands.{Stands, Over, Ends}
 use Rattle.walk_steps.proofs.Places.{from}
-use Rattle.walk_items.specs.Items.{FindsFeature, IsFeature, featureTail}
+use Rattle.walk_items.specs.Items.{MeetsFeature, IsFeature, featureTail}
 use Rattle.walk_items.specs.declared.FoundFeature.{FoundFeature}
 use Rattle.walk_items.proofs.Sequences.{feature-leads}
 use Rattle.judge_faults.proofs.Seen.{Seen, seen-none, seen-next, seen-stuck, seen-all}
@@ -30,18 +30,18 @@ SeenFeatures s first at R = Seen (child feature) closing s first at R
 pub none-seen : {s : List ℕ} (first : ℕ) (R : List (Feature ℕ) → Type 0) → R [] → SeenFeatures s first first R
 none-seen first R r = seen-none (child feature) closing first R r
 
-over : {s : List ℕ} {at n : ℕ} {g : FoundFeature} → FindsFeature s at g → PassesFeature s g n → Over (child feature) (Not isBlank) s at n
+over : {s : List ℕ} {at n : ℕ} {g : FoundFeature} → MeetsFeature s at g → PassesFeature s g n → Over (child feature) (Not isBlank) s at n
 over f p = record { is = λ x e d fol. p .is x e (f x e d fol) fol }
 
 module _ {s : List ℕ} {first at : ℕ} {t : Bool} (R : List (Feature ℕ) → Type 0) where
   module _ {g : FoundFeature} {n : ℕ} where
-    pub one-more : (T : List (Feature ℕ) → Type 0) → t ≡ true → There (bytes "<INSDFeature") s at t → SeenFeatures s first at R → FindsFeature s at g → PassesFeature s g n
+    pub one-more : (T : List (Feature ℕ) → Type 0) → t ≡ true → There (bytes "<INSDFeature") s at t → SeenFeatures s first at R → MeetsFeature s at g → PassesFeature s g n
         → ((l : List (Feature ℕ)) (x : Feature ℕ) (e : ℕ) → IsFeature s x e g → R l → T (l ++ (x ∷ []))) → SeenFeatures s first n T
     one-more T h here w f p more =
         seen-next (bytes "INSDFeature") (child feature) feature-leads closing (record { clash = refl; sharps = refl }) R T h here w (over f p)
         (λ l x e d fol r. more l x e (f x e d fol) r)
 
-    pub stuck : t ≡ true → There (bytes "<INSDFeature") s at t → SeenFeatures s first at R → FindsFeature s at g → PassesFeature s g n → n ≤ at
+    pub stuck : t ≡ true → There (bytes "<INSDFeature") s at t → SeenFeatures s first at R → MeetsFeature s at g → PassesFeature s g n → n ≤ at
         → (l : List (Feature ℕ)) (e : ℕ) → Stands (each (child feature) l) s first e → Starts closing (drop e s) → ⊥
     stuck h here w f p =
         seen-stuck (bytes "INSDFeature") (child feature) feature-leads closing (record { clash = refl; sharps = refl }) R h here w (over f p)

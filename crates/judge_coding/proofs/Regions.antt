@@ -18,14 +18,14 @@ use Rattle.judge_faults.specs.declared.Fault.{Fault}
 use Rattle.judge_faults.specs.declared.Fault.the-variants.{Clean, At}
 use Rattle.paper.proofs.Locate.{locates-once}
 use Rattle.paper.proofs.Once.{translates-once}
-use Rattle.read_steps.specs.Parts.{Shows}
+use Rattle.read_steps.specs.Parts.{ShowsBytes}
 use Rattle.value_words.proofs.Read.{raw-symbols}
 use Rattle.value_words.proofs.Tests.{tells-true, tells-false}
-use Rattle.walk_steps.specs.declared.Part.{Part}
-use Rattle.location_judge.specs.Judging.{Judged as Placed}
+use Rattle.walk_steps.specs.declared.Range.{Range}
+use Rattle.location_judge.specs.Judging.{JudgedText as Placed}
 use Rattle.location_judge.specs.declared.judging.Facts.{Facts}
-use Rattle.location_judge.specs.declared.judging.Verdict.{Verdict}
-use Rattle.location_judge.specs.declared.judging.Verdict.the-variants.{Bad, Is}
+use Rattle.location_judge.specs.declared.judging.Judgement.{Judgement}
+use Rattle.location_judge.specs.declared.judging.Judgement.the-variants.{Bad, Is}
 use Rattle.protein_codons.specs.Reading.{Codes}
 use Rattle.protein_codons.specs.Letters.{lettersOf}
 use Rattle.judge_faults.specs.Sets.{Firsts, Some}
@@ -88,14 +88,14 @@ module _ {q : Sequence ℕ} {f : Feature ℕ} {start : ℕ} (starts : CodonStart
 
 -- what was found of it: residues that are symbols, and the location, as they are written
 module _ {s r : List ℕ} {known : Known} {q : Sequence ℕ} (k : Knows s q known) where
-  pub residues-read : Shows s (known .residues .from) (known .residues .to) r → (c : Kind) → all (isSymbol c) (q .residues .read) → r ≡ q .residues .read
+  pub residues-read : ShowsBytes s (known .residues .from) (known .residues .to) r → (c : Kind) → all (isSymbol c) (q .residues .read) → r ≡ q .residues .read
   residues-read shown c sy = part-shows (k .residues) shown ∙ raw-symbols c (q .residues .read) sy
 
   pub found-codes : {loc v : List ℕ} {t : Location} → loc ≡ raw v → r ≡ q .residues .read → Locates t v → breaks25 (L q) t ≡ false → Codes r loc (known .top) t
   found-codes {v = v} {t = t} el er l b =
       record { sized = ap length er ∙ sym (k .size); read = v; written = el; located = l; right = ap (λ (n : ℕ). breaks25 n t) (k .size) ∙ b }
 
-module _ {s : List ℕ} {location : Part} {rest : ℕ} {known : Known} {verdict : Verdict} {start : ℕ} {u : Bool} where
+module _ {s : List ℕ} {location : Range} {rest : ℕ} {known : Known} {verdict : Judgement} {start : ℕ} {u : Bool} where
   pub region-unjudged : u ≡ true → JudgesRegion s location rest known verdict start u Clean
   region-unjudged e = record { says = λ key q f stop a l c t. none-judged c (λ x j. j .judged (tells-true u e t)) }
 
@@ -124,7 +124,7 @@ module _ {s : List ℕ} {location : Part} {rest : ℕ} {known : Known} {verdict 
         }
 
     pub region-judged : {gc : Code} {r loc : List ℕ} {y : Fault} → gc ≡ code1 → u ≡ false → known .clean ≡ true → x .wrong ≡ false
-        → Shows s (known .residues .from) (known .residues .to) r → Shows s (location .from) (location .to) loc
+        → ShowsBytes s (known .residues .from) (known .residues .to) r → ShowsBytes s (location .from) (location .to) loc
         → Rights gc s r loc (known .top) start rest y → JudgesRegion s location rest known verdict start u y
     region-judged {r = r} {loc = loc} {y = y} code d g w shr shl right =
         let rights = subst (λ (c : Code). Rights c s r loc (known .top) start rest y) code right in
@@ -148,7 +148,7 @@ module _ {s : List ℕ} {location : Part} {rest : ℕ} {known : Known} {verdict 
 
 -- ---- the region
 
-module _ {s : List ℕ} {key : ℕ} {location : Part} {known : Known} {verdict : Verdict} {x : Noted} {u : Bool} (leaves : LeavesOut (x .excepted) verdict u) where
+module _ {s : List ℕ} {key : ℕ} {location : Range} {known : Known} {verdict : Judgement} {x : Noted} {u : Bool} (leaves : LeavesOut (x .excepted) verdict u) where
   pub coding-framed : {start : ℕ} {y : Fault} → ((f : Feature ℕ) → FrameIs (qualifiersOf f) (x .frame) → CodonStart f start)
       → JudgesRegion s location (x .rest) known verdict start u y → JudgesCoding s key location x known verdict (record { fault = y; unjudged = u })
   coding-framed g r =

@@ -18,15 +18,15 @@ use Rattle.judge_faults.specs.declared.Fault.the-variants.{Clean, At}
 use Rattle.paper.proofs.Texts.{raw-once}
 use Rattle.read_bytes.specs.Words.{There}
 use Rattle.read_steps.specs.Follow.{closing}
-use Rattle.read_steps.specs.Parts.{Shows}
+use Rattle.read_steps.specs.Parts.{ShowsBytes}
 use Rattle.value_words.specs.Reading.{Tells}
 use Rattle.value_words.proofs.Tests.{tells-true, tells-false}
 use Rattle.value_words.proofs.Read.{tells-word}
 use Rattle.walk_steps.specs.Stands.{IsPart, MaybeIs}
-use Rattle.walk_steps.specs.declared.Part.{Part}
+use Rattle.walk_steps.specs.declared.Range.{Range}
 use Rattle.walk_steps.specs.declared.Maybe.{Maybe}
 use Rattle.walk_steps.specs.declared.Maybe.the-variants.{Absent, Present}
-use Rattle.walk_items.specs.Items.{FindsQualifier}
+use Rattle.walk_items.specs.Items.{MeetsQualifier}
 use Rattle.walk_items.specs.declared.FoundQualifier.{FoundQualifier}
 use Rattle.protein_codons.specs.Reading.{Codes}
 use Rattle.protein_codons.specs.Letters.{lettersOf}
@@ -36,17 +36,17 @@ use Rattle.judge_faults.proofs.Bytes.{part-shows}
 use Rattle.judge_faults.proofs.Faults.{firsts-none, some-none, some-more, some-later}
 use Rattle.judge_faults.proofs.Seen.{seen-none}
 use Rattle.judge_coding.specs.Translations.{Breaks28, RightAt, Settled, SaysRight, CheckedOf, Checks, Rights}
-use Rattle.judge_coding.specs.declared.Checked.{Checked}
+use Rattle.judge_coding.specs.declared.SoFar.{SoFar}
 use Rattle.judge_qualifiers.proofs.Loops.{SeenSo, one-more, stuck, all-seen}
 
 -- ---- one value
 
-module _ {gc : Code} {s r loc : List ℕ} {top start : ℕ} {value : Part} {right : Maybe} {v : List ℕ} (shown : Shows s (value .from) (value .to) v) where
+module _ {gc : Code} {s r loc : List ℕ} {top start : ℕ} {value : Range} {right : Maybe} {v : List ℕ} (shown : ShowsBytes s (value .from) (value .to) v) where
   pub right-codes : {y : Bool} → right ≡ Absent → Compares gc r loc top start v y → SaysRight gc s r loc top start value right y
   right-codes e c = record { says = λ t k a u i. c .says t k (u .read) (part-shows i shown) }
 
   -- a value is right exactly when it equals a right one
-  pub right-same : {p : Part} {w : List ℕ} (y : Bool) → right ≡ Present p → Shows s (p .from) (p .to) w → Tells y (v ≡ w) → SaysRight gc s r loc top start value right y
+  pub right-same : {p : Range} {w : List ℕ} (y : Bool) → right ≡ Present p → ShowsBytes s (p .from) (p .to) w → Tells y (v ≡ w) → SaysRight gc s r loc top start value right y
   right-same {p} {w} y e h z =
       record { says = λ t k a u i. let b = subst (RightAt s (lettersOf gc r start t)) e a in same (lettersOf gc r start t) (u .read) (b .0 .read) (part-shows i shown) (part-shows (b .1) h) (b .2) y z }
     where
@@ -61,11 +61,11 @@ value-none : (s : List ℕ) (o : Option (Text ℕ)) → MaybeIs s o Absent → o
 value-none s none m = refl
 value-none s (some u) m = absurd m
 
-value-some : (s : List ℕ) (p : Part) (o : Option (Text ℕ)) → MaybeIs s o (Present p) → (u : Text ℕ) × (o ≡ some u) × IsPart s u p
+value-some : (s : List ℕ) (p : Range) (o : Option (Text ℕ)) → MaybeIs s o (Present p) → (u : Text ℕ) × (o ≡ some u) × IsPart s u p
 value-some s p none m = absurd m
 value-some s p (some u) m = (u, refl, m)
 
-name-is : {s w : List ℕ} {name : Part} {t : Bool} {u : Text ℕ} → Shows s (name .from) (name .to) w → IsPart s u name → t ≡ true → Tells t (w ≡ bytes "translation")
+name-is : {s w : List ℕ} {name : Range} {t : Bool} {u : Text ℕ} → ShowsBytes s (name .from) (name .to) w → IsPart s u name → t ≡ true → Tells t (w ≡ bytes "translation")
     → u .read ≡ bytes "translation"
 name-is {t = t} {u = u} shown i e tells = tells-word (bytes "translation") refl true (tells-true t e tells) .says (u .read) (part-shows i shown)
 
@@ -97,8 +97,8 @@ module _ {s x : List ℕ} {fault : Fault} {right : Maybe} (l : List (Qualifier �
       later Clean f h = absurd h
       later (At n d) f h = some-later (Breaks28 x) l q f (λ m j b. inl (omega (arith, h, e, b .1)))
 
-module _ {gc : Code} {s r loc : List ℕ} {top start : ℕ} {name : Part} {value right : Maybe} {fault : Fault} {w : List ℕ} {t : Bool}
-    (shown : Shows s (name .from) (name .to) w) (tells : Tells t (w ≡ bytes "translation")) where
+module _ {gc : Code} {s r loc : List ℕ} {top start : ℕ} {name : Range} {value right : Maybe} {fault : Fault} {w : List ℕ} {t : Bool}
+    (shown : ShowsBytes s (name .from) (name .to) w) (tells : Tells t (w ≡ bytes "translation")) where
   pub checks-other : t ≡ false → Checks gc s r loc top start name value fault right (record { fault = fault; right = right })
   checks-other e =
       record {
@@ -119,7 +119,7 @@ module _ {gc : Code} {s r loc : List ℕ} {top start : ℕ} {name : Part} {value
             (λ h. Option·none-ne-some (dropStop (lettersOf gc r start z)) (sym (ap (opt (λ (y : Text ℕ). y .read)) o) ∙ h .0)) g;
       }
 
-  module _ {p : Part} (e : t ≡ true) (v : value ≡ Present p) where
+  module _ {p : Range} (e : t ≡ true) (v : value ≡ Present p) where
     pub checks-settled : {y : Bool} → y ≡ true → Tells y (Settled fault (p .from)) → Checks gc s r loc top start name value fault right (record { fault = fault; right = right })
     checks-settled {y} h k =
         record {
@@ -169,7 +169,7 @@ module _ {gc : Code} {s r loc : List ℕ} {top start first : ℕ} where
       }
 
   module _ {at : ℕ} {fault : Fault} {right : Maybe} {h : Bool} (here : There (bytes "<INSDQualifier") s at h) (w : Checking gc s r loc top start first at fault right) where
-    pub checking-next : {x : FoundQualifier} {y : Checked} → h ≡ true → FindsQualifier s at x → Checks gc s r loc top start (x .name) (x .value) fault right y
+    pub checking-next : {x : FoundQualifier} {y : SoFar} → h ≡ true → MeetsQualifier s at x → Checks gc s r loc top start (x .name) (x .value) fault right y
         → Checking gc s r loc top start first (x .next) (y .fault) (y .right)
     checking-next {y = y} e f k =
         record {
@@ -179,7 +179,7 @@ module _ {gc : Code} {s r loc : List ℕ} {top start first : ℕ} where
               (λ l q i m z. k .says t c l z q i m);
         }
 
-    pub checking-stuck : {x : FoundQualifier} → h ≡ true → FindsQualifier s at x → x .next ≤ at → Rights gc s r loc top start first fault
+    pub checking-stuck : {x : FoundQualifier} → h ≡ true → MeetsQualifier s at x → x .next ≤ at → Rights gc s r loc top start first fault
     checking-stuck e f n = record { says = λ t c l j d fol. absurd (stuck (CheckedOf s (lettersOf gc r start t) fault right) e here (w .is t c) f n l j d fol) }
 
     pub checking-done : h ≡ false → Rights gc s r loc top start first fault

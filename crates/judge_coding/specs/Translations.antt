@@ -13,7 +13,7 @@ use Rattle.paper.specs.Translation.{Code, dropStop, hasStopInside}
 use Rattle.paper.specs.Rules.{Named, valueRead, valuePlace}
 use Rattle.read_steps.specs.Follow.{Starts, closing}
 use Rattle.walk_steps.specs.Stands.{Stands, IsPart, MaybeIs}
-use Rattle.walk_steps.specs.declared.Part.{Part}
+use Rattle.walk_steps.specs.declared.Range.{Range}
 use Rattle.walk_steps.specs.declared.Maybe.{Maybe}
 use Rattle.walk_steps.specs.declared.Maybe.the-variants.{Absent, Present}
 use Rattle.protein_codons.specs.Reading.{Codes}
@@ -22,7 +22,7 @@ use Rattle.protein_compare.specs.Comparing.{RightValue, RightIf}
 use Rattle.judge_faults.specs.Sets.{Firsts, Some}
 use Rattle.judge_faults.specs.declared.Fault.{Fault}
 use Rattle.judge_faults.specs.declared.Fault.the-variants.{Clean, At}
-use Rattle.judge_coding.specs.declared.Checked.{Checked}
+use Rattle.judge_coding.specs.declared.SoFar.{SoFar}
 
 -- rule 28 of the qualifier y, number k, where x are the letters of the codons
 abbrev pub Breaks28 : List ℕ → ℕ → Qualifier ℕ → ℕ → ℕ → Type 0
@@ -34,7 +34,7 @@ abbrev pub RightAt : List ℕ → List ℕ → Maybe → Type 0
 RightAt s x Absent = Unit {0}
 RightAt s x (Present p) = (u : Text ℕ) × IsPart s u p × RightValue x (u .read)
 
-pub record SaysRight (gc : Code) (s r loc : List ℕ) (top start : ℕ) (value : Part) (right : Maybe) (y : Bool) : Type 0 where
+pub record SaysRight (gc : Code) (s r loc : List ℕ) (top start : ℕ) (value : Range) (right : Maybe) (y : Bool) : Type 0 where
   pub says : (t : Location) → Codes r loc top t → RightAt s (lettersOf gc r start t) right → (u : Text ℕ) → IsPart s u value
       → RightIf (lettersOf gc r start t) (u .read) y
 
@@ -48,7 +48,7 @@ pub record CheckedOf (s x : List ℕ) (fault : Fault) (right : Maybe) (l : List 
   pub first : Firsts (Some (Breaks28 x) l) fault
   pub known : RightAt s x right
 
-pub record Checks (gc : Code) (s r loc : List ℕ) (top start : ℕ) (name : Part) (value : Maybe) (fault : Fault) (right : Maybe) (y : Checked) : Type 0 where
+pub record Checks (gc : Code) (s r loc : List ℕ) (top start : ℕ) (name : Range) (value : Maybe) (fault : Fault) (right : Maybe) (y : SoFar) : Type 0 where
   pub says : (t : Location) → Codes r loc top t → (l : List (Qualifier ℕ)) → CheckedOf s (lettersOf gc r start t) fault right l
       → (q : Qualifier ℕ) → IsPart s (q .name) name → MaybeIs s (q .value) value
       → CheckedOf s (lettersOf gc r start t) (y .fault) (y .right) (l ++ (q ∷ []))

@@ -6,13 +6,13 @@ use judge_faults::earlier;
 use judge_qualifiers::Frame;
 use judge_qualifiers::Noted;
 use judge_qualifiers::is_unjudged;
-use location_judge::judging::Verdict;
+use location_judge::judging::Judgement;
 use protein_compare::is_right;
 use read_steps::bytes_of;
 use value_words::same;
 use walk_items::FoundQualifier;
 use walk_steps::Maybe;
-use walk_steps::Part;
+use walk_steps::Range;
 ghost use Rattle.paper.specs.Translation.{code1};
 ghost use Rattle.protein_code.specs.Tables.{CodeTable, Coded, codeOf};
 ghost use Rattle.value_words.specs.Reading.{Tells};
@@ -34,7 +34,7 @@ fn value_right(
     loc: &[u8],
     top: u32,
     start: usize,
-    value: Part,
+    value: Range,
     right: Maybe,
     code: &[u8; 5128],
 ) -> bool
@@ -71,7 +71,7 @@ fn is_settled(fault: Fault, place: usize) -> bool
 }
 
 // The first fault so far, and a value that is known to be right.
-struct Checked {
+struct SoFar {
     fault: Fault,
     right: Maybe,
 }
@@ -83,18 +83,18 @@ fn check(
     loc: &[u8],
     top: u32,
     start: usize,
-    name: Part,
+    name: Range,
     value: Maybe,
     fault: Fault,
     right: Maybe,
     code: &[u8; 5128],
-) -> Checked
+) -> SoFar
     requires { ⌜ Coded (now code) ⌝ }
     ensures { λ y. ⌜ Checks (codeOf (now (code .entry))) (now (s .entry)) (now (r .entry)) (now (loc .entry)) top start name value fault right y ⌝ }
 {
     let w = bytes_of(s, name.from, name.to);
     if !same(w, b"translation") {
-        return Checked { fault, right };
+        return SoFar { fault, right };
     }
     match value {
         Maybe::Absent => {
@@ -102,17 +102,17 @@ fn check(
                 rule: 28,
                 place: name.from,
             };
-            return Checked {
+            return SoFar {
                 fault: earlier(fault, missing),
                 right,
             };
         }
         Maybe::Present(p) => {
             if is_settled(fault, p.from) {
-                return Checked { fault, right };
+                return SoFar { fault, right };
             }
             if value_right(s, r, loc, top, start, p, right, code) {
-                return Checked {
+                return SoFar {
                     fault,
                     right: Maybe::Present(p),
                 };
@@ -121,7 +121,7 @@ fn check(
                 rule: 28,
                 place: p.from,
             };
-            return Checked {
+            return SoFar {
                 fault: earlier(fault, wrong),
                 right,
             };
@@ -151,7 +151,7 @@ fn translations(
             if next <= at {
                 return fault;
             }
-            let Checked {
+            let SoFar {
                 fault: least,
                 right: known,
             } = check(s, r, loc, top, start, name, value, fault, right, code);
@@ -169,10 +169,10 @@ fn translations(
 // The fault of a region that keeps rule 27: its translations stand from `rest` on.
 fn region_fault(
     s: &[u8],
-    location: Part,
+    location: Range,
     rest: usize,
     known: Known,
-    verdict: Verdict,
+    verdict: Judgement,
     start: usize,
     unjudged: bool,
     code: &[u8; 5128],
@@ -187,10 +187,10 @@ fn region_fault(
         return Fault::Clean;
     }
     match verdict {
-        Verdict::Bad => {
+        Judgement::Bad => {
             return Fault::Clean;
         }
-        Verdict::Is(f) => {
+        Judgement::Is(f) => {
             if f.wrong {
                 return Fault::Clean;
             }
@@ -205,10 +205,10 @@ fn region_fault(
 pub fn judge_coding(
     s: &[u8],
     key: usize,
-    location: Part,
+    location: Range,
     noted: Noted,
     known: Known,
-    verdict: Verdict,
+    verdict: Judgement,
     code: &[u8; 5128],
 ) -> Region
     requires { ⌜ CodeTable code1 (now code) ⌝ }

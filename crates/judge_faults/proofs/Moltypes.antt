@@ -6,8 +6,8 @@ use mathlib.Core.List.{List}
 use lib.ListN.{getD}
 use Rattle.paper.specs.Rules.{Kind, dna, rna, aa}
 use Rattle.value_words.specs.Reading.{KindIs, Names}
-use Rattle.value_words.specs.declared.Kind as code
-use Rattle.value_words.specs.declared.Kind.the-variants as kind
+use Rattle.value_words.specs.declared.Molecule as code
+use Rattle.value_words.specs.declared.Molecule.the-variants as kind
 use Rattle.judge_faults.specs.Known.{CodeOf}
 
 -- a text names one kind
@@ -23,7 +23,7 @@ kind-once v aa rna h g = let e : _≡_ {A = ℕ} 65 82 = ap (λ (w : List ℕ). 
 kind-once v aa aa h g = refl
 
 -- so the code's kind is that of the paper
-pub code-is : (v : List ℕ) (c : code.Kind) → KindIs v c → (k : Kind) → Names v k → CodeOf c k
+pub code-is : (v : List ℕ) (c : code.Molecule) → KindIs v c → (k : Kind) → Names v k → CodeOf c k
 code-is v kind.Dna h k g = kind-once v k dna g h
 code-is v kind.Rna h k g = kind-once v k rna g h
 code-is v kind.Aa h k g = kind-once v k aa g h

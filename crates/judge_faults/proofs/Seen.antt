@@ -9,7 +9,7 @@ use Rattle.paper.specs.Bytes.{isBlank}
 use Rattle.paper.specs.Lists.{Count, end, has, lacks}
 use Rattle.paper.specs.Form.{Form, each}
 use Rattle.read_bytes.specs.Words.{There}
-use Rattle.read_steps.specs.Follow.{Not, Starts, Before}
+use Rattle.read_steps.specs.Follow.{Not, Starts, StandsBefore}
 use Rattle.read_steps.proofs.Fronts.{Leads}
 use Rattle.walk_steps.specs.Stands.{Stands, tagOf, Over}
 use Rattle.walk_steps.proofs.Places.{from}
@@ -24,7 +24,7 @@ module _ {A : Type 0} (F : A → Form) (fl : List (List ℕ)) {s : List ℕ} whe
   pub seen-none : (first : ℕ) (R : List A → Type 0) → R [] → Seen F fl s first first R
   seen-none first R r = record { is = λ l e d fol. ([], l, refl, d, r) }
 
-module _ {A : Type 0} (name : List ℕ) (F : A → Form) (leads : (a : A) → Leads (tagOf name) (F a)) (fl : List (List ℕ)) (b : Before name fl) {s : List ℕ} {first at : ℕ} where
+module _ {A : Type 0} (name : List ℕ) (F : A → Form) (leads : (a : A) → Leads (tagOf name) (F a)) (fl : List (List ℕ)) (b : StandsBefore name fl) {s : List ℕ} {first at : ℕ} where
   -- one item more
   pub seen-next : {t : Bool} {n : ℕ} (R T : List A → Type 0) → t ≡ true → There (tagOf name) s at t → Seen F fl s first at R → Over F (Not isBlank) s at n
       → ((done : List A) (x : A) (e : ℕ) → Stands (F x) s at e → Not isBlank (drop e s) → R done → T (done ++ (x ∷ []))) → Seen F fl s first n T

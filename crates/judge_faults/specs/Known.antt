@@ -6,13 +6,13 @@ use Rattle.paper.specs.Bytes.{all}
 use Rattle.paper.specs.Tree.{Sequence}
 use Rattle.paper.specs.Rules.{L, Kind, dna, rna, aa, IsKind, isSymbol}
 use Rattle.value_words.specs.Reading.{Tells, KindIs}
-use Rattle.value_words.specs.declared.Kind as code
-use Rattle.value_words.specs.declared.Kind.the-variants as kind
+use Rattle.value_words.specs.declared.Molecule as code
+use Rattle.value_words.specs.declared.Molecule.the-variants as kind
 use Rattle.walk_steps.specs.Stands.{IsPart}
 use Rattle.judge_faults.specs.declared.Known.{Known}
 
 -- the kind of the paper that a kind of the code stands for
-abbrev pub CodeOf : code.Kind → Kind → Type 0
+abbrev pub CodeOf : code.Molecule → Kind → Type 0
 CodeOf kind.Dna k = k ≡ dna
 CodeOf kind.Rna k = k ≡ rna
 CodeOf kind.Aa k = k ≡ aa

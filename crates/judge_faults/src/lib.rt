@@ -1,7 +1,7 @@
 // What the parts of the judge share: the earlier of two faults, the fault of a test, counters with a cap, and what is known of a sequence
 // while its features are judged. Relies on the paper, the walk and the values.
-use value_words::Kind;
-use walk_steps::Part;
+use value_words::Molecule;
+use walk_steps::Range;
 ghost use mathlib.Core.Path.{_≡_};
 ghost use Rattle.judge_faults.specs.Sets.{Earlier, unlessOf};
 ghost use Rattle.judge_faults.specs.Counters.{upTo, upToTwo};
@@ -15,10 +15,10 @@ pub enum Fault {
 // What is known of a sequence while its features are judged: the kind that its moltype names, L, whether every residue is a symbol of the
 // kind, and where its residues stand.
 pub struct Known {
-    pub kind: Kind,
+    pub kind: Molecule,
     pub top: u32,
     pub clean: bool,
-    pub residues: Part,
+    pub residues: Range,
 }
 
 // The earlier of two faults.

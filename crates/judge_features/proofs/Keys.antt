@@ -13,12 +13,12 @@ use Rattle.paper.specs.Rules.{L, Kind, dna, rna, aa, IsKind, Keyed, upperIn, so
 use Rattle.judge_faults.specs.declared.Fault.the-variants.{Clean, At}
 use Rattle.paper.proofs.Locate.{locates-once}
 use Rattle.value_words.specs.Reading.{Tells, KindIs, Names}
-use Rattle.value_words.specs.declared.Kind as code
-use Rattle.value_words.specs.declared.Kind.the-variants as kind
+use Rattle.value_words.specs.declared.Molecule as code
+use Rattle.value_words.specs.declared.Molecule.the-variants as kind
 use Rattle.value_words.proofs.Read.{tells-word}
-use Rattle.location_judge.specs.Judging.{Judged}
-use Rattle.location_judge.specs.declared.judging.Verdict.{Verdict}
-use Rattle.location_judge.specs.declared.judging.Verdict.the-variants.{Bad, Is}
+use Rattle.location_judge.specs.Judging.{JudgedText}
+use Rattle.location_judge.specs.declared.judging.Judgement.{Judgement}
+use Rattle.location_judge.specs.declared.judging.Judgement.the-variants.{Bad, Is}
 use Rattle.judge_faults.specs.Sets.{Firsts}
 use Rattle.judge_faults.proofs.Moltypes.{kind-once}
 use Rattle.judge_features.specs.Featured.{ifAa, placeFault, IsSource, NamesSource}
@@ -52,7 +52,7 @@ module _ (q : Sequence ℕ) (t : Text ℕ) where
     nothing r c n p (rule-25 y m h) = true≢false (sym h ∙ ap (breaks25 (L q)) (locates-once y x m l) ∙ r)
     nothing r c n p (rule-26 a y m h) = true≢false (sym h ∙ ap hasComplement (locates-once y x m l) ∙ c a)
 
-    complemented : (c : code.Kind) → KindIs (q .moltype .read) c → breaks25 (L q) x ≡ false → hasComplement x ≡ true
+    complemented : (c : code.Molecule) → KindIs (q .moltype .read) c → breaks25 (L q) x ≡ false → hasComplement x ≡ true
         → Firsts (InLocation q t) (ifAa c (At 26 (t .place)))
     complemented kind.Aa k r h = at-place (InLocation q t) 26 (t .place) (rule-26 k x l h) (λ n p y. (all-at n p y .0, right-25 r n p y))
     complemented kind.Dna k r h = record { is = nothing r (λ a. absurd (dna-aa (kind-once (q .moltype .read) dna aa k a))) }
@@ -75,7 +75,7 @@ module _ (q : Sequence ℕ) (t : Text ℕ) where
             isRna aa = false
     complemented kind.Other k r h = record { is = nothing r (λ a. absurd (k aa a)) }
 
-  pub placed : (v : Verdict) (c : code.Kind) → Judged (L q) (t .read) v → KindIs (q .moltype .read) c → Firsts (InLocation q t) (placeFault v c (t .place))
+  pub placed : (v : Judgement) (c : code.Molecule) → JudgedText (L q) (t .read) v → KindIs (q .moltype .read) c → Firsts (InLocation q t) (placeFault v c (t .place))
   placed Bad c j k = at-place (InLocation q t) 24 (t .place) (rule-24 j) all-at
   placed (Is f) c j k = by (f .wrong) (f .complemented) (sym (j .2 .wrong)) (sym (j .2 .complemented))
     where
@@ -88,7 +88,7 @@ module _ (q : Sequence ℕ) (t : Text ℕ) where
 -- ---- keys
 
 -- the key of a kind's source, for the kinds that have this one
-pub source-named : (k : Kind) {c : code.Kind} {w : List ℕ} (r : Bool) → raw (bytes (sourceName (upperIn k))) ≡ bytes (sourceName (upperIn k)) → ((v : List ℕ) → KindIs v c → Names v k)
+pub source-named : (k : Kind) {c : code.Molecule} {w : List ℕ} (r : Bool) → raw (bytes (sourceName (upperIn k))) ≡ bytes (sourceName (upperIn k)) → ((v : List ℕ) → KindIs v c → Names v k)
     → Tells r (w ≡ bytes (sourceName (upperIn k))) → NamesSource w c r
 source-named k r plain named t =
     record { says = λ q f i e. by q f (named (q .moltype .read) i) r (tells-word (bytes (sourceName (upperIn k))) plain r t .says (f .key .read) e) }

@@ -11,17 +11,17 @@ use Rattle.paper.specs.Rules.{L, Kind, upperIn, Coding, Unjudged, InLocation, I
 use Rattle.judge_faults.specs.declared.Fault.{Fault}
 use Rattle.judge_faults.specs.declared.Fault.the-variants.{Clean}
 use Rattle.read_steps.specs.Follow.{Not}
-use Rattle.read_steps.specs.Parts.{Shows}
+use Rattle.read_steps.specs.Parts.{ShowsBytes}
 use Rattle.walk_steps.specs.Stands.{Ends}
 use Rattle.walk_steps.proofs.Places.{from}
-use Rattle.walk_items.specs.Items.{FindsFeature, IsFeature, featureTail}
+use Rattle.walk_items.specs.Items.{MeetsFeature, IsFeature, featureTail}
 use Rattle.walk_items.specs.declared.FoundFeature.{FoundFeature}
 use Rattle.value_words.specs.Reading.{Tells}
-use Rattle.value_words.specs.declared.Kind as code
-use Rattle.value_words.specs.declared.Kind.the-variants as kind
+use Rattle.value_words.specs.declared.Molecule as code
+use Rattle.value_words.specs.declared.Molecule.the-variants as kind
 use Rattle.value_words.proofs.Tests.{told}
-use Rattle.location_judge.specs.Judging.{Judged, JudgesPart}
-use Rattle.location_judge.specs.declared.judging.Verdict.{Verdict}
+use Rattle.location_judge.specs.Judging.{JudgedText, JudgesPart}
+use Rattle.location_judge.specs.declared.judging.Judgement.{Judgement}
 use Rattle.location_judge.proofs.Verdicts.{judged-by}
 use Rattle.judge_faults.specs.Sets.{Earlier, Firsts}
 use Rattle.judge_faults.specs.Known.{Knows, CodeOf}
@@ -49,10 +49,10 @@ no-coding {q} {f} n h = firsts-as (InLocation q (f .location)) (InFeature q f) (
     only m p (inr (rule-27 c g)) = absurd (n c)
     only m p (inr (rule-28 x j y i t g)) = absurd (n (j .coding))
 
-module _ (v : Verdict) {s : List ℕ} {known : Known} {x : FoundFeature} {q : Sequence ℕ} {f : Feature ℕ} {e : ℕ} (y : IsFeature s f e x) (k : Knows s q known)
+module _ (v : Judgement) {s : List ℕ} {known : Known} {x : FoundFeature} {q : Sequence ℕ} {f : Feature ℕ} {e : ℕ} (y : IsFeature s f e x) (k : Knows s q known)
     (jl : JudgesPart s (x .location .from) (x .location .to) (known .top) v) where
-  judged : Judged (L q) (f .location .read) v
-  judged = subst (λ (n : ℕ). Judged n (f .location .read) v) (k .size) (judged-by (known .top) v (jl .is (raw (f .location .read)) (text-shown (y .location))) (f .location .read) refl)
+  judged : JudgedText (L q) (f .location .read) v
+  judged = subst (λ (n : ℕ). JudgedText n (f .location .read) v) (k .size) (judged-by (known .top) v (jl .is (raw (f .location .read)) (text-shown (y .location))) (f .location .read) refl)
 
   place-is : {place : Fault} → place ≡ placeFault v (known .kind) (x .location .from) → Firsts (InLocation q (f .location)) place
   place-is pl =
@@ -60,7 +60,7 @@ module _ (v : Verdict) {s : List ℕ} {known : Known} {x : FoundFeature} {q : Se
       (placed q (f .location) v (known .kind) judged (k .kind))
 
 -- the names that were counted are those of the paper's kind
-upper-is : (c : code.Kind) (k : Kind) → CodeOf c k → inUpper c ≡ upperIn k
+upper-is : (c : code.Molecule) (k : Kind) → CodeOf c k → inUpper c ≡ upperIn k
 upper-is kind.Dna k e = rw e refl
 upper-is kind.Rna k e = rw e refl
 upper-is kind.Aa k e = rw e refl
@@ -74,9 +74,9 @@ module _ {s : List ℕ} {x : FoundFeature} {noted : Noted} {upper : Bool} (notes
   next-is : {n : ℕ} → Ends (featureTail (x .long)) (Not isBlank) s (noted .next) n → (f : Feature ℕ) {e : ℕ} → IsFeature s f e x → Not isBlank (drop e s) → n ≡ e
   next-is ends f {e} z fol = ends .is e (from (noted-of f z .next) (z .ends)) fol
 
-module _ (v : Verdict) {s wk : List ℕ} {at n : ℕ} {known : Known} {x : FoundFeature} {place : Fault} {noted : Noted} {upper is-source : Bool} (finds : FindsFeature s at x)
+module _ (v : Judgement) {s wk : List ℕ} {at n : ℕ} {known : Known} {x : FoundFeature} {place : Fault} {noted : Noted} {upper is-source : Bool} (finds : MeetsFeature s at x)
     (jl : JudgesPart s (x .location .from) (x .location .to) (known .top) v) (pl : place ≡ placeFault v (known .kind) (x .location .from))
-    (sk : Shows s (x .key .from) (x .key .to) wk) (eu : upper ≡ inUpper (known .kind)) (notes : Notes s (x .quals) upper noted)
+    (sk : ShowsBytes s (x .key .from) (x .key .to) wk) (eu : upper ≡ inUpper (known .kind)) (notes : Notes s (x .quals) upper noted)
     (ends : Ends (featureTail (x .long)) (Not isBlank) s (noted .next) n) (ns : NamesSource wk (known .kind) is-source) where
   pub as-source : {y : Fault} → is-source ≡ true → JudgesSource s (x .key .from) (x .location) noted known y
       → JudgesFeature s at known (record { fault = place; source = y; role = role.Source; next = n })

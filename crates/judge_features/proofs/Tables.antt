@@ -13,8 +13,8 @@ use Rattle.judge_faults.specs.declared.Fault.the-variants.{Clean, At}
 use Rattle.paper.proofs.Lists.{count-once}
 use Rattle.judge_faults.proofs.Parts.{_or_}
 use Rattle.value_words.specs.Reading.{KindIs}
-use Rattle.value_words.specs.declared.Kind as code
-use Rattle.value_words.specs.declared.Kind.the-variants as kind
+use Rattle.value_words.specs.declared.Molecule as code
+use Rattle.value_words.specs.declared.Molecule.the-variants as kind
 use Rattle.judge_faults.specs.Sets.{Faults, Firsts, Bad, Some}
 use Rattle.paper.specs.Rules as part
 use Rattle.judge_faults.proofs.Counters.{capped-one, one-capped}
@@ -118,7 +118,7 @@ module _ (q : Sequence ℕ) (a : Tally) (t : Tallied q (featuresOf q) a) where
       into n p (part.source j g f x y) = absurd (h j g)
       into n p (part.feature f m x) = (suc (m .0), f, (m .0, refl, m .1), x)
 
-  pub finished : (c : code.Kind) → KindIs (q .moltype .read) c → {place : ℕ} (r : Fault) → place ≡ tablePlace (q .table) (q .residues) → Finishes a c place r → Firsts (InTable q) r
+  pub finished : (c : code.Molecule) → KindIs (q .moltype .read) c → {place : ℕ} (r : Fault) → place ≡ tablePlace (q .table) (q .residues) → Finishes a c place r → Firsts (InTable q) r
   finished kind.Dna k r pl f = with-source dna k r pl f
   finished kind.Rna k r pl f = with-source rna k r pl f
   finished kind.Aa k r pl f = with-source aa k r pl f

@@ -17,10 +17,10 @@ use Rattle.walk_steps.specs.Stands.{Stands}
 use Rattle.walk_items.specs.Items.{TableIs}
 use Rattle.walk_items.specs.declared.FoundTable.{FoundTable}
 use Rattle.value_words.specs.Reading.{Tells, KindIs}
-use Rattle.value_words.specs.declared.Kind as code
-use Rattle.value_words.specs.declared.Kind.the-variants as kind
-use Rattle.location_judge.specs.declared.judging.Verdict.{Verdict}
-use Rattle.location_judge.specs.declared.judging.Verdict.the-variants.{Bad, Is}
+use Rattle.value_words.specs.declared.Molecule as code
+use Rattle.value_words.specs.declared.Molecule.the-variants as kind
+use Rattle.location_judge.specs.declared.judging.Judgement.{Judgement}
+use Rattle.location_judge.specs.declared.judging.Judgement.the-variants.{Bad, Is}
 use Rattle.judge_faults.specs.Sets.{Earlier, Firsts, Some}
 use Rattle.judge_faults.specs.Known.{Knows}
 use Rattle.judge_faults.specs.declared.Known.{Known}
@@ -34,13 +34,13 @@ use Rattle.judge_features.specs.declared.Tabled.{Tabled}
 -- ---- one feature
 
 -- rules 24 to 26, which all have the location's place
-abbrev pub ifAa : code.Kind → Fault → Fault
+abbrev pub ifAa : code.Molecule → Fault → Fault
 ifAa kind.Aa r = r
 ifAa kind.Dna r = Clean
 ifAa kind.Rna r = Clean
 ifAa kind.Other r = Clean
 
-abbrev pub placeFault : Verdict → code.Kind → ℕ → Fault
+abbrev pub placeFault : Judgement → code.Molecule → ℕ → Fault
 placeFault Bad c place = At 24 place
 placeFault (Is f) c place = cond (f .wrong) (At 25 place) (cond (f .complemented) (ifAa c (At 26 place)) Clean)
 
@@ -49,7 +49,7 @@ abbrev pub IsSource : Sequence ℕ → Feature ℕ → Type 0
 IsSource q f = (k : Kind) × IsKind k q × Keyed (sourceName (upperIn k)) f
 
 -- of whichever sequence of that kind, and feature whose key is written so
-pub record NamesSource (key : List ℕ) (kind : code.Kind) (r : Bool) : Type 0 where
+pub record NamesSource (key : List ℕ) (kind : code.Molecule) (r : Bool) : Type 0 where
   pub says : (q : Sequence ℕ) (f : Feature ℕ) → KindIs (q .moltype .read) kind → key ≡ raw (f .key .read) → Tells r (IsSource q f)
 
 abbrev pub RoleIs : Sequence ℕ → Feature ℕ → Role → Type 0
@@ -126,7 +126,7 @@ pub record WithSource (a : Tally) (place : ℕ) (r : Fault) : Type 0 where
   pub one : a .sources ≡ 1 → Earlier (a .fault) (a .source) r
   pub other : ¬ (a .sources ≡ 1) → Earlier (a .fault) (At 21 place) r
 
-abbrev pub Finishes : Tally → code.Kind → ℕ → Fault → Type 0
+abbrev pub Finishes : Tally → code.Molecule → ℕ → Fault → Type 0
 Finishes a kind.Dna place r = WithSource a place r
 Finishes a kind.Rna place r = WithSource a place r
 Finishes a kind.Aa place r = WithSource a place r
@@ -149,7 +149,7 @@ pub record IsTabled (q : Sequence ℕ) (r : Tabled) : Type 0 where
   pub judged : Count (JudgedIn q) (featuresOf q) (r .judged)
   pub unjudged : Count (UnjudgedIn q) (featuresOf q) (r .unjudged)
 
-pub record Tables (a : Tally) (c : code.Kind) (place : ℕ) (r : Tabled) : Type 0 where
+pub record Tables (a : Tally) (c : code.Molecule) (place : ℕ) (r : Tabled) : Type 0 where
   pub fault : Finishes a c place (r .fault)
   pub features : r .features ≡ a .features
   pub judged : r .judged ≡ a .judged

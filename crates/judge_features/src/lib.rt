@@ -4,8 +4,8 @@ use judge_coding::Region;
 use judge_faults::Fault;
 use judge_faults::Known;
 use judge_faults::more;
-use location_judge::judging::Verdict;
-use value_words::Kind;
+use location_judge::judging::Judgement;
+use value_words::Molecule;
 use walk_items::FoundFeature;
 use walk_items::FoundTable;
 ghost use mathlib.Core.Path.{_≡_};
@@ -30,27 +30,27 @@ pub struct Featured {
 }
 
 // Rules 24 to 26: `place` is the location's.
-fn judge_place(verdict: Verdict, kind: Kind, place: usize) -> Fault
+fn judge_place(verdict: Judgement, kind: Molecule, place: usize) -> Fault
     ensures { λ r. ⌜ r ≡ placeFault verdict kind place ⌝ }
 {
     match verdict {
-        Verdict::Bad => Fault::At { rule: 24, place },
-        Verdict::Is(f) => {
+        Judgement::Bad => Fault::At { rule: 24, place },
+        Judgement::Is(f) => {
             if f.wrong {
                 return Fault::At { rule: 25, place };
             }
             if f.complemented {
                 match kind {
-                    Kind::Aa => {
+                    Molecule::Aa => {
                         return Fault::At { rule: 26, place };
                     }
-                    Kind::Dna => {
+                    Molecule::Dna => {
                         return Fault::Clean;
                     }
-                    Kind::Rna => {
+                    Molecule::Rna => {
                         return Fault::Clean;
                     }
-                    Kind::Other => {
+                    Molecule::Other => {
                         return Fault::Clean;
                     }
                 }
@@ -61,14 +61,14 @@ fn judge_place(verdict: Verdict, kind: Kind, place: usize) -> Fault
 }
 
 // Whether a key is that of a source, for a kind.
-fn is_source(key: &[u8], kind: Kind) -> bool
+fn is_source(key: &[u8], kind: Molecule) -> bool
     ensures { λ r. ⌜ NamesSource (now (key .entry)) kind r ⌝ }
 {
     match kind {
-        Kind::Dna => value_words::same(key, b"source"),
-        Kind::Rna => value_words::same(key, b"source"),
-        Kind::Aa => value_words::same(key, b"SOURCE"),
-        Kind::Other => false,
+        Molecule::Dna => value_words::same(key, b"source"),
+        Molecule::Rna => value_words::same(key, b"source"),
+        Molecule::Aa => value_words::same(key, b"SOURCE"),
+        Molecule::Other => false,
     }
 }
 
@@ -161,15 +161,15 @@ fn add(a: Tally, x: Featured, limit: usize) -> Tally
 }
 
 // Rule 21 and, where there is one source, its faults: `place` is that of the table, or of the residues where there is none.
-fn finish(a: Tally, kind: Kind, place: usize) -> Fault
+fn finish(a: Tally, kind: Molecule, place: usize) -> Fault
     ensures { λ r. ⌜ Finishes a kind place r ⌝ }
 {
     let fault = a.fault;
     match kind {
-        Kind::Other => fault,
-        Kind::Dna => with_source(a, place),
-        Kind::Rna => with_source(a, place),
-        Kind::Aa => with_source(a, place),
+        Molecule::Other => fault,
+        Molecule::Dna => with_source(a, place),
+        Molecule::Rna => with_source(a, place),
+        Molecule::Aa => with_source(a, place),
     }
 }
 
@@ -192,7 +192,7 @@ pub struct Tabled {
     pub unjudged: usize,
 }
 
-fn sum_up(a: Tally, kind: Kind, place: usize) -> Tabled
+fn sum_up(a: Tally, kind: Molecule, place: usize) -> Tabled
     ensures { λ r. ⌜ Tables a kind place r ⌝ }
 {
     Tabled {

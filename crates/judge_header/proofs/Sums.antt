@@ -19,9 +19,9 @@ use Rattle.value_words.specs.Reading.{Tells, OfRead}
 use Rattle.value_words.proofs.Read.{tells-word}
 use Rattle.read_steps.specs.Follow.{Not, closing}
 use Rattle.read_steps.proofs.Fronts.{leads-by, whole, each-starts, starts-sharp}
-use Rattle.read_steps.specs.Parts.{Shows}
+use Rattle.read_steps.specs.Parts.{ShowsBytes}
 use Rattle.walk_steps.specs.Stands.{IsPart, MaybeIs, Finds, Over}
-use Rattle.walk_steps.specs.declared.Part.{Part}
+use Rattle.walk_steps.specs.declared.Range.{Range}
 use Rattle.walk_steps.specs.declared.Found.{Found}
 use Rattle.walk_steps.specs.declared.Maybe.{Maybe}
 use Rattle.walk_steps.specs.declared.Maybe.the-variants.{Absent, Present}
@@ -95,7 +95,7 @@ module _ (m : ℕ) (A : List ℕ → Type 0) where
       says none h = wrong-none
       says (some t) h = absurd h
 
-  pub maybe-present : {s w : List ℕ} {p : Part} (ok : Bool) {r : Fault} → Shows s (p .from) (p .to) w → OfRead w A ok → r ≡ unlessOf ok m (p .from) → JudgesMaybe m A s (Present p) r
+  pub maybe-present : {s w : List ℕ} {p : Range} (ok : Bool) {r : Fault} → ShowsBytes s (p .from) (p .to) w → OfRead w A ok → r ≡ unlessOf ok m (p .from) → JudgesMaybe m A s (Present p) r
   maybe-present {s} {p = p} ok {r} h o e = record { says = says }
     where
       says : (x : Option (Text ℕ)) → MaybeIs s x (Present p) → Firsts (Wrong m A (present x)) r
@@ -104,7 +104,7 @@ module _ (m : ℕ) (A : List ℕ → Type 0) where
 
 -- ---- the rules
 
-pub version-judged : {s w : List ℕ} {p : Part} (ok : Bool) {r : Fault} → Shows s (p .from) (p .to) w → Tells ok (w ≡ bytes "1_2") → r ≡ unlessOf ok 10 (p .from) → JudgesVersion s p r
+pub version-judged : {s w : List ℕ} {p : Range} (ok : Bool) {r : Fault} → ShowsBytes s (p .from) (p .to) w → Tells ok (w ≡ bytes "1_2") → r ≡ unlessOf ok 10 (p .from) → JudgesVersion s p r
 version-judged ok h t e = record { says = λ x i. text-fault 10 (λ (v : List ℕ). v ≡ bytes "1_2") ok i h (tells-word (bytes "1_2") refl ok t) e }
 
 -- what is asked of the identifications, one after another
@@ -152,7 +152,7 @@ codes-more [] x = refl
 codes-more (y ∷ l) x = ap (λ (k : List (Text ℕ)). y .languageCode ∷ k) (codes-more l x)
 
 -- one title more
-pub title-more : {s : List ℕ} (l : List (Spoken ℕ)) (x : Spoken ℕ) {p : Part} (a b : Fault) {r : Fault} → Firsts (Wrong 13 (Two isLower) (codes l)) a → IsPart s (x .languageCode) p
+pub title-more : {s : List ℕ} (l : List (Spoken ℕ)) (x : Spoken ℕ) {p : Range} (a b : Fault) {r : Fault} → Firsts (Wrong 13 (Two isLower) (codes l)) a → IsPart s (x .languageCode) p
     → JudgesMaybe 13 (Two isLower) s (Present p) b → Earlier a b r → Firsts (Wrong 13 (Two isLower) (codes (l ++ (x ∷ [])))) r
 title-more l x a b {r} f i j e =
     subst (λ (k : List (Text ℕ)). Firsts (Wrong 13 (Two isLower) k) r) (codes-more l x)

@@ -14,7 +14,7 @@ use Rattle.paper.specs.Rules.{dates, offices, languages, InHeader}
 use Rattle.judge_faults.specs.declared.Fault.{Fault}
 use Rattle.read_steps.specs.Follow.{Starts, closing}
 use Rattle.walk_steps.specs.Stands.{Stands, IsPart, MaybeIs}
-use Rattle.walk_steps.specs.declared.Part.{Part}
+use Rattle.walk_steps.specs.declared.Range.{Range}
 use Rattle.walk_steps.specs.declared.Maybe.{Maybe}
 use Rattle.walk_header.specs.Header.{officeIn, filedIn, languageIn, identifiedBy}
 use Rattle.judge_faults.specs.Sets.{Faults, Firsts, Bad}
@@ -30,7 +30,7 @@ Wrong m A l n p = (t : Text ℕ) × (t ∈ l) × Bad m (t .place) (A (t .read)) 
 pub record JudgesMaybe (m : ℕ) (A : List ℕ → Type 0) (s : List ℕ) (x : Maybe) (r : Fault) : Type 0 where
   pub says : (o : Option (Text ℕ)) → MaybeIs s o x → Firsts (Wrong m A (present o)) r
 
-pub record JudgesVersion (s : List ℕ) (version : Part) (r : Fault) : Type 0 where
+pub record JudgesVersion (s : List ℕ) (version : Range) (r : Fault) : Type 0 where
   pub says : (t : Text ℕ) → IsPart s t version → Firsts (Bad 10 (t .place) (t .read ≡ bytes "1_2")) r
 
 pub record JudgesDates (s : List ℕ) (produced filed first : Maybe) (r : Fault) : Type 0 where

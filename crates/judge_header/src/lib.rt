@@ -3,7 +3,7 @@ use judge_faults::Fault;
 use walk_header::FoundHeader;
 use walk_steps::Found;
 use walk_steps::Maybe;
-use walk_steps::Part;
+use walk_steps::Range;
 ghost use Rattle.paper.specs.Values.{Date, Two, isUpper, isLower};
 ghost use Rattle.judge_header.specs.Headers.{JudgesMaybe, JudgesVersion, JudgesDates, JudgesOffices, JudgesTitles, JudgesLanguages, JudgesHeader};
 
@@ -47,7 +47,7 @@ fn judge_language(s: &[u8], m: Maybe) -> Fault
 }
 
 // Rule 10.
-fn judge_version(s: &[u8], version: Part) -> Fault
+fn judge_version(s: &[u8], version: Range) -> Fault
     ensures { λ r. ⌜ JudgesVersion (now (s .entry)) version r ⌝ }
 {
     let ok = value_words::same(read_steps::bytes_of(s, version.from, version.to), b"1_2");
@@ -116,7 +116,7 @@ fn judge_languages(s: &[u8], applicant: Maybe, inventor: Maybe, titles: usize) -
 // The first fault of the header, where the total stands, and where the first sequence does.
 pub struct Headed {
     pub fault: Fault,
-    pub total: Part,
+    pub total: Range,
     pub first: usize,
 }
 

@@ -16,10 +16,10 @@ use Rattle.value_words.specs.Reading.{Tells, OfRead}
 use Rattle.value_words.proofs.Tests.{tells-true, tells-false}
 use Rattle.value_words.proofs.Read.{tells-word, tells-read}
 use Rattle.walk_steps.specs.declared.Maybe.{Maybe}
-use Rattle.location_judge.specs.Judging.{Judged}
+use Rattle.location_judge.specs.Judging.{JudgedText}
 use Rattle.location_judge.specs.declared.judging.Facts.{Facts}
-use Rattle.location_judge.specs.declared.judging.Verdict.{Verdict}
-use Rattle.location_judge.specs.declared.judging.Verdict.the-variants.{Bad, Is}
+use Rattle.location_judge.specs.declared.judging.Judgement.{Judgement}
+use Rattle.location_judge.specs.declared.judging.Judgement.the-variants.{Bad, Is}
 use Rattle.judge_qualifiers.specs.Qualifiers.{ValueIs, Shown, exceptions, Excepted, OtherCode, HasExcepted, Excepts, LeavesOut}
 use Rattle.judge_qualifiers.proofs.Lists.{in-last, in-front, in-split}
 
@@ -80,17 +80,17 @@ by-location n (excepted q m name k e) = absurd (n (q, m, inl (name, k, e)))
 by-location n (other-code q m k v) = absurd (n (q, m, inr (k, v)))
 by-location n (located t h e) = (t, h, e)
 
-module _ {e : Bool} {verdict : Verdict} where
+module _ {e : Bool} {verdict : Judgement} where
   pub leaves-excepted : e ≡ true → LeavesOut e verdict true
   leaves-excepted h = record { says = λ n f t j. let x = tells-true e h t in leaves (x .0) (x .1) (x .2) }
 
   pub leaves-bad : e ≡ false → verdict ≡ Bad → LeavesOut e verdict false
   leaves-bad h v =
-      record { says = λ n f t j u. let x = by-location (tells-false e h t) u in subst (Judged n (f .location .read)) v j (x .0) (x .1) }
+      record { says = λ n f t j u. let x = by-location (tells-false e h t) u in subst (JudgedText n (f .location .read)) v j (x .0) (x .1) }
 
   pub leaves-located : (x : Facts) → e ≡ false → verdict ≡ Is x → LeavesOut e verdict (x .unjudged)
   leaves-located x h v =
-      record { says = λ n f t j. let y = subst (Judged n (f .location .read)) v j in facts f (x .unjudged) (tells-false e h t) (y .0) (y .1) (y .2 .unjudged) }
+      record { says = λ n f t j. let y = subst (JudgedText n (f .location .read)) v j in facts f (x .unjudged) (tells-false e h t) (y .0) (y .1) (y .2 .unjudged) }
     where
       facts : (f : Feature ℕ) (u : Bool) → ¬ HasExcepted (qualifiersOf f) → (t : Location) → Locates t (f .location .read) → u ≡ leavesUnjudged t → Tells u (Unjudged f)
       facts f true n t d k = located t d (sym k)

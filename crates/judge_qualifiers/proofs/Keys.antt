@@ -7,13 +7,13 @@ use Rattle.paper.specs.Bytes.{bytes}
 use Rattle.paper.specs.Tree.{Sequence, Feature}
 use Rattle.paper.specs.Rules.{Kind, aa, Keyed, Coding, isNucleotide}
 use Rattle.value_words.specs.Reading.{Tells, KindIs, Names}
-use Rattle.value_words.specs.declared.Kind as code
-use Rattle.value_words.specs.declared.Kind.the-variants as kind
+use Rattle.value_words.specs.declared.Molecule as code
+use Rattle.value_words.specs.declared.Molecule.the-variants as kind
 use Rattle.value_words.proofs.Read.{tells-word}
 use Rattle.judge_faults.proofs.Moltypes.{kind-once}
 use Rattle.judge_qualifiers.specs.Starts.{NamesCoding}
 
-pub coding-named : (k : Kind) {c : code.Kind} {w : List ℕ} (r : Bool) → isNucleotide k ≡ true → ((v : List ℕ) → KindIs v c → Names v k)
+pub coding-named : (k : Kind) {c : code.Molecule} {w : List ℕ} (r : Bool) → isNucleotide k ≡ true → ((v : List ℕ) → KindIs v c → Names v k)
     → Tells r (w ≡ bytes "CDS") → NamesCoding w c r
 coding-named k r nuc named t =
     record { says = λ q f i e. by q f (named (q .moltype .read) i) r (tells-word (bytes "CDS") refl r t .says (f .key .read) e) }

@@ -12,13 +12,13 @@ use Rattle.paper.specs.Layout.{child, qualifier}
 use Rattle.paper.specs.Rules.{Named, organismName, molTypeName, CodonStart}
 use Rattle.read_bytes.specs.Words.{There}
 use Rattle.read_steps.specs.Follow.{closing}
-use Rattle.read_steps.specs.Parts.{Shows}
+use Rattle.read_steps.specs.Parts.{ShowsBytes}
 use Rattle.value_words.specs.Reading.{Tells}
 use Rattle.value_words.proofs.Tests.{tells-true, tells-false}
 use Rattle.value_words.proofs.Read.{tells-word}
-use Rattle.walk_items.specs.Items.{FindsQualifier}
+use Rattle.walk_items.specs.Items.{MeetsQualifier}
 use Rattle.walk_items.specs.declared.FoundQualifier.{FoundQualifier}
-use Rattle.location_judge.specs.declared.judging.Verdict.{Verdict}
+use Rattle.location_judge.specs.declared.judging.Judgement.{Judgement}
 use Rattle.judge_faults.specs.Counters.{upToTwo}
 use Rattle.judge_faults.proofs.Bytes.{part-shows}
 use Rattle.judge_faults.proofs.Counters.{capped-none, capped-more}
@@ -95,7 +95,7 @@ noting-none first upper =
 
 module _ {s : List ℕ} {first at : ℕ} {upper : Bool} {frame : Frame} {excepted : Bool} {organisms molTypes : ℕ} {met : Bool} {rest : ℕ} {h : Bool}
     (here : There (bytes "<INSDQualifier") s at h) (w : Noting s first upper at frame excepted organisms molTypes met rest) where
-  module _ {x : FoundQualifier} {n : List ℕ} (t : h ≡ true) (f : FindsQualifier s at x) (shown : Shows s (x .name .from) (x .name .to) n) where
+  module _ {x : FoundQualifier} {n : List ℕ} (t : h ≡ true) (f : MeetsQualifier s at x) (shown : ShowsBytes s (x .name .from) (x .name .to) n) where
     -- before a translation is met the next place is kept
     kept-more : {r : ℕ} (m : Bool) → Meets met n m → r ≡ cond m rest (x .next) → SeenSo s first r Untranslated × (m ≡ false → r ≡ x .next)
     kept-more true k e = (subst (λ (p : ℕ). SeenSo s first p Untranslated) (sym e) (w .passed), λ z. absurd (true≢false z))
@@ -133,7 +133,7 @@ module _ {s : List ℕ} {first at : ℕ} {upper : Bool} {frame : Frame} {excepte
           unmet = y .1;
         }
 
-  pub noting-stuck : {x : FoundQualifier} (r : Noted) → h ≡ true → FindsQualifier s at x → x .next ≤ at → Notes s first upper r
+  pub noting-stuck : {x : FoundQualifier} (r : Noted) → h ≡ true → MeetsQualifier s at x → x .next ≤ at → Notes s first upper r
   noting-stuck r t f n = record { is = λ l j d fol. absurd (stuck (NotedOf upper frame excepted organisms molTypes) t here (w .noted) f n l j d fol) }
 
   pub noting-done : h ≡ false → Notes s first upper (record { frame = frame; excepted = excepted; organisms = organisms; moltypes = molTypes; rest = rest; next = at })
@@ -148,7 +148,7 @@ module _ {s : List ℕ} {first at : ℕ} {upper : Bool} {frame : Frame} {excepte
 
 -- ---- where its codons start
 
-module _ {s : List ℕ} {first : ℕ} {upper : Bool} {verdict : Verdict} {x : Noted} {u : Bool} (notes : Notes s first upper x) (leaves : LeavesOut (x .excepted) verdict u) where
+module _ {s : List ℕ} {first : ℕ} {upper : Bool} {verdict : Judgement} {x : Noted} {u : Bool} (notes : Notes s first upper x) (leaves : LeavesOut (x .excepted) verdict u) where
   pub starts-unjudged : u ≡ true → StartsAt s first verdict start.Unjudged
   starts-unjudged h =
       record { says = λ m f stop d fol j k. tells-true u h (leaves .says m f (notes .is (qualifiersOf f) stop d fol .says .left) j) }

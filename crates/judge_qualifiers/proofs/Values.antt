@@ -8,12 +8,12 @@ use mathlib.Core.Option.{Option, none, some, Option·none-ne-some, Option·some-
 use Rattle.paper.specs.Bytes.{bytes, raw}
 use Rattle.paper.specs.Tree.{Text, opt}
 use Rattle.paper.specs.Values.{Number}
-use Rattle.read_steps.specs.Parts.{Shows}
+use Rattle.read_steps.specs.Parts.{ShowsBytes}
 use Rattle.value_words.specs.Reading.{Tells}
 use Rattle.value_words.proofs.Tests.{tells-true, tells-false}
 use Rattle.value_words.proofs.Read.{tells-word}
 use Rattle.walk_steps.specs.Stands.{MaybeIs}
-use Rattle.walk_steps.specs.declared.Part.{Part}
+use Rattle.walk_steps.specs.declared.Range.{Range}
 use Rattle.walk_steps.specs.declared.Maybe.{Maybe}
 use Rattle.walk_steps.specs.declared.Maybe.the-variants.{Absent, Present}
 use Rattle.judge_faults.proofs.Bytes.{part-shows}
@@ -31,7 +31,7 @@ value-absent {s} {x} e = record { says = λ h o m. none-is o (subst (MaybeIs s o
     none-is none m p = Option·none-ne-some x p
     none-is (some t) m p = m
 
-pub value-present : {s w x : List ℕ} {value : Maybe} {p : Part} (r : Bool) → value ≡ Present p → Shows s (p .from) (p .to) w → Tells r (w ≡ x) → ValueIs s value x r
+pub value-present : {s w x : List ℕ} {value : Maybe} {p : Range} (r : Bool) → value ≡ Present p → ShowsBytes s (p .from) (p .to) w → Tells r (w ≡ x) → ValueIs s value x r
 value-present {s} {w} {x} {p = p} r e h t = record { says = λ a o m. told a o (subst (MaybeIs s o) e m) }
   where
     told : raw x ≡ x → (o : Option (Text ℕ)) → MaybeIs s o (Present p) → Tells r (opt (λ (t : Text ℕ). t .read) o ≡ some x)

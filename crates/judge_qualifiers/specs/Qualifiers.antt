@@ -17,13 +17,13 @@ use Rattle.paper.specs.Values.{Number}
 use Rattle.paper.specs.Rules.{Named, organismName, molTypeName, valueRead, Unjudged}
 use Rattle.read_steps.specs.Follow.{Starts, closing}
 use Rattle.value_words.specs.Reading.{Tells}
-use Rattle.value_words.specs.declared.Kind as code
-use Rattle.value_words.specs.declared.Kind.the-variants as kind
+use Rattle.value_words.specs.declared.Molecule as code
+use Rattle.value_words.specs.declared.Molecule.the-variants as kind
 use Rattle.walk_steps.specs.Stands.{Stands, MaybeIs}
 use Rattle.walk_steps.specs.declared.Maybe.{Maybe}
 use Rattle.judge_faults.specs.Counters.{Capped}
-use Rattle.location_judge.specs.Judging.{Judged}
-use Rattle.location_judge.specs.declared.judging.Verdict.{Verdict}
+use Rattle.location_judge.specs.Judging.{JudgedText}
+use Rattle.location_judge.specs.declared.judging.Judgement.{Judgement}
 use Rattle.judge_qualifiers.specs.declared.Frame.{Frame}
 use Rattle.judge_qualifiers.specs.declared.Frame.the-variants.{Unstated, Stated, Wrong}
 use Rattle.judge_qualifiers.specs.declared.Noted.{Noted}
@@ -99,13 +99,13 @@ pub record Excepts (s : List ℕ) (excepted : Bool) (w : List ℕ) (value : Mayb
   pub says : (q : Qualifier ℕ) → Shown s w value q → (l : List (Qualifier ℕ)) → Tells excepted (HasExcepted l) → Tells r (HasExcepted (l ++ (q ∷ [])))
 
 -- for its qualifiers or its location
-pub record LeavesOut (excepted : Bool) (verdict : Verdict) (r : Bool) : Type 0 where
-  pub says : (n : ℕ) (f : Feature ℕ) → Tells excepted (HasExcepted (qualifiersOf f)) → Judged n (f .location .read) verdict → Tells r (Unjudged f)
+pub record LeavesOut (excepted : Bool) (verdict : Judgement) (r : Bool) : Type 0 where
+  pub says : (n : ℕ) (f : Feature ℕ) → Tells excepted (HasExcepted (qualifiersOf f)) → JudgedText n (f .location .read) verdict → Tells r (Unjudged f)
 
 -- ---- rule 22
 
 -- whether the names of a source are in upper case
-abbrev pub inUpper : code.Kind → Bool
+abbrev pub inUpper : code.Molecule → Bool
 inUpper kind.Dna = false
 inUpper kind.Rna = false
 inUpper kind.Aa = true

@@ -2,9 +2,9 @@
 // residue its codons start (rule 27), whether it is left unjudged, and from where on its translations stand (rule 28). Relies on the walk
 // along the qualifiers, the values and the judged location; it reads no residue.
 use judge_faults::more_of_two;
-use location_judge::judging::Verdict;
+use location_judge::judging::Judgement;
 use read_steps::bytes_of;
-use value_words::Kind;
+use value_words::Molecule;
 use value_words::same;
 use walk_items::FoundQualifier;
 use walk_steps::Maybe;
@@ -17,14 +17,14 @@ ghost use Rattle.judge_qualifiers.specs.Qualifiers.{inUpper, ValueIs, St
 ghost use Rattle.judge_qualifiers.specs.Starts.{NamesCoding, StartsAt};
 
 // Whether a key is that of a coding region, for a kind.
-pub fn is_coding(key: &[u8], kind: Kind) -> bool
+pub fn is_coding(key: &[u8], kind: Molecule) -> bool
     ensures { λ r. ⌜ NamesCoding (now (key .entry)) kind r ⌝ }
 {
     match kind {
-        Kind::Dna => same(key, b"CDS"),
-        Kind::Rna => same(key, b"CDS"),
-        Kind::Aa => false,
-        Kind::Other => false,
+        Molecule::Dna => same(key, b"CDS"),
+        Molecule::Rna => same(key, b"CDS"),
+        Molecule::Aa => false,
+        Molecule::Other => false,
     }
 }
 
@@ -123,14 +123,14 @@ fn excepted_with(s: &[u8], excepted: bool, w: &[u8], value: Maybe) -> bool
 // ---- rule 22
 
 // Whether the names of a source are in upper case, for a kind.
-pub fn in_upper(kind: Kind) -> bool
+pub fn in_upper(kind: Molecule) -> bool
     ensures { λ r. ⌜ r ≡ inUpper kind ⌝ }
 {
     match kind {
-        Kind::Dna => false,
-        Kind::Rna => false,
-        Kind::Aa => true,
-        Kind::Other => false,
+        Molecule::Dna => false,
+        Molecule::Rna => false,
+        Molecule::Aa => true,
+        Molecule::Other => false,
     }
 }
 
@@ -231,17 +231,17 @@ pub fn note(s: &[u8], first: usize, upper: bool) -> Noted
 }
 
 // Whether the region is unjudged, for its qualifiers or for its location.
-pub fn is_unjudged(excepted: bool, verdict: Verdict) -> bool
+pub fn is_unjudged(excepted: bool, verdict: Judgement) -> bool
     ensures { λ r. ⌜ LeavesOut excepted verdict r ⌝ }
 {
     if excepted {
         return true;
     }
     match verdict {
-        Verdict::Bad => {
+        Judgement::Bad => {
             return false;
         }
-        Verdict::Is(f) => {
+        Judgement::Is(f) => {
             return f.unjudged;
         }
     }
@@ -254,7 +254,7 @@ pub enum Start {
 }
 
 // Of a region that keeps rule 27.
-pub fn start_of(s: &[u8], first: usize, verdict: Verdict) -> Start
+pub fn start_of(s: &[u8], first: usize, verdict: Judgement) -> Start
     ensures { λ r. ⌜ StartsAt (now (s .entry)) first verdict r ⌝ }
 {
     let Noted {

@@ -15,7 +15,7 @@ use Rattle.paper.specs.Rules.{Skipped, InTexts, InTable, InSequence, rule-15, r
 use Rattle.judge_faults.specs.declared.Fault.{Fault}
 use Rattle.judge_faults.proofs.Parts.{_or_}
 use Rattle.walk_steps.specs.Stands.{isThere}
-use Rattle.walk_items.specs.Items.{FindsSequence, TableIs}
+use Rattle.walk_items.specs.Items.{MeetsSequence, TableIs}
 use Rattle.walk_items.specs.declared.FoundSequence.{FoundSequence}
 use Rattle.walk_items.specs.declared.FoundTable.{FoundTable}
 use Rattle.value_words.specs.Reading.{Tells}
@@ -33,7 +33,7 @@ table-told : (s : List ℕ) (o : Option (Table ℕ)) (t : FoundTable) → TableI
 table-told s none t i = i
 table-told s (some x) t i = i .0
 
-module _ {s : List ℕ} {at k : ℕ} {x : FoundSequence} {a : Fault} {skip : Bool} (finds : FindsSequence s at x) (jn : JudgesNumber s (x .number) k a)
+module _ {s : List ℕ} {at k : ℕ} {x : FoundSequence} {a : Fault} {skip : Bool} (finds : MeetsSequence s at x) (jn : JudgesNumber s (x .number) k a)
     (ts : TellsSkipped s (x .residues) skip) where
   pub skipped-one : {ok : Bool} {b : Fault} (r : Fault) → skip ≡ true → TellsEmpty (x .declared) (x .moltype) (x .division) (x .ids) (x .table .present) ok
       → b ≡ unlessOf ok 29 (x .residues .from) → Earlier a b r

@@ -11,9 +11,9 @@ use Rattle.paper.specs.Rules.{L, Named, organismName, molTypeName, Whole, InSou
 use Rattle.judge_faults.specs.declared.Fault.{Fault}
 use Rattle.paper.proofs.Lists.{count-once}
 use Rattle.judge_faults.proofs.Parts.{_or_}
-use Rattle.read_steps.specs.Parts.{Shows}
+use Rattle.read_steps.specs.Parts.{ShowsBytes}
 use Rattle.value_words.specs.Reading.{Tells, OfRead}
-use Rattle.walk_steps.specs.declared.Part.{Part}
+use Rattle.walk_steps.specs.declared.Range.{Range}
 use Rattle.judge_faults.specs.Sets.{Earlier, Firsts, Bad, Faults, unlessOf}
 use Rattle.judge_faults.specs.declared.Known.{Known}
 use Rattle.judge_faults.proofs.Counters.{capped-one, one-capped}
@@ -54,9 +54,9 @@ module _ (upper : Bool) (q : Sequence ℕ) (f : Feature ℕ) where
   into n p (rule-22 h) = inl (refl, refl, h)
   into n p (rule-23 h) = inr (refl, refl, h)
 
-pub source-judged : {s w : List ℕ} {key : ℕ} {location : Part} {noted : Noted} {known : Known} {once whole : Bool} (a b : Fault) {r : Fault}
+pub source-judged : {s w : List ℕ} {key : ℕ} {location : Range} {noted : Noted} {known : Known} {once whole : Bool} (a b : Fault) {r : Fault}
     → TellsOnce (noted .organisms) (noted .moltypes) once → a ≡ unlessOf once 22 key
-    → Shows s (location .from) (location .to) w → OfRead w (Whole (known .top)) whole → b ≡ unlessOf whole 23 (location .from) → Earlier a b r
+    → ShowsBytes s (location .from) (location .to) w → OfRead w (Whole (known .top)) whole → b ≡ unlessOf whole 23 (location .from) → Earlier a b r
     → JudgesSource s key location noted known r
 source-judged {known = known} {once} {whole} a b to' e22 sh ow e23 el =
     record {

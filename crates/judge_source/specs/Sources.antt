@@ -7,7 +7,7 @@ use Rattle.paper.specs.Tree.{Sequence, Feature, qualifiersOf}
 use Rattle.paper.specs.Rules.{InSource}
 use Rattle.judge_faults.specs.declared.Fault.{Fault}
 use Rattle.walk_steps.specs.Stands.{IsPart}
-use Rattle.walk_steps.specs.declared.Part.{Part}
+use Rattle.walk_steps.specs.declared.Range.{Range}
 use Rattle.value_words.specs.Reading.{Tells}
 use Rattle.judge_faults.specs.Sets.{Firsts}
 use Rattle.judge_faults.specs.Known.{Knows}
@@ -19,11 +19,11 @@ pub record TellsOnce (organisms molTypes : ℕ) (r : Bool) : Type 0 where
   pub says : Tells r ((organisms ≡ 1) × (molTypes ≡ 1))
 
 -- the feature f of the sequence q is judged as a source, its names in upper case or not, and its qualifiers end at `stop`
-pub record Asked (s : List ℕ) (key : ℕ) (location : Part) (noted : Noted) (known : Known) (upper : Bool) (q : Sequence ℕ) (f : Feature ℕ) (stop : ℕ) : Type 0 where
+pub record Asked (s : List ℕ) (key : ℕ) (location : Range) (noted : Noted) (known : Known) (upper : Bool) (q : Sequence ℕ) (f : Feature ℕ) (stop : ℕ) : Type 0 where
   pub knows : Knows s q known
   pub at : key ≡ f .key .place
   pub located : IsPart s (f .location) location
   pub quals : IsNoted s upper (qualifiersOf f) stop noted
 
-pub record JudgesSource (s : List ℕ) (key : ℕ) (location : Part) (noted : Noted) (known : Known) (r : Fault) : Type 0 where
+pub record JudgesSource (s : List ℕ) (key : ℕ) (location : Range) (noted : Noted) (known : Known) (r : Fault) : Type 0 where
   pub says : (upper : Bool) (q : Sequence ℕ) (f : Feature ℕ) (stop : ℕ) → Asked s key location noted known upper q f stop → Firsts (InSource upper q f) r

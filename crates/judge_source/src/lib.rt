@@ -2,7 +2,7 @@
 use judge_faults::Fault;
 use judge_faults::Known;
 use judge_qualifiers::Noted;
-use walk_steps::Part;
+use walk_steps::Range;
 ghost use Rattle.judge_source.specs.Sources.{TellsOnce, JudgesSource};
 
 fn is_once(organisms: usize, moltypes: usize) -> bool
@@ -17,7 +17,7 @@ fn is_once(organisms: usize, moltypes: usize) -> bool
 }
 
 // The first fault of the source. `key` is the place of the feature's key, `noted` what its qualifiers say.
-pub fn judge_source(s: &[u8], key: usize, location: Part, noted: Noted, known: Known) -> Fault
+pub fn judge_source(s: &[u8], key: usize, location: Range, noted: Noted, known: Known) -> Fault
     ensures { λ r. ⌜ JudgesSource (now (s .entry)) key location noted known r ⌝ }
 {
     let a = judge_faults::unless(is_once(noted.organisms, noted.moltypes), 22, key);

@@ -9,7 +9,7 @@ use lib.ListN.{length}
 use Rattle.paper.specs.Bytes.{raw}
 use Rattle.value_words.specs.Reading.{Tells}
 use Rattle.walk_steps.specs.Stands.{isThere}
-use Rattle.walk_steps.specs.declared.Part.{Part}
+use Rattle.walk_steps.specs.declared.Range.{Range}
 use Rattle.judge_texts.specs.Texts.{TellsBlank, TellsEmpty}
 use Rattle.judge_texts.proofs.Sizes.{raw-longer}
 
@@ -17,10 +17,10 @@ no-length : (v : List ℕ) → length v ≡ 0 → v ≡ []
 no-length [] e = refl
 no-length (b ∷ v) e = absurd (omega (arith, e))
 
-pub blank-true : {p : Part} → p .from ≡ p .to → TellsBlank p true
+pub blank-true : {p : Range} → p .from ≡ p .to → TellsBlank p true
 blank-true e = record { says = λ s t i. no-length (t .read) (omega (arith, e, i .first, i .behind, raw-longer (t .read))) }
 
-pub blank-false : {p : Part} → ¬ (p .from ≡ p .to) → TellsBlank p false
+pub blank-false : {p : Range} → ¬ (p .from ≡ p .to) → TellsBlank p false
 blank-false n =
     record { says = λ s t i e. n (omega (arith, i .first, i .behind, ap (λ (v : List ℕ). length (raw v)) e)) }
 
@@ -32,7 +32,7 @@ there : {A : Type 0} (o : Option A) → true ≡ isThere o → ¬ (o ≡ none)
 there none e n = true≢false e
 there (some a) e n = true≢false (ap isThere n)
 
-module _ {declared moltype division : Part} {ids table : Bool} where
+module _ {declared moltype division : Range} {ids table : Bool} where
   pub not-ids : ids ≡ true → TellsEmpty declared moltype division ids table false
   not-ids h = record { says = λ s q a b c i t e. there (q .otherIds) (sym h ∙ i) (e .3) }
 

@@ -9,14 +9,14 @@ use Rattle.paper.specs.Bytes.{raw, spell, all}
 use Rattle.paper.specs.Tree.{Text}
 use Rattle.paper.specs.Rules.{Kind, isSymbol}
 use Rattle.paper.proofs.Texts.{spell-some}
-use Rattle.read_steps.specs.Parts.{Shows}
+use Rattle.read_steps.specs.Parts.{ShowsBytes}
 use Rattle.value_words.specs.Reading.{Tells, Moltypes}
-use Rattle.value_words.specs.declared.Kind as code
-use Rattle.value_words.specs.declared.Kind.the-variants as kind
+use Rattle.value_words.specs.declared.Molecule as code
+use Rattle.value_words.specs.declared.Molecule.the-variants as kind
 use Rattle.value_residues.specs.Residues.{Symbols, symbolClass}
 use Rattle.value_residues.proofs.Residues.{all-symbols, not-all-symbols}
 use Rattle.walk_steps.specs.Stands.{IsPart}
-use Rattle.walk_steps.specs.declared.Part.{Part}
+use Rattle.walk_steps.specs.declared.Range.{Range}
 use Rattle.judge_faults.specs.Known.{CodeOf}
 use Rattle.judge_faults.proofs.Bytes.{part-shows}
 use Rattle.judge_faults.proofs.Moltypes.{code-is}
@@ -32,7 +32,7 @@ raw-longer (b ∷ v) = omega (arith, raw-longer v, length-append (spell b) (raw 
     some (c ∷ w) n = omega arith
 
 -- what stands in a listing is no longer than it
-part-within : {s : List ℕ} {x : Text ℕ} {p : Part} → IsPart s x p → length (x .read) ≤ length s
+part-within : {s : List ℕ} {x : Text ℕ} {p : Range} → IsPart s x p → length (x .read) ≤ length s
 part-within {s} {x} {p} i =
     omega (arith, raw-longer (x .read), length-drop (p .from) s, ap length (i .here), length-append (raw (x .read)) (drop (p .to) s))
 
@@ -50,7 +50,7 @@ pub all-false : {w : List ℕ} {class n : ℕ} → Symbols w class n → n < len
 all-false h e = record { says = λ k c v z. (not-all-symbols k (h .says k c) e v z, λ t. absurd (true≢false (sym t))) }
 
 -- for a kind, of whose symbols the class is
-pub clean-by : (k : Kind) {w : List ℕ} {class : ℕ} {c : code.Kind} {r : Bool} → class ≡ symbolClass k → ((j : Kind) → CodeOf c j → j ≡ k) → AllSymbols w class r → Cleans w c r
+pub clean-by : (k : Kind) {w : List ℕ} {class : ℕ} {c : code.Molecule} {r : Bool} → class ≡ symbolClass k → ((j : Kind) → CodeOf c j → j ≡ k) → AllSymbols w class r → Cleans w c r
 clean-by k {r = r} e only h =
     record {
       says = λ v z j o. subst (λ (i : Kind). Tells r (all (isSymbol i) v)) (sym (only j o)) (h .says k e v z .0);
@@ -60,8 +60,8 @@ clean-by k {r = r} e only h =
 pub clean-other : {w : List ℕ} → Cleans w kind.Other false
 clean-other = record { says = λ v z j o. absurd o; plain = λ t. absurd (true≢false (sym t)) }
 
-pub knows : {s wm wr : List ℕ} {moltype residues : Part} {c : code.Kind} {clean : Bool} {n top : ℕ} → Shows s (moltype .from) (moltype .to) wm → Moltypes wm c
-    → Shows s (residues .from) (residues .to) wr → Cleans wr c clean → LengthOf wr clean n → Sized n top
+pub knows : {s wm wr : List ℕ} {moltype residues : Range} {c : code.Molecule} {clean : Bool} {n top : ℕ} → ShowsBytes s (moltype .from) (moltype .to) wm → Moltypes wm c
+    → ShowsBytes s (residues .from) (residues .to) wr → Cleans wr c clean → LengthOf wr clean n → Sized n top
     → KnowsOf s moltype residues (record { kind = c; top = top; clean = clean; residues = residues })
 knows {c = c} {clean = clean} hm m hr cl ln sz =
     record {

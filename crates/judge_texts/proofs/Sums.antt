@@ -14,14 +14,14 @@ use Rattle.judge_faults.specs.declared.Fault.{Fault}
 use Rattle.judge_faults.specs.declared.Fault.the-variants.{Clean, At}
 use Rattle.paper.proofs.Lists.{count-once}
 use Rattle.judge_faults.proofs.Parts.{_or_}
-use Rattle.read_steps.specs.Parts.{Shows}
+use Rattle.read_steps.specs.Parts.{ShowsBytes}
 use Rattle.value_words.specs.Reading.{Tells, OfRead, KindIs, Names}
-use Rattle.value_words.specs.declared.Kind as code
-use Rattle.value_words.specs.declared.Kind.the-variants as kind
+use Rattle.value_words.specs.declared.Molecule as code
+use Rattle.value_words.specs.declared.Molecule.the-variants as kind
 use Rattle.value_words.proofs.Read.{tells-word, raw-symbols}
 use Rattle.value_words.proofs.Tests.{told}
 use Rattle.value_residues.specs.Residues.{HasDefined}
-use Rattle.walk_steps.specs.declared.Part.{Part}
+use Rattle.walk_steps.specs.declared.Range.{Range}
 use Rattle.judge_faults.specs.Sets.{Earlier, Firsts, Bad, unlessOf}
 use Rattle.judge_faults.specs.declared.Known.{Known}
 use Rattle.judge_faults.proofs.Bytes.{part-shows}
@@ -103,7 +103,7 @@ module _ {w : List ℕ} {none few : ℕ} {clean ok : Bool} (h : clean ≡ true) 
       }
 
 -- the kind decides what is asked
-pub residues-of : (k : Kind) {w : List ℕ} {none few place : ℕ} {clean : Bool} {r : Fault} {c : code.Kind} → none ≡ undefined k → few ≡ fewest k
+pub residues-of : (k : Kind) {w : List ℕ} {none few place : ℕ} {clean : Bool} {r : Fault} {c : code.Molecule} → none ≡ undefined k → few ≡ fewest k
     → ((v : List ℕ) → KindIs v c → Names v k) → JudgesSymbols w clean none few place r → JudgesResidues w c clean place r
 residues-of k u f named j = record { says = λ q h p e t. let i = named (q .moltype .read) h in j .says q k i u f p e (t k i) }
 
@@ -116,26 +116,26 @@ residues-other = record { says = λ q h p e t. firsts-none (InResidues q) (λ m 
 
 -- ---- the others
 
-pub number-judged : {s w : List ℕ} {number : Part} {k : ℕ} {ok : Bool} {r : Fault} → Shows s (number .from) (number .to) w → OfRead w (Number k) ok
+pub number-judged : {s w : List ℕ} {number : Range} {k : ℕ} {ok : Bool} {r : Fault} → ShowsBytes s (number .from) (number .to) w → OfRead w (Number k) ok
     → r ≡ unlessOf ok 15 (number .from) → JudgesNumber s number k r
 number-judged {k = k} {ok = ok} h o e = record { says = λ t i. text-fault 15 (Number k) ok i h o e }
 
-pub skipped-told : {s w : List ℕ} {residues : Part} (r : Bool) → Shows s (residues .from) (residues .to) w → Tells r (w ≡ bytes "000") → TellsSkipped s residues r
+pub skipped-told : {s w : List ℕ} {residues : Range} (r : Bool) → ShowsBytes s (residues .from) (residues .to) w → Tells r (w ≡ bytes "000") → TellsSkipped s residues r
 skipped-told r h t = record { says = λ q i. tells-word (bytes "000") refl r t .says (q .residues .read) (part-shows i h) }
 
 -- whether a moltype names a kind
-named-one : (v : List ℕ) (c : code.Kind) → KindIs v c → Tells (namesOne c) ((k : Kind) × Names v k)
+named-one : (v : List ℕ) (c : code.Molecule) → KindIs v c → Tells (namesOne c) ((k : Kind) × Names v k)
 named-one v kind.Dna h = (dna, h)
 named-one v kind.Rna h = (rna, h)
 named-one v kind.Aa h = (aa, h)
 named-one v kind.Other h = λ x. h (x .0) (x .1)
 
-pub texts-judged : {s wb wd wr : List ℕ} {declared moltype division : Part} {known : Known} {one right : Bool} (pat : Bool) {a b c d r : Fault} (e f : Fault)
+pub texts-judged : {s wb wd wr : List ℕ} {declared moltype division : Range} {known : Known} {one right : Bool} (pat : Bool) {a b c d r : Fault} (e f : Fault)
     → one ≡ namesOne (known .kind)
-    → Shows s (division .from) (division .to) wb → Tells pat (wb ≡ bytes "PAT")
-    → Shows s (declared .from) (declared .to) wd → OfRead wd (Number (known .top)) right
+    → ShowsBytes s (division .from) (division .to) wb → Tells pat (wb ≡ bytes "PAT")
+    → ShowsBytes s (declared .from) (declared .to) wd → OfRead wd (Number (known .top)) right
     → a ≡ unlessOf one 16 (moltype .from) → b ≡ unlessOf pat 17 (division .from)
-    → Shows s (known .residues .from) (known .residues .to) wr → JudgesResidues wr (known .kind) (known .clean) (known .residues .from) c
+    → ShowsBytes s (known .residues .from) (known .residues .to) wr → JudgesResidues wr (known .kind) (known .clean) (known .residues .from) c
     → d ≡ unlessOf right 20 (declared .from) → Earlier a b e → Earlier c d f → Earlier e f r → JudgesTexts s declared moltype division known r
 texts-judged {known = known} {one} {right} pat {a} {b} {c} {d} {r} e f h1 sb tb sd td ea eb sr jr ed x y z =
     record {

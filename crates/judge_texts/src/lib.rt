@@ -2,8 +2,8 @@
 // judgement of its features. Relies on the walk, the values, the residues and what the judge's parts share.
 use judge_faults::Fault;
 use judge_faults::Known;
-use value_words::Kind;
-use walk_steps::Part;
+use value_words::Molecule;
+use walk_steps::Range;
 ghost use mathlib.Core.Path.{_≡_};
 ghost use Rattle.value_residues.specs.Residues.{SymbolTable};
 ghost use Rattle.judge_texts.specs.Texts.{Sized, LengthOf, AllSymbols, Cleans, KnowsOf, JudgesNumber, TellsSkipped, TellsEmpty, TellsBlank, JudgesSymbols, JudgesResidues, JudgesTexts, namesOne};
@@ -30,15 +30,15 @@ fn all_symbols(w: &[u8], class: u8, t: &[u8; 256]) -> bool
 }
 
 // Whether every residue is a symbol of the kind.
-fn is_clean(w: &[u8], kind: Kind, t: &[u8; 256]) -> bool
+fn is_clean(w: &[u8], kind: Molecule, t: &[u8; 256]) -> bool
     requires { ⌜ SymbolTable (now t) ⌝ }
     ensures { λ r. ⌜ Cleans (now (w .entry)) kind r ⌝ }
 {
     match kind {
-        Kind::Dna => all_symbols(w, 1, t),
-        Kind::Rna => all_symbols(w, 1, t),
-        Kind::Aa => all_symbols(w, 2, t),
-        Kind::Other => false,
+        Molecule::Dna => all_symbols(w, 1, t),
+        Molecule::Rna => all_symbols(w, 1, t),
+        Molecule::Aa => all_symbols(w, 2, t),
+        Molecule::Other => false,
     }
 }
 
@@ -53,7 +53,7 @@ fn length_of(w: &[u8], clean: bool) -> usize
 }
 
 // What is known of a sequence, from its moltype and its residues.
-pub fn known_of(s: &[u8], moltype: Part, residues: Part, t: &[u8; 256]) -> Known
+pub fn known_of(s: &[u8], moltype: Range, residues: Range, t: &[u8; 256]) -> Known
     requires { ⌜ SymbolTable (now t) ⌝ }
     ensures { λ r. ⌜ KnowsOf (now (s .entry)) moltype residues r ⌝ }
 {
@@ -70,7 +70,7 @@ pub fn known_of(s: &[u8], moltype: Part, residues: Part, t: &[u8; 256]) -> Known
 }
 
 // Rule 15, for the sequence number k.
-pub fn judge_number(s: &[u8], number: Part, k: usize) -> Fault
+pub fn judge_number(s: &[u8], number: Range, k: usize) -> Fault
     ensures { λ r. ⌜ JudgesNumber (now (s .entry)) number k r ⌝ }
 {
     let ok = value_words::is_number(read_steps::bytes_of(s, number.from, number.to), k);
@@ -78,13 +78,13 @@ pub fn judge_number(s: &[u8], number: Part, k: usize) -> Fault
 }
 
 // Whether the sequence is skipped.
-pub fn is_skipped(s: &[u8], residues: Part) -> bool
+pub fn is_skipped(s: &[u8], residues: Range) -> bool
     ensures { λ r. ⌜ TellsSkipped (now (s .entry)) residues r ⌝ }
 {
     value_words::same(read_steps::bytes_of(s, residues.from, residues.to), b"000")
 }
 
-fn is_blank(p: Part) -> bool
+fn is_blank(p: Range) -> bool
     ensures { λ r. ⌜ TellsBlank p r ⌝ }
 {
     if p.from == p.to {
@@ -94,7 +94,7 @@ fn is_blank(p: Part) -> bool
 }
 
 // What rule 29 asks of a skipped sequence. `ids` and `table` say whether those are there.
-pub fn is_empty(declared: Part, moltype: Part, division: Part, ids: bool, table: bool) -> bool
+pub fn is_empty(declared: Range, moltype: Range, division: Range, ids: bool, table: bool) -> bool
     ensures { λ r. ⌜ TellsEmpty declared moltype division ids table r ⌝ }
 {
     if ids {
@@ -125,30 +125,30 @@ fn judge_symbols(w: &[u8], clean: bool, undefined: u8, fewest: usize, place: usi
 }
 
 // Rules 18 and 19.
-fn judge_residues(w: &[u8], kind: Kind, clean: bool, place: usize) -> Fault
+fn judge_residues(w: &[u8], kind: Molecule, clean: bool, place: usize) -> Fault
     ensures { λ r. ⌜ JudgesResidues (now (w .entry)) kind clean place r ⌝ }
 {
     match kind {
-        Kind::Dna => judge_symbols(w, clean, b'n', 10, place),
-        Kind::Rna => judge_symbols(w, clean, b'n', 10, place),
-        Kind::Aa => judge_symbols(w, clean, b'X', 4, place),
-        Kind::Other => Fault::Clean,
+        Molecule::Dna => judge_symbols(w, clean, b'n', 10, place),
+        Molecule::Rna => judge_symbols(w, clean, b'n', 10, place),
+        Molecule::Aa => judge_symbols(w, clean, b'X', 4, place),
+        Molecule::Other => Fault::Clean,
     }
 }
 
-fn is_known(kind: Kind) -> bool
+fn is_known(kind: Molecule) -> bool
     ensures { λ r. ⌜ r ≡ namesOne kind ⌝ }
 {
     match kind {
-        Kind::Dna => true,
-        Kind::Rna => true,
-        Kind::Aa => true,
-        Kind::Other => false,
+        Molecule::Dna => true,
+        Molecule::Rna => true,
+        Molecule::Aa => true,
+        Molecule::Other => false,
     }
 }
 
 // Rules 16 to 20.
-pub fn judge_texts(s: &[u8], declared: Part, moltype: Part, division: Part, known: Known) -> Fault
+pub fn judge_texts(s: &[u8], declared: Range, moltype: Range, division: Range, known: Known) -> Fault
     ensures { λ r. ⌜ JudgesTexts (now (s .entry)) declared moltype division known r ⌝ }
 {
     let kind = known.kind;

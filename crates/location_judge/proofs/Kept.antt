@@ -15,8 +15,8 @@ use Rattle.location_judge.specs.Places.{RestIs, Stretch}
 use Rattle.location_judge.specs.Readings.{Reads, kept, Numbers, Keeps, pieceWithin, PieceSays, Pairs, Tails, Pieces}
 use Rattle.location_judge.specs.declared.pieces.Num.{Num}
 use Rattle.location_judge.specs.declared.pieces.Num.the-variants as num-is
-use Rattle.location_judge.specs.declared.pieces.Found.{Found}
-use Rattle.location_judge.specs.declared.pieces.Found.the-variants as found-is
+use Rattle.location_judge.specs.declared.pieces.FoundPiece.{FoundPiece}
+use Rattle.location_judge.specs.declared.pieces.FoundPiece.the-variants as found-is
 use Rattle.location_judge.proofs.Stand.{Lacks, begun, not-begun, stretch-text, stretch-none, stretch-join}
 use Rattle.location_judge.proofs.Shapes.{tail-else, second-else, plain-else, piece-else}
 
@@ -24,10 +24,10 @@ use Rattle.location_judge.proofs.Shapes.{tail-else, second-else, plain-
 reads-by : {A : Type 0} {P : A → Type 0} {s : List ℕ} {n : ℕ} {g k : Got A} → g ≡ k → Reads s P k n → Reads s P g n
 reads-by {A} {P} {s} {n} e = subst (λ (x : Got A). Reads s P x n) (sym e)
 
-says-by : (s : List ℕ) (c : Bool) {g k : Got paper.Piece} (r : Found) → g ≡ k → PieceSays s c k r → PieceSays s c g r
+says-by : (s : List ℕ) (c : Bool) {g k : Got paper.Piece} (r : FoundPiece) → g ≡ k → PieceSays s c k r → PieceSays s c g r
 says-by s c r e = subst (λ (x : Got paper.Piece). PieceSays s c x r) (sym e)
 
-within-from : {s : List ℕ} {i j : ℕ} → Stretch s i j → (r : Found) → pieceWithin s j r → pieceWithin s i r
+within-from : {s : List ℕ} {i j : ℕ} → Stretch s i j → (r : FoundPiece) → pieceWithin s j r → pieceWithin s i r
 within-from h found-is.No p = tt
 within-from h (found-is.At k a odd) p = (stretch-join h (p .0), p .1, p .2)
 
@@ -71,7 +71,7 @@ module _ {s : List ℕ} {at x marks : ℕ} {less : Bool} where
   -- `..`, a sign or none, and the second number, at j
   tail-range : {j : ℕ} (more : Bool) → Stretch s at j
       → ((w : List ℕ) → RestIs s at w → (z : List ℕ) × RestIs s j z × ((X : ℕ) → tail less X w ≡ then (num z) (λ y r. some (range less X more y, r))))
-      → (r : Found) → Pairs s j x (marks + mark more 4) false r → Tails s at x marks less r
+      → (r : FoundPiece) → Pairs s j x (marks + mark more 4) false r → Tails s at x marks less r
   tail-range more l h r p =
       record {
         within = within-from l r (p .within);
@@ -82,7 +82,7 @@ module _ {s : List ℕ} {at x marks : ℕ} {less : Bool} where
       }
 
   module _ {t u : Bool} (dots : There (raw (bytes "..")) s at t) (a : t ≡ true) (sign : There (raw (bytes ">")) s (at + 2) u) where
-    pub tail-high : u ≡ true → (r : Found) → Pairs s (at + 2 + 4) x (marks + 4) false r → Tails s at x marks less r
+    pub tail-high : u ≡ true → (r : FoundPiece) → Pairs s (at + 2 + 4) x (marks + 4) false r → Tails s at x marks less r
     tail-high b =
         tail-range true (stretch-join (stretch-text (bytes "..") dots a) (stretch-text (bytes ">") sign b))
         (λ w st.
@@ -90,7 +90,7 @@ module _ {s : List ℕ} {at x marks : ℕ} {less : Bool} where
         let q = begun (bytes ">") sign (p .2) b in
         (q .0, q .2, λ X. ap (tail less X) (p .1) ∙ ap (second less X) (q .1)))
 
-    pub tail-low : u ≡ false → (r : Found) → Pairs s (at + 2) x marks false r → Tails s at x marks less r
+    pub tail-low : u ≡ false → (r : FoundPiece) → Pairs s (at + 2) x marks false r → Tails s at x marks less r
     tail-low b r p =
         tail-range false (stretch-text (bytes "..") dots a)
         (λ w st.
@@ -134,7 +134,7 @@ module _ {s : List ℕ} {at j : ℕ} {k : ℕ → List ℕ → Got paper.Piece} 
         says = λ w st. let p = way .goes w st in p .2 ∙ ap (λ (g : Got ℕ). then g k) (h .says (p .0) (p .1));
       }
 
-  pub piece-by : {n x : ℕ} (r : Found) → Numbers s j (num-is.At n x) → pieceWithin s n r
+  pub piece-by : {n x : ℕ} (r : FoundPiece) → Numbers s j (num-is.At n x) → pieceWithin s n r
       → ((X : ℕ) → x ≡ kept X → (w : List ℕ) → RestIs s n w → PieceSays s c (k X w) r) → Pieces s at c r
   piece-by {n} r h i f =
       record {
@@ -153,11 +153,11 @@ module _ {s : List ℕ} {at j n x base : ℕ} {c : Bool} (b : base ≡ mark c 1)
       (λ X e w st.
       record { value = after X; rest = w; is = refl; stands = st; holds = record { first = e; last = e; marks = omega arith; odds = refl } })
 
-  pub piece-before : Way s at j (tail true) → (r : Found) → Tails s n x (base + 2) true r → Pieces s at c r
+  pub piece-before : Way s at j (tail true) → (r : FoundPiece) → Tails s n x (base + 2) true r → Pieces s at c r
   piece-before way r p = piece-by way c r h (p .within) (λ X e. p .says c X e (omega arith))
 
   module _ (way : Way s at j plain) {t : Bool} (caret : There (raw (bytes "^")) s n t) where
-    pub piece-site : t ≡ true → (r : Found) → Pairs s (n + 1) x (base + 8) true r → Pieces s at c r
+    pub piece-site : t ≡ true → (r : FoundPiece) → Pairs s (n + 1) x (base + 8) true r → Pieces s at c r
     piece-site e r p =
         piece-by way c r h (within-from (stretch-text (bytes "^") caret e) r (p .within))
         (λ X k w st.
@@ -165,7 +165,7 @@ module _ {s : List ℕ} {at j n x base : ℕ} {c : Bool} (b : base ≡ mark c 1)
         says-by s c r (ap (plain X) (q .1))
         (p .says c (site X) (λ y. record { first = k; last = refl; marks = omega arith; odds = refl }) (q .0) (q .2)))
 
-    pub piece-tail : t ≡ false → (r : Found) → Tails s n x base false r → Pieces s at c r
+    pub piece-tail : t ≡ false → (r : FoundPiece) → Tails s n x base false r → Pieces s at c r
     piece-tail e r p =
         piece-by way c r h (p .within)
         (λ X k w st. says-by s c r (plain-else X w (not-begun (bytes "^") caret st e)) (p .says c X k (omega arith) w st))

@@ -16,8 +16,8 @@ use Rattle.location_judge.specs.Places.{RestIs, Stretch}
 use Rattle.location_judge.specs.Judging.{AreFacts}
 use Rattle.location_judge.specs.Readings.{Keeps, Pieces, wrongOf, outWithin, OutSays, Outs, numberOf, Lists}
 use Rattle.location_judge.specs.declared.pieces.Reach.{Reach}
-use Rattle.location_judge.specs.declared.pieces.Found.{Found}
-use Rattle.location_judge.specs.declared.pieces.Found.the-variants as found-is
+use Rattle.location_judge.specs.declared.pieces.FoundPiece.{FoundPiece}
+use Rattle.location_judge.specs.declared.pieces.FoundPiece.the-variants as found-is
 use Rattle.location_judge.specs.declared.judging.Facts.{Facts}
 use Rattle.location_judge.specs.declared.judging.Out.{Out}
 use Rattle.location_judge.specs.declared.judging.Out.the-variants as out-is
@@ -29,7 +29,7 @@ use Rattle.location_judge.proofs.Words.{within-else, within-list, close
 
 -- ---- what a test told of an answer
 
-pub pieces-are : {s : List ℕ} {at : ℕ} {c : Bool} {r q : Found} → Pieces s at c r → r ≡ q → Pieces s at c q
+pub pieces-are : {s : List ℕ} {at : ℕ} {c : Bool} {r q : FoundPiece} → Pieces s at c r → r ≡ q → Pieces s at c q
 pieces-are {s} {at} {c} h e = subst (Pieces s at c) e h
 
 pub lists-are : {s : List ℕ} {at : ℕ} {r q : Listed} → Lists s at r → r ≡ q → Lists s at q

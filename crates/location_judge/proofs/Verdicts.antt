@@ -12,12 +12,12 @@ use Rattle.paper.proofs.Texts.{raw-once}
 use Rattle.paper.proofs.Locate.{locate-sound, locate-complete, locates-once}
 use Rattle.paper.proofs.Locate.Model.{read, wholly, locate}
 use Rattle.location_judge.specs.Places.{RestIs}
-use Rattle.location_judge.specs.Judging.{AreFacts, Judged, Spells, Judges}
+use Rattle.location_judge.specs.Judging.{AreFacts, JudgedText, Spells, Judges}
 use Rattle.location_judge.specs.Readings.{Outs}
 use Rattle.location_judge.specs.declared.judging.Facts.{Facts}
 use Rattle.location_judge.specs.declared.judging.Out.the-variants as out-is
-use Rattle.location_judge.specs.declared.judging.Verdict.{Verdict}
-use Rattle.location_judge.specs.declared.judging.Verdict.the-variants.{Bad, Is}
+use Rattle.location_judge.specs.declared.judging.Judgement.{Judgement}
+use Rattle.location_judge.specs.declared.judging.Judgement.the-variants.{Bad, Is}
 use Rattle.location_judge.proofs.Stand.{at-end}
 
 -- a whole text stands at the start
@@ -57,7 +57,7 @@ pub spells-once : {s : List ℕ} {t u : Location} → Spells s t → Spells s u 
 spells-once {t = t} {u} x y = locates-once t u (x .located) (read-as y (x .text) (x .written))
 
 -- the verdict on the text as read
-pub judged-by : {s : List ℕ} (L : ℕ) (r : Verdict) → Judges s L r → (w : List ℕ) → s ≡ raw w → Judged L w r
+pub judged-by : {s : List ℕ} (L : ℕ) (r : Judgement) → Judges s L r → (w : List ℕ) → s ≡ raw w → JudgedText L w r
 judged-by L Bad j w e = λ t x. j t (record { text = w; written = e; located = x })
 judged-by L (Is f) j w e = (j .0, read-as (j .1) w e, j .2)
 
@@ -74,7 +74,7 @@ facts-once h k =
       unjudged = (h .unjudged ∙ sym (k .unjudged)) i;
     }
 
-pub judges-once : (s : List ℕ) (L : ℕ) (r q : Verdict) → Judges s L r → Judges s L q → r ≡ q
+pub judges-once : (s : List ℕ) (L : ℕ) (r q : Judgement) → Judges s L r → Judges s L q → r ≡ q
 judges-once s L Bad Bad h k = refl
 judges-once s L Bad (Is g) h k = absurd (h (k .0) (k .1))
 judges-once s L (Is f) Bad h k = absurd (k (h .0) (h .1))

@@ -5,10 +5,10 @@ use mathlib.Core.List.{List}
 use lib.ListN.{length}
 use Rattle.paper.specs.Bytes.{raw}
 use Rattle.paper.specs.Locations.{Location, Locates, spans, operatorNumber, breaks25, hasComplement, leavesUnjudged}
-use Rattle.read_steps.specs.Parts.{Shows}
+use Rattle.read_steps.specs.Parts.{ShowsBytes}
 use Rattle.location_judge.specs.declared.judging.Facts.{Facts}
-use Rattle.location_judge.specs.declared.judging.Verdict.{Verdict}
-use Rattle.location_judge.specs.declared.judging.Verdict.the-variants.{Bad, Is}
+use Rattle.location_judge.specs.declared.judging.Judgement.{Judgement}
+use Rattle.location_judge.specs.declared.judging.Judgement.the-variants.{Bad, Is}
 
 -- the facts of the location t, for a sequence of L residues
 pub record AreFacts (L : ℕ) (t : Location) (f : Facts) : Type 0 where
@@ -19,9 +19,9 @@ pub record AreFacts (L : ℕ) (t : Location) (f : Facts) : Type 0 where
   pub unjudged : f .unjudged ≡ leavesUnjudged t
 
 -- of the text as read w, rule 24 is broken: no location is written so; or one is, with these facts
-abbrev pub Judged : ℕ → List ℕ → Verdict → Type 0
-Judged L w Bad = (t : Location) → Locates t w → ⊥
-Judged L w (Is f) = (t : Location) × Locates t w × AreFacts L t f
+abbrev pub JudgedText : ℕ → List ℕ → Judgement → Type 0
+JudgedText L w Bad = (t : Location) → Locates t w → ⊥
+JudgedText L w (Is f) = (t : Location) × Locates t w × AreFacts L t f
 
 -- the bytes s are the location t, as it is written
 pub record Spells (s : List ℕ) (t : Location) : Type 0 where
@@ -30,10 +30,10 @@ pub record Spells (s : List ℕ) (t : Location) : Type 0 where
   pub located : Locates t text
 
 -- of whatever bytes: rule 24 is broken, since they are no location; or they are one, with these facts
-abbrev pub Judges : List ℕ → ℕ → Verdict → Type 0
+abbrev pub Judges : List ℕ → ℕ → Judgement → Type 0
 Judges s L Bad = (t : Location) → Spells s t → ⊥
 Judges s L (Is f) = (t : Location) × Spells s t × AreFacts L t f
 
 -- the verdict on the part that stands from here to there
-pub record JudgesPart (s : List ℕ) (from to L : ℕ) (r : Verdict) : Type 0 where
-  pub is : (w : List ℕ) → Shows s from to w → Judges w L r
+pub record JudgesPart (s : List ℕ) (from to L : ℕ) (r : Judgement) : Type 0 where
+  pub is : (w : List ℕ) → ShowsBytes s from to w → Judges w L r

@@ -15,8 +15,8 @@ use Rattle.location_judge.specs.Judging.{AreFacts}
 use Rattle.location_judge.specs.declared.pieces.Num.{Num}
 use Rattle.location_judge.specs.declared.pieces.Num.the-variants as num-is
 use Rattle.location_judge.specs.declared.pieces.Reach.{Reach}
-use Rattle.location_judge.specs.declared.pieces.Found.{Found}
-use Rattle.location_judge.specs.declared.pieces.Found.the-variants as found-is
+use Rattle.location_judge.specs.declared.pieces.FoundPiece.{FoundPiece}
+use Rattle.location_judge.specs.declared.pieces.FoundPiece.the-variants as found-is
 use Rattle.location_judge.specs.declared.judging.Facts.{Facts}
 use Rattle.location_judge.specs.declared.judging.Out.{Out}
 use Rattle.location_judge.specs.declared.judging.Out.the-variants as out-is
@@ -54,26 +54,26 @@ pub record Keeps (c : Bool) (p : paper.Piece) (a : Reach) (odd : Bool) : Type 0 
   pub marks : a .marks ≡ mark c 1 + signs p
   pub odds : odd ≡ isOdd p
 
-abbrev pub pieceWithin : List ℕ → ℕ → Found → Type 0
+abbrev pub pieceWithin : List ℕ → ℕ → FoundPiece → Type 0
 pieceWithin s at found-is.No = Unit {0}
 pieceWithin s at (found-is.At n a odd) = Stretch s at n × (1 ≤ a .first) × (1 ≤ a .last)
 
-abbrev pub PieceSays : List ℕ → Bool → Got paper.Piece → Found → Type 0
+abbrev pub PieceSays : List ℕ → Bool → Got paper.Piece → FoundPiece → Type 0
 PieceSays s c g found-is.No = g ≡ none
 PieceSays s c g (found-is.At n a odd) = Reads s (λ (p : paper.Piece). Keeps c p a odd) g n
 
 -- whichever segment or site f makes of the second number, if x, marks and odd are what is kept of it
-pub record Pairs (s : List ℕ) (at x marks : ℕ) (odd : Bool) (r : Found) : Type 0 where
+pub record Pairs (s : List ℕ) (at x marks : ℕ) (odd : Bool) (r : FoundPiece) : Type 0 where
   pub within : pieceWithin s at r
   pub says : (c : Bool) (f : ℕ → paper.Piece) → ((y : ℕ) → Keeps c (f y) (record { first = x; last = kept y; marks = marks }) odd)
       → (w : List ℕ) → RestIs s at w → PieceSays s c (then (num w) (λ y z. some (f y, z))) r
 
 -- whichever first number x is kept of
-pub record Tails (s : List ℕ) (at x marks : ℕ) (less : Bool) (r : Found) : Type 0 where
+pub record Tails (s : List ℕ) (at x marks : ℕ) (less : Bool) (r : FoundPiece) : Type 0 where
   pub within : pieceWithin s at r
   pub says : (c : Bool) (X : ℕ) → x ≡ kept X → marks ≡ mark c 1 + mark less 2 → (w : List ℕ) → RestIs s at w → PieceSays s c (tail less X w) r
 
-pub record Pieces (s : List ℕ) (at : ℕ) (c : Bool) (r : Found) : Type 0 where
+pub record Pieces (s : List ℕ) (at : ℕ) (c : Bool) (r : FoundPiece) : Type 0 where
   pub within : pieceWithin s at r
   pub says : (w : List ℕ) → RestIs s at w → PieceSays s c (piece w) r
 

@@ -2,7 +2,7 @@
 use crate::operators::Listed;
 use crate::operators::complement_at;
 use crate::operators::list_at;
-use crate::pieces::Found;
+use crate::pieces::FoundPiece;
 use crate::pieces::is_wrong;
 use crate::pieces::piece;
 use read_bytes::begins;
@@ -28,7 +28,7 @@ pub struct Facts {
 }
 
 // Bad: it breaks rule 24.
-pub enum Verdict {
+pub enum Judgement {
     Bad,
     Is(Facts),
 }
@@ -44,10 +44,10 @@ fn leaf(s: &[u8], at: usize, top: u32, far: bool) -> Out
     ensures { λ r. ⌜ Outs (now (s .entry)) at top (Model.leaf far) r ⌝ }
 {
     match piece(s, at, false) {
-        Found::No => {
+        FoundPiece::No => {
             return Out::Bad;
         }
-        Found::At(n, a, odd) => {
+        FoundPiece::At(n, a, odd) => {
             let wrong = is_wrong(a, top);
             if far || a.marks < 8 {
                 return Out::Read(
@@ -166,24 +166,24 @@ fn read(s: &[u8], at: usize, top: u32, depth: usize, turn: bool, far: bool) -> O
 }
 
 // The location that the bytes s of a part are written from, for a sequence of `top` residues.
-pub fn judge(s: &[u8], top: u32) -> Verdict
+pub fn judge(s: &[u8], top: u32) -> Judgement
     ensures { λ r. ⌜ Judges (now (s .entry)) top r ⌝ }
 {
     match read(s, 0, top, 2, true, true) {
         Out::Bad => {
-            return Verdict::Bad;
+            return Judgement::Bad;
         }
         Out::Read(n, f) => {
             if n < s.len() {
-                return Verdict::Bad;
+                return Judgement::Bad;
             }
-            return Verdict::Is(f);
+            return Judgement::Is(f);
         }
     }
 }
 
 // The location that stands in the listing s from `from` to before `to`, for a sequence of `top` residues.
-pub fn judge_location(s: &[u8], from: usize, to: usize, top: u32) -> Verdict
+pub fn judge_location(s: &[u8], from: usize, to: usize, top: u32) -> Judgement
     ensures { λ r. ⌜ JudgesPart (now (s .entry)) from to top r ⌝ }
 {
     judge(read_steps::bytes_of(s, from, to), top)

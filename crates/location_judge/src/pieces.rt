@@ -21,7 +21,7 @@ pub struct Reach {
 }
 
 // A segment or site: the place past it, and whether it is a site, or a lone `<x` or `>x`.
-pub enum Found {
+pub enum FoundPiece {
     No,
     At(usize, Reach, bool),
 }
@@ -81,16 +81,16 @@ fn number(s: &[u8], at: usize) -> Num
 }
 
 // x and the number at `at`.
-fn pair(s: &[u8], at: usize, x: u64, marks: u32, odd: bool) -> Found
+fn pair(s: &[u8], at: usize, x: u64, marks: u32, odd: bool) -> FoundPiece
     requires { ⌜ 1 ≤ x ⌝ }
     ensures { λ r. ⌜ Pairs (now (s .entry)) at x marks odd r ⌝ }
 {
     match number(s, at) {
         Num::No => {
-            return Found::No;
+            return FoundPiece::No;
         }
         Num::At(n, y) => {
-            return Found::At(
+            return FoundPiece::At(
                 n,
                 Reach {
                     first: x,
@@ -104,7 +104,7 @@ fn pair(s: &[u8], at: usize, x: u64, marks: u32, odd: bool) -> Found
 }
 
 // Behind the first number x of what may be a range.
-fn tail(s: &[u8], at: usize, x: u64, marks: u32, less: bool) -> Found
+fn tail(s: &[u8], at: usize, x: u64, marks: u32, less: bool) -> FoundPiece
     requires { ⌜ (1 ≤ x) × (at ≤ length (now s)) × (marks ≤ 3) ⌝ }
     ensures { λ r. ⌜ Tails (now (s .entry)) at x marks less r ⌝ }
 {
@@ -115,7 +115,7 @@ fn tail(s: &[u8], at: usize, x: u64, marks: u32, less: bool) -> Found
         }
         return pair(s, i, x, marks, false);
     }
-    Found::At(
+    FoundPiece::At(
         at,
         Reach {
             first: x,
@@ -127,17 +127,17 @@ fn tail(s: &[u8], at: usize, x: u64, marks: u32, less: bool) -> Found
 }
 
 // "Segment: `x`, `x..y`, `<x`, `>x`, `<x..y`, `x..>y`, `<x..>y`. Site: `x^y`"; complemented: it stands in a complement.
-pub fn piece(s: &[u8], at: usize, complemented: bool) -> Found
+pub fn piece(s: &[u8], at: usize, complemented: bool) -> FoundPiece
     ensures { λ r. ⌜ Pieces (now (s .entry)) at complemented r ⌝ }
 {
     let base = mark_if(complemented);
     if begins(s, at, b"&gt;") {
         match number(s, at + 4) {
             Num::No => {
-                return Found::No;
+                return FoundPiece::No;
             }
             Num::At(n, x) => {
-                return Found::At(
+                return FoundPiece::At(
                     n,
                     Reach {
                         first: x,
@@ -152,7 +152,7 @@ pub fn piece(s: &[u8], at: usize, complemented: bool) -> Found
     if begins(s, at, b"&lt;") {
         match number(s, at + 4) {
             Num::No => {
-                return Found::No;
+                return FoundPiece::No;
             }
             Num::At(n, x) => {
                 return tail(s, n, x, base + 2, true);
@@ -161,7 +161,7 @@ pub fn piece(s: &[u8], at: usize, complemented: bool) -> Found
     }
     match number(s, at) {
         Num::No => {
-            return Found::No;
+            return FoundPiece::No;
         }
         Num::At(n, x) => {
             if begins(s, n, b"^") {

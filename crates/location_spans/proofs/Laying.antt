@@ -16,8 +16,8 @@ use Rattle.location_judge.specs.Judging.{Spells, Judges}
 use Rattle.location_spans.specs.Walking.{Left, Steps, Starts, spanIs}
 use Rattle.location_spans.specs.Room.{PutsSpans, Asked, Answers}
 use Rattle.location_judge.specs.declared.judging.Facts.{Facts}
-use Rattle.location_judge.specs.declared.judging.Verdict.the-variants as verdict
-use Rattle.location_spans.specs.declared.walking.Span.{Span as Given}
+use Rattle.location_judge.specs.declared.judging.Judgement.the-variants as verdict
+use Rattle.location_spans.specs.declared.walking.Triple.{Triple as Given}
 use Rattle.location_spans.specs.declared.walking.Walk.{Walk}
 use Rattle.location_spans.specs.declared.walking.Next.the-variants as next
 use Rattle.location_spans.specs.declared.room.Answer.{Answer}

@@ -7,14 +7,14 @@ use Rattle.paper.specs.Locations.{Location, breaks25, spans}
 use Rattle.paper.specs.Locations as paper
 use Rattle.location_judge.specs.Judging.{Spells}
 use Rattle.location_spans.specs.Walking.{Left, Starts, Steps, spanIs}
-use Rattle.location_spans.specs.declared.walking.Span.{Span}
+use Rattle.location_spans.specs.declared.walking.Triple.{Triple}
 use Rattle.location_spans.specs.declared.walking.Walk.{Walk}
 use Rattle.location_spans.specs.declared.walking.Next.the-variants as next
 
 -- these spans are given from a walk on, step after step, until it is done
 pub data Given (s : List ℕ) (L : ℕ) : Walk → List paper.Span → Type 0 where
   done : {w : Walk} → Steps s L w next.Done → Given s L w []
-  more : {w v : Walk} {x : Span} {l : List paper.Span} → Steps s L w (next.Is x v) → Given s L v l → Given s L w (spanIs x ∷ l)
+  more : {w v : Walk} {x : Triple} {l : List paper.Span} → Steps s L w (next.Is x v) → Given s L v l → Given s L w (spanIs x ∷ l)
 
 given-left : {s : List ℕ} {L : ℕ} {w : Walk} {k : List paper.Span} → Given s L w k → (l : List paper.Span) → Left s L w l → k ≡ l
 given-left (done h) l x = sym (h .yields l x)

@@ -22,8 +22,8 @@ use Rattle.location_spans.specs.Walking.{Written, Ends, Ahead, Behind, L
 use Rattle.location_spans.specs.Walking as walking
 use Rattle.location_spans.specs.Members.{Gives, MemberSays, Members, LastStart}
 use Rattle.location_judge.specs.declared.pieces.Reach.{Reach}
-use Rattle.location_judge.specs.declared.pieces.Found.{Found}
-use Rattle.location_judge.specs.declared.pieces.Found.the-variants as found-is
+use Rattle.location_judge.specs.declared.pieces.FoundPiece.{FoundPiece}
+use Rattle.location_judge.specs.declared.pieces.FoundPiece.the-variants as found-is
 use Rattle.location_spans.specs.declared.walking.Walk.{Walk}
 use Rattle.location_spans.specs.declared.walking.Walk.the-variants as walk
 use Rattle.location_spans.specs.declared.walking.Next.{Next}
@@ -36,7 +36,7 @@ use Rattle.location_spans.proofs.Commas.{written-order, start-first, st
 -- ---- members
 
 -- a segment or site that is written is read
-reads-piece : {s : List ℕ} {at : ℕ} {c : Bool} (r : Found) → Pieces s at c r → (p : Piece) (v z : List ℕ) → pieceRest p v z → RestIs s at v → Follow z
+reads-piece : {s : List ℕ} {at : ℕ} {c : Bool} (r : FoundPiece) → Pieces s at c r → (p : Piece) (v z : List ℕ) → pieceRest p v z → RestIs s at v → Follow z
     → MemberSays s c p z r
 reads-piece found-is.No h p v z x st f = Option·none-ne-some (p, z) (sym (h .says v st) ∙ piece-complete p v z x f)
 reads-piece {s} {c = c} (found-is.At n a odd) h p v z x st f =
@@ -55,7 +55,7 @@ pub low-letter : {w : List ℕ} → Low w → {a : ℕ} {v : List ℕ} → w ≡
 low-letter l e h = omega (arith, l .3, ap (λ (x : List ℕ). getD x 0 0) (sym (l .2) ∙ e))
 
 module _ {s : List ℕ} {at : ℕ} {t : Bool} (word : There (raw (bytes "complement(")) s at t) where
-  pub member-plain : t ≡ false → (r : Found) → Pieces s at false r → Members s at r
+  pub member-plain : t ≡ false → (r : FoundPiece) → Pieces s at false r → Members s at r
   member-plain e r h = record { within = h .within; says = says }
     where
       says : (c : Bool) (p : Piece) (u z : List ℕ) → complement c (pieceText p) 0 u → RestIs s at (u ++ z) → Follow z → MemberSays s c p z r
@@ -64,7 +64,7 @@ module _ {s : List ℕ} {at : ℕ} {t : Bool} (word : There (raw (bytes "complem
 
   module _ (e : t ≡ true) where
     -- what stands in the complement is read, and `)` is left
-    inside : (r : Found) → Pieces s (at + 11) true r → (c : Bool) (p : Piece) (u z : List ℕ) → complement c (pieceText p) 0 u → RestIs s at (u ++ z)
+    inside : (r : FoundPiece) → Pieces s (at + 11) true r → (c : Bool) (p : Piece) (u z : List ℕ) → complement c (pieceText p) 0 u → RestIs s at (u ++ z)
         → (c ≡ true) × MemberSays s true p (code ")" ∷ z) r
     inside r h false p u z x st =
         let b = begun (bytes "complement(") word st e in
@@ -102,7 +102,7 @@ module _ {s : List ℕ} {at : ℕ} {t : Bool} (word : There (raw (bytes "complem
                 (subst (λ (k : Bool). Keeps k p a odd) (sym (m .0)) (m .1 .0), subst (RestIs s (n + 1)) q (y .2));
           }
 
-pub members-are : {s : List ℕ} {at : ℕ} {r q : Found} → Members s at r → r ≡ q → Members s at q
+pub members-are : {s : List ℕ} {at : ℕ} {r q : FoundPiece} → Members s at r → r ≡ q → Members s at q
 members-are {s} {at} h e = subst (Members s at) e h
 
 -- ---- a span is given
@@ -224,7 +224,7 @@ module _ {s : List ℕ} {L low at : ℕ} where
           left = inr (omega arith, subst (λ (n : ℕ). Behind s L low n l) d x);
         }
 
-    said : (r : Found) → Pieces s i true r → {l : List paper.Span} (b : Back s L low at i l) → MemberSays s true (b .piece) (b .rest) r
+    said : (r : FoundPiece) → Pieces s i true r → {l : List paper.Span} (b : Back s L low at i l) → MemberSays s true (b .piece) (b .rest) r
     said r k b =
         let w = b .written in
         reads-piece r k (b .piece) (w .text ++ b .rest) (b .rest) (rest-of false (b .piece) (w .text) (b .rest) (w .is)) (w .from) (w .follow)

@@ -12,8 +12,8 @@ use Rattle.paper.proofs.Locate.Pieces.{Follow}
 use Rattle.location_judge.specs.Places.{RestIs}
 use Rattle.location_judge.specs.Readings.{Keeps, pieceWithin, wrongOf}
 use Rattle.location_judge.specs.declared.pieces.Reach.{Reach}
-use Rattle.location_judge.specs.declared.pieces.Found.{Found}
-use Rattle.location_judge.specs.declared.pieces.Found.the-variants as found-is
+use Rattle.location_judge.specs.declared.pieces.FoundPiece.{FoundPiece}
+use Rattle.location_judge.specs.declared.pieces.FoundPiece.the-variants as found-is
 use Rattle.location_spans.specs.Walking.{spanIs}
 use Rattle.location_spans.specs.declared.walking.Walk.{Walk}
 use Rattle.location_spans.specs.declared.walking.Next.{Next}
@@ -29,12 +29,12 @@ pub record Gives (L : ℕ) (a : Reach) (w : Walk) (r : Next) : Type 0 where
   pub says : GiveSays L a w r
 
 -- r is the member c p, with z behind it
-abbrev pub MemberSays : List ℕ → Bool → paper.Piece → List ℕ → Found → Type 0
+abbrev pub MemberSays : List ℕ → Bool → paper.Piece → List ℕ → FoundPiece → Type 0
 MemberSays s c p z found-is.No = ⊥
 MemberSays s c p z (found-is.At n a odd) = Keeps c p a odd × RestIs s n z
 
 -- r is whichever member is written at a place
-pub record Members (s : List ℕ) (at : ℕ) (r : Found) : Type 0 where
+pub record Members (s : List ℕ) (at : ℕ) (r : FoundPiece) : Type 0 where
   pub within : pieceWithin s at r
   pub says : (c : Bool) (p : paper.Piece) (u z : List ℕ) → complement c (pieceText p) 0 u → RestIs s at (u ++ z) → Follow z → MemberSays s c p z r
 

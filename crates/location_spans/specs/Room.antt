@@ -6,7 +6,7 @@ use mathlib.Core.List.{List}
 use lib.ListN.{length}
 use Rattle.paper.specs.Locations.{Location, Span, spans, operatorNumber, breaks25}
 use Rattle.paper.specs.Answers.{triples, front}
-use Rattle.read_steps.specs.Parts.{Shows}
+use Rattle.read_steps.specs.Parts.{ShowsBytes}
 use Rattle.location_judge.specs.Judging.{Spells}
 use Rattle.location_spans.specs.Walking.{Left}
 use Rattle.location_spans.specs.declared.walking.Walk.{Walk}
@@ -33,4 +33,4 @@ Answers s L out (answer.Are operator count) after =
 
 -- the answer on the part that stands from here to there
 pub record AnswersPart (s : List ℕ) (from to L : ℕ) (out : List ℕ) (r : Answer) (after : List ℕ) : Type 0 where
-  pub is : (w : List ℕ) → Shows s from to w → Answers w L out r after
+  pub is : (w : List ℕ) → ShowsBytes s from to w → Answers w L out r after

@@ -11,13 +11,13 @@ use Rattle.paper.specs.Locations as paper
 use Rattle.paper.proofs.Locate.Pieces.{Follow}
 use Rattle.paper.specs.Demands.{Inside}
 use Rattle.location_judge.specs.Places.{RestIs}
-use Rattle.location_spans.specs.declared.walking.Span.{Span}
+use Rattle.location_spans.specs.declared.walking.Triple.{Triple}
 use Rattle.location_spans.specs.declared.walking.Walk.{Walk}
 use Rattle.location_spans.specs.declared.walking.Walk.the-variants as walk
 use Rattle.location_spans.specs.declared.walking.Next.{Next}
 use Rattle.location_spans.specs.declared.walking.Next.the-variants as next
 
-abbrev pub spanIs : Span → paper.Span
+abbrev pub spanIs : Triple → paper.Span
 spanIs x = record { first = x .first; last = x .last; marks = x .marks }
 
 -- a segment or site that keeps rule 25, or the complement of one, is written from i to j, and z behind it

@@ -3,7 +3,7 @@ use crate::walking::Next;
 use crate::walking::Walk;
 use crate::walking::start;
 use crate::walking::step;
-use location_judge::judging::Verdict;
+use location_judge::judging::Judgement;
 use location_judge::judging::judge;
 ghost use Prim.Native.Nat.{_*_, _≤_};
 ghost use lib.ListN.{length};
@@ -49,10 +49,10 @@ fn fill(s: &[u8], top: u32, out: &mut [u32]) -> Answer
     ensures { λ r. ⌜ Answers (now (s .entry)) top (now (out .entry)) r (now (out .exit)) ⌝ }
 {
     match judge(s, top) {
-        Verdict::Bad => {
+        Judgement::Bad => {
             return Answer::Bad;
         }
-        Verdict::Is(f) => {
+        Judgement::Is(f) => {
             if f.wrong {
                 return Answer::Wrong;
             }

@@ -2,7 +2,7 @@
 use location_judge::operators::Listed;
 use location_judge::operators::complement_at;
 use location_judge::operators::list_at;
-use location_judge::pieces::Found;
+use location_judge::pieces::FoundPiece;
 use location_judge::pieces::Reach;
 use location_judge::pieces::is_wrong;
 use location_judge::pieces::piece;
@@ -14,7 +14,7 @@ ghost use Rattle.location_spans.specs.Members.{Gives, Members, LastStart
 ghost use Rattle.location_spans.specs.declared.walking.Walk.the-variants as walk;
 
 // "triples of 32-bit numbers (first, last, marks)"
-pub struct Span {
+pub struct Triple {
     pub first: u32,
     pub last: u32,
     pub marks: u32,
@@ -29,7 +29,7 @@ pub enum Walk {
 
 pub enum Next {
     Done,
-    Is(Span, Walk),
+    Is(Triple, Walk),
 }
 
 // The walk over the location that the part s is written from.
@@ -65,7 +65,7 @@ fn give(a: Reach, top: u32, w: Walk) -> Next
         return Next::Done;
     }
     Next::Is(
-        Span {
+        Triple {
             first: a.first as u32,
             last: a.last as u32,
             marks: a.marks,
@@ -75,19 +75,19 @@ fn give(a: Reach, top: u32, w: Walk) -> Next
 }
 
 // A segment or site, or the complement of one.
-fn member(s: &[u8], at: usize) -> Found
+fn member(s: &[u8], at: usize) -> FoundPiece
     ensures { λ r. ⌜ Members (now (s .entry)) at r ⌝ }
 {
     if complement_at(s, at) {
         match piece(s, at + 11, true) {
-            Found::No => {
-                return Found::No;
+            FoundPiece::No => {
+                return FoundPiece::No;
             }
-            Found::At(n, a, odd) => {
+            FoundPiece::At(n, a, odd) => {
                 if begins(s, n, b")") {
-                    return Found::At(n + 1, a, odd);
+                    return FoundPiece::At(n + 1, a, odd);
                 }
-                return Found::No;
+                return FoundPiece::No;
             }
         }
     }
@@ -99,10 +99,10 @@ fn ahead(s: &[u8], at: usize, top: u32) -> Next
     ensures { λ r. ⌜ Steps (now (s .entry)) top (walk.Ahead at) r ⌝ }
 {
     match member(s, at) {
-        Found::No => {
+        FoundPiece::No => {
             return Next::Done;
         }
-        Found::At(n, a, _) => {
+        FoundPiece::At(n, a, _) => {
             if begins(s, n, b",") {
                 return give(a, top, Walk::Ahead(n + 1));
             }
@@ -139,10 +139,10 @@ fn behind(s: &[u8], low: usize, at: usize, top: u32) -> Next
     }
     let i = last_start(s, low, at);
     match piece(s, i, true) {
-        Found::No => {
+        FoundPiece::No => {
             return Next::Done;
         }
-        Found::At(_, a, _) => {
+        FoundPiece::At(_, a, _) => {
             if i == low {
                 return give(a, top, Walk::Done);
             }

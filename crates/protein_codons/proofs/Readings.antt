@@ -13,13 +13,13 @@ use Rattle.paper.specs.Translation.{Code, basesOf, complementOf, codingText, co
 use Rattle.protein_code.specs.Tables.{setBases, setsLetter}
 use Rattle.protein_blocks.specs.Blocks.{letterFrom}
 use Rattle.location_spans.specs.Walking.{Left, stepsLeft, Starts, Steps}
-use Rattle.location_spans.specs.declared.walking.Span.{Span}
+use Rattle.location_spans.specs.declared.walking.Triple.{Triple}
 use Rattle.location_spans.specs.declared.walking.Walk.{Walk}
 use Rattle.location_spans.specs.declared.walking.Next.the-variants as next
 use Rattle.protein_codons.specs.declared.Reading.{Reading}
 use Rattle.protein_codons.specs.declared.Base.{Base}
 use Rattle.protein_codons.specs.declared.Letter.{Letter}
-use Rattle.protein_codons.specs.Reading.{Ready, strand, current, spanLetters, placeOf, TextLeft, residuesLeft, Opens, Fills, BaseIs, BaseSays, Bases, Onward, Gives, LetterIs, LetterSays, Letters, Skips, Codes, Begins, Ends}
+use Rattle.protein_codons.specs.Reading.{Ready, strand, current, spanLetters, placeOf, TextLeft, residuesLeft, Opens, Fills, BaseIs, BaseSays, Bases, Onward, Gives, LetterIs, LetterSays, Letters, Skips, Codes, BeginsText, Ends}
 use Rattle.protein_codons.proofs.Residues.{strand-none, first-ahead, first-behind, three-ahead, three-behind, strand-length, drop-ahead, drop-behind}
 use Rattle.protein_codons.proofs.Codons.{letters-within, letters-split, letters-at}
 
@@ -79,7 +79,7 @@ module _ {s loc : List ℕ} {L : ℕ} where
                 only-others text u ∙ ap (codingText s) (g .yields (u .others) (u .left));
           }
 
-      module _ (top : L ≤ length s) {a : Span} {v : Walk} {z : Reading} (g : Steps loc L (y .walk) (next.Is a v)) (o : Opens a v z) where
+      module _ (top : L ≤ length s) {a : Triple} {v : Walk} {z : Reading} (g : Steps loc L (y .walk) (next.Is a v)) (o : Opens a v z) where
         pub fewer-steps : stepsLeft (length loc) (z .walk) < stepsLeft (length loc) (y .walk)
         fewer-steps = rw (o .walk) (g .within .1)
 
@@ -323,12 +323,12 @@ module _ (s loc : List ℕ) (L : ℕ) (w : Walk) (st : Starts loc w) where
   begins-at : (t : Location) → Codes s loc L t → TextLeft s loc L (record { walk = w; low = 0; high = 0; turned = false }) (codingText s (paper.spans t))
   begins-at t h = record { others = paper.spans t; left = st L (h .read) t (h .written) (h .located) (h .right); is = refl }
 
-  pub begins-none : {n : ℕ} → n ≡ 0 → Begins s loc L n (record { walk = w; low = 0; high = 0; turned = false })
+  pub begins-none : {n : ℕ} → n ≡ 0 → BeginsText s loc L n (record { walk = w; low = 0; high = 0; turned = false })
   begins-none {n} e =
       let z : n - 1 ≡ 0 = omega arith in
       record { ready = record { order = omega arith; inside = omega arith }; leaves = λ t h. rw z (begins-at t h) }
 
-  pub begins-skip : {n : ℕ} {y : Reading} → Skips s loc L (record { walk = w; low = 0; high = 0; turned = false }) (n - 1) y → Begins s loc L n y
+  pub begins-skip : {n : ℕ} {y : Reading} → Skips s loc L (record { walk = w; low = 0; high = 0; turned = false }) (n - 1) y → BeginsText s loc L n y
   begins-skip {n} f = record { ready = f .ready; leaves = λ t h. f .keeps (codingText s (paper.spans t)) (begins-at t h) }
 
 -- ---- whether a letter is left

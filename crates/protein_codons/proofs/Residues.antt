@@ -9,7 +9,7 @@ use lib.ListN.{length, take, drop, getD, length-reverse, length-map, length-drop
 use lib.Dec.{eqb}
 use lib.Seq.{slice, slice-cons, take-add, take-suc, drop-at, drop-drop, drop-append-le, length-take-le, length-slice}
 use Rattle.paper.specs.Translation.{complementOf, stretch}
-use Rattle.location_spans.specs.declared.walking.Span.{Span}
+use Rattle.location_spans.specs.declared.walking.Triple.{Triple}
 use Rattle.location_spans.specs.declared.walking.Walk.{Walk}
 use Rattle.protein_codons.specs.Reading.{strand, Opens}
 
@@ -101,7 +101,7 @@ module _ (s : List ℕ) where
 
 -- ---- the whole of a span
 
-module _ (x : Span) (w : Walk) where
+module _ (x : Triple) (w : Walk) where
   pub opens-none : x .last < x .first → Opens x w (record { walk = w; low = 0; high = 0; turned = eqb (x .marks % 2) 1 })
   opens-none h =
       record {

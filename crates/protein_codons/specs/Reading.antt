@@ -12,7 +12,7 @@ use Rattle.paper.specs.Translation.{Code, basesOf, complementOf, residuesOf, co
 use Rattle.protein_code.specs.Tables.{setBases}
 use Rattle.protein_blocks.specs.Blocks.{AllPlain}
 use Rattle.location_spans.specs.Walking.{Left, stepsLeft, spanIs}
-use Rattle.location_spans.specs.declared.walking.Span.{Span}
+use Rattle.location_spans.specs.declared.walking.Triple.{Triple}
 use Rattle.location_spans.specs.declared.walking.Walk.{Walk}
 use Rattle.protein_codons.specs.declared.Reading.{Reading}
 use Rattle.protein_codons.specs.declared.Base.{Base}
@@ -63,7 +63,7 @@ unfoldable pub residuesLeft : ℕ → ℕ → Reading → ℕ
 residuesLeft n m x = stepsLeft m (x .walk) * suc n + (x .high - x .low)
 
 -- the reading y that has the whole span x before the walk w
-pub record Opens (x : Span) (w : Walk) (y : Reading) : Type 0 where
+pub record Opens (x : Triple) (w : Walk) (y : Reading) : Type 0 where
   pub order : y .low ≤ y .high
   pub inside : y .high ≤ x .last
   pub walk : y .walk ≡ w
@@ -141,7 +141,7 @@ pub record Codes (s loc : List ℕ) (L : ℕ) (t : Location) : Type 0 where
   pub right : breaks25 L t ≡ false
 
 -- y leaves the coding text: "drop codon_start minus 1 residues"
-pub record Begins (s loc : List ℕ) (L start : ℕ) (y : Reading) : Type 0 where
+pub record BeginsText (s loc : List ℕ) (L start : ℕ) (y : Reading) : Type 0 where
   pub ready : Ready (length s) y
   pub leaves : (t : Location) → Codes s loc L t → TextLeft s loc L y (drop (start - 1) (codingText s (paper.spans t)))
 

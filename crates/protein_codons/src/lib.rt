@@ -4,7 +4,7 @@
 // `frame` the codon_start. A promise, here and in the crates above, speaks of whichever location, that keeps rule 25, the part is written
 // from.
 use location_spans::walking::Next;
-use location_spans::walking::Span;
+use location_spans::walking::Triple;
 use location_spans::walking::Walk;
 use location_spans::walking::start;
 use location_spans::walking::step;
@@ -19,7 +19,7 @@ ghost use Prim.Native.Nat.{_+_, _*_, _≤_, _<_};
 ghost use lib.ListN.{length, getD};
 ghost use Rattle.protein_code.specs.Tables.{Coded, codeOf};
 ghost use Rattle.protein_blocks.specs.Blocks.{AllPlain};
-ghost use Rattle.protein_codons.specs.Reading.{Ready, spanLetters, placeOf, blockOf, PlainBlock, Opens, Fills, Bases, Onward, Skips, Letters, Begins, Ends};
+ghost use Rattle.protein_codons.specs.Reading.{Ready, spanLetters, placeOf, blockOf, PlainBlock, Opens, Fills, Bases, Onward, Skips, Letters, BeginsText, Ends};
 
 // What is left to read: of the current span the residues from low to before high, on the complemented strand from the back; and then the
 // spans that are left of the walk.
@@ -42,7 +42,7 @@ pub enum Letter {
 }
 
 // The span x, and then what is left of the walk. A false site has no residues.
-fn opened(x: Span, walk: Walk) -> Reading
+fn opened(x: Triple, walk: Walk) -> Reading
     requires { ⌜ 1 ≤ x .first ⌝ }
     ensures { λ r. ⌜ Opens x walk r ⌝ }
 {
@@ -283,7 +283,7 @@ fn skip(r: &[u8], loc: &[u8], from: Reading, top: u32, count: usize, code: &[u8;
 pub fn begin(r: &[u8], loc: &[u8], top: u32, frame: usize, code: &[u8; 5128]) -> Reading
     requires { ⌜ top ≤ length (now r) ⌝ }
     requires { ⌜ Coded (now code) ⌝ }
-    ensures { λ y. ⌜ Begins (now (r .entry)) (now (loc .entry)) top frame y ⌝ }
+    ensures { λ y. ⌜ BeginsText (now (r .entry)) (now (loc .entry)) top frame y ⌝ }
 {
     let walk = start(loc);
     let x = Reading {

@@ -14,7 +14,7 @@ use Rattle.paper.specs.Locations.{spans}
 use Rattle.paper.specs.Translation.{Code, codingText, letters}
 use Rattle.protein_code.specs.Tables.{SelfSpelt}
 use Rattle.protein_codons.specs.declared.Reading.{Reading}
-use Rattle.protein_codons.specs.Reading.{Ready, spanLetters, TextLeft, Onward, Gives, LetterIs, Begins, Ends}
+use Rattle.protein_codons.specs.Reading.{Ready, spanLetters, TextLeft, Onward, Gives, LetterIs, BeginsText, Ends}
 use Rattle.protein_codons.proofs.Readings.{span-within, run-gives}
 use Rattle.protein_codons.proofs.Stops.{Front, front-one, front-take, stop-last, stop-last-clear, stop-inside}
 use Rattle.protein_compare.specs.Comparing.{Same, RightValue, RightIf, Compares}
@@ -136,7 +136,7 @@ module _ {gc : Code} {s loc : List ℕ} {L : ℕ} {from : Reading} {value : List
 -- ---- the answer
 
 module _ {gc : Code} {s loc : List ℕ} {L start : ℕ} {value : List ℕ} where
-  pub compares : {from : Reading} → SelfSpelt gc → Begins s loc L start from → (r : Bool) → Tells gc s loc L from value r → Compares gc s loc L start value r
+  pub compares : {from : Reading} → SelfSpelt gc → BeginsText s loc L start from → (r : Bool) → Tells gc s loc L from value r → Compares gc s loc L start value r
   compares p b true g =
       record {
         says = λ t h v e.

@@ -9,11 +9,11 @@ use lib.ListN.{length, drop, length-append}
 use Rattle.paper.specs.Locations.{spans}
 use Rattle.paper.specs.Translation.{Code, codingText, letters, dropStop, hasStopInside}
 use Rattle.protein_codons.specs.declared.Reading.{Reading}
-use Rattle.protein_codons.specs.Reading.{Ready, spanLetters, TextLeft, Onward, Gives, LetterIs, Begins}
+use Rattle.protein_codons.specs.Reading.{Ready, spanLetters, TextLeft, Onward, Gives, LetterIs, BeginsText}
 use Rattle.protein_codons.specs.Letters.{Clear}
 use Rattle.protein_codons.proofs.Readings.{span-within, run-gives}
 use Rattle.protein_codons.proofs.Stops.{Front, front-one, front-take, keep-front, clear-front}
-use Rattle.protein_measure.specs.declared.Count.{Count}
+use Rattle.protein_measure.specs.declared.LetterCount.{LetterCount}
 use Rattle.protein_measure.specs.declared.Size.{Size}
 use Rattle.protein_measure.specs.declared.Size.the-variants as size
 use Rattle.protein_measure.specs.Measuring.{Tally, Counted, sizeOf, Measured, SizeWithin, Measures}
@@ -21,7 +21,7 @@ use Rattle.protein_measure.proofs.Finished.{Finished}
 
 -- ---- k letters more
 
-module _ {room : ℕ} (a : Count) (k : ℕ) (w : a .n ≤ room) where
+module _ {room : ℕ} (a : LetterCount) (k : ℕ) (w : a .n ≤ room) where
   pub counted-in : k ≤ room - a .n → Counted room a k (record { n = a .n + k; over = a .over })
   counted-in h = record { within = omega arith; more = more (a .over) }
     where
@@ -39,7 +39,7 @@ module _ {room : ℕ} (a : Count) (k : ℕ) (w : a .n ≤ room) where
 -- ---- the loop
 
 -- m letters were counted; with those that x leaves they are l
-record Tallied (gc : Code) (s loc : List ℕ) (L : ℕ) (x : Reading) (l : List ℕ) (room : ℕ) (a : Count) : Type 0 where
+record Tallied (gc : Code) (s loc : List ℕ) (L : ℕ) (x : Reading) (l : List ℕ) (room : ℕ) (a : LetterCount) : Type 0 where
   m : ℕ
   rest : List ℕ
   left : TextLeft s loc L x rest
@@ -48,7 +48,7 @@ record Tallied (gc : Code) (s loc : List ℕ) (L : ℕ) (x : Reading) (l : List 
   long : length (dropStop l) ≡ m + length (dropStop (letters gc rest))
 
 -- its invariant
-pub record Measuring (gc : Code) (s loc : List ℕ) (L : ℕ) (from : Reading) (room : ℕ) (x : Reading) (a : Count) : Type 0 where
+pub record Measuring (gc : Code) (s loc : List ℕ) (L : ℕ) (from : Reading) (room : ℕ) (x : Reading) (a : LetterCount) : Type 0 where
   pub ready : Ready (length s) x
   pub within : a .n ≤ room
   gives : (text : List ℕ) → TextLeft s loc L from text → Tallied gc s loc L x (letters gc text) room a
@@ -67,7 +67,7 @@ module _ {gc : Code} {s loc : List ℕ} {L : ℕ} {from : Reading} {room : ℕ} 
         gives = λ text h. record { m = 0; rest = text; left = h; tally = (refl, omega arith); clear = refl; long = omega arith };
       }
 
-  module _ {x : Reading} {a : Count} (f : Measuring gc s loc L from room x a) where
+  module _ {x : Reading} {a : LetterCount} (f : Measuring gc s loc L from room x a) where
     pub measuring-end : Finished gc s loc L x → Tells gc s loc L from room (sizeOf (a .n) (a .over))
     measuring-end g =
         record {
@@ -91,7 +91,7 @@ module _ {gc : Code} {s loc : List ℕ} {L : ℕ} {from : Reading} {room : ℕ} 
     measuring-stop g = record { within = tt; says = λ text h. let v = f .gives text h in v .clear ∙ g (v .rest) (v .left) }
 
     -- letters passed: a run of them, or one
-    measuring-on : {d : List ℕ} {k : ℕ} {y : Reading} {b : Count} → Gives gc s loc L x d y → Front d k → Counted room a k b
+    measuring-on : {d : List ℕ} {k : ℕ} {y : Reading} {b : LetterCount} → Gives gc s loc L x d y → Front d k → Counted room a k b
         → Measuring gc s loc L from room y b
     measuring-on {d} {k} {y} {b} g q w =
         record {
@@ -112,20 +112,20 @@ module _ {gc : Code} {s loc : List ℕ} {L : ℕ} {from : Reading} {room : ℕ} 
               };
         }
 
-    pub measuring-run : {k : ℕ} {y : Reading} {b : Count} → Onward x k y → Clear (x .low) (x .high) (spanLetters gc s (x .low) (x .high) (x .turned)) k
+    pub measuring-run : {k : ℕ} {y : Reading} {b : LetterCount} → Onward x k y → Clear (x .low) (x .high) (spanLetters gc s (x .low) (x .high) (x .turned)) k
         → Counted room a k b → Measuring gc s loc L from room y b
     measuring-run {k} o w =
         measuring-on (run-gives s (f .ready) o gc)
         (front-take (span-within gc s (x .low) (x .high) (x .turned) k (w .within) (f .ready .inside)) (w .clear))
 
-    pub measuring-one : {c : ℕ} {y : Reading} {b : Count} → LetterIs gc s loc L x c y → (c ≡ code "*" → ⊥) → Counted room a 1 b
+    pub measuring-one : {c : ℕ} {y : Reading} {b : LetterCount} → LetterIs gc s loc L x c y → (c ≡ code "*" → ⊥) → Counted room a 1 b
         → Measuring gc s loc L from room y b
     measuring-one g n = measuring-on (g .one) (front-one n)
 
 -- ---- the answer
 
 module _ {gc : Code} {s loc : List ℕ} {L start room : ℕ} where
-  pub measures : {from : Reading} {r : Size} → Begins s loc L start from → Tells gc s loc L from room r → Measures gc s loc L start room r
+  pub measures : {from : Reading} {r : Size} → BeginsText s loc L start from → Tells gc s loc L from room r → Measures gc s loc L start room r
   measures b g = record { within = g .within; says = λ t h. g .says (drop (start - 1) (codingText s (spans t))) (b .leaves t h) }
 
   -- nothing is promised where the residues are not L

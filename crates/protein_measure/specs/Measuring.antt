@@ -8,7 +8,7 @@ use Rattle.paper.specs.Locations.{Location}
 use Rattle.paper.specs.Translation.{Code, dropStop, hasStopInside}
 use Rattle.protein_codons.specs.Reading.{Codes}
 use Rattle.protein_codons.specs.Letters.{lettersOf}
-use Rattle.protein_measure.specs.declared.Count.{Count}
+use Rattle.protein_measure.specs.declared.LetterCount.{LetterCount}
 use Rattle.protein_measure.specs.declared.Size.{Size}
 use Rattle.protein_measure.specs.declared.Size.the-variants as size
 
@@ -18,7 +18,7 @@ Tally room m n true = room < m
 Tally room m n false = (n ≡ m) × (m ≤ room)
 
 -- k letters more
-pub record Counted (room : ℕ) (a : Count) (k : ℕ) (b : Count) : Type 0 where
+pub record Counted (room : ℕ) (a : LetterCount) (k : ℕ) (b : LetterCount) : Type 0 where
   pub within : b .n ≤ room
   pub more : (m : ℕ) → Tally room m (a .n) (a .over) → Tally room (m + k) (b .n) (b .over)
 

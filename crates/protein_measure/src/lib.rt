@@ -28,26 +28,26 @@ pub enum Size {
 }
 
 // Letters that were counted: n of them, or more than the room holds. So no count overflows, however often a location's members repeat.
-pub struct Count {
+pub struct LetterCount {
     pub n: usize,
     pub over: bool,
 }
 
 // k letters more, or too many.
-fn counted(a: Count, k: usize, room: usize) -> Count
+fn counted(a: LetterCount, k: usize, room: usize) -> LetterCount
     requires { ⌜ a .n ≤ room ⌝ }
     ensures { λ y. ⌜ Counted room a k y ⌝ }
 {
     if room - a.n < k {
-        return Count { n: a.n, over: true };
+        return LetterCount { n: a.n, over: true };
     }
-    Count {
+    LetterCount {
         n: a.n + k,
         over: a.over,
     }
 }
 
-fn sized(a: Count) -> Size
+fn sized(a: LetterCount) -> Size
     ensures { λ y. ⌜ y ≡ sizeOf (a .n) (a .over) ⌝ }
 {
     if a.over {
@@ -138,7 +138,7 @@ pub fn measure(r: &[u8], loc: &[u8], top: u32, frame: usize, room: usize, code: 
         return Size::Stop;
     }
     let mut x = begin(r, loc, top, frame, code);
-    let mut count = Count { n: 0, over: false };
+    let mut count = LetterCount { n: 0, over: false };
     loop {
         let low = x.low;
         let high = x.high;

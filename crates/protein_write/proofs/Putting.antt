@@ -14,7 +14,7 @@ use Rattle.paper.specs.Locations.{spans}
 use Rattle.paper.specs.Translation.{Code, codingText, letters, dropStop}
 use Rattle.paper.specs.Answers.{front}
 use Rattle.protein_codons.specs.declared.Reading.{Reading}
-use Rattle.protein_codons.specs.Reading.{Ready, spanLetters, TextLeft, Onward, Gives, LetterIs, Begins}
+use Rattle.protein_codons.specs.Reading.{Ready, spanLetters, TextLeft, Onward, Gives, LetterIs, BeginsText}
 use Rattle.protein_codons.proofs.Readings.{span-within, run-gives}
 use Rattle.protein_measure.specs.declared.Size.{Size}
 use Rattle.protein_measure.specs.declared.Size.the-variants as size
@@ -145,7 +145,7 @@ module _ {gc : Code} {s loc : List ℕ} {L : ℕ} {from : Reading} {count : ℕ}
 -- ---- the answer
 
 module _ {gc : Code} {s loc : List ℕ} {L start : ℕ} {out : List ℕ} where
-  pub writes-is : {from : Reading} {n : ℕ} {after : List ℕ} → Begins s loc L start from → Measures gc s loc L start (length out) (size.Is n)
+  pub writes-is : {from : Reading} {n : ℕ} {after : List ℕ} → BeginsText s loc L start from → Measures gc s loc L start (length out) (size.Is n)
       → PutsLetters gc s loc L from n out after → WritesTranslation gc s loc L start out (size.Is n) after
   writes-is {from} {n} b m p =
       record {

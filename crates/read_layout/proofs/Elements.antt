@@ -9,7 +9,7 @@ use Rattle.paper.specs.Tree.{Text, Qualifier, Feature, Table}
 use Rattle.paper.specs.Layout.{tag, leaf, child, child?, holding, holding?, qualifier, quals, feature, table, otherIds}
 use Rattle.paper.proofs.Forms.{Evers}
 use Rattle.read_steps.specs.Reads.{Reads, Passes, Tried}
-use Rattle.read_steps.specs.Follow.{Not, Starts, Before, anything, closing}
+use Rattle.read_steps.specs.Follow.{Not, Starts, StandsBefore, anything, closing}
 use Rattle.read_steps.specs.declared.Step.{Step}
 use Rattle.read_steps.proofs.Steps.{as-reads}
 use Rattle.read_tags.proofs.Tags.{Element, Children, leaf-element, holding?-element, ev-holding?, Void, optional-reads, some-reads, ev-holding}
@@ -42,7 +42,7 @@ child-as {L = L} {M = M} to of there back same e =
 abbrev QualifierParts : Text ℕ × Option (Text ℕ) → Form
 QualifierParts p = child (leaf (bytes "INSDQualifier_name")) (p .0) · child? (leaf (bytes "INSDQualifier_value")) (p .1)
 
-value-last : Before (bytes "INSDQualifier_value") closing
+value-last : StandsBefore (bytes "INSDQualifier_value") closing
 value-last = record { clash = refl; sharps = refl }
 
 qualifier-run : Run QualifierParts (bytes "<INSDQualifier_name" ∷ []) closing
@@ -65,7 +65,7 @@ module _ {s : List ℕ} where
 
 -- ---- INSDFeature_quals
 
-pub qualifiers-last : Before (bytes "INSDQualifier") closing
+pub qualifiers-last : StandsBefore (bytes "INSDQualifier") closing
 qualifiers-last = record { clash = refl; sharps = refl }
 
 pub qualifiers-facts : Children (each (child qualifier))
@@ -86,7 +86,7 @@ abbrev FeatureParts : (Text ℕ × Text ℕ) × Option (List (Qualifier ℕ)) �
 FeatureParts p =
     child (leaf (bytes "INSDFeature_key")) (p .0 .0) · child (leaf (bytes "INSDFeature_location")) (p .0 .1) · child? quals (p .1)
 
-quals-last : Before (bytes "INSDFeature_quals") closing
+quals-last : StandsBefore (bytes "INSDFeature_quals") closing
 quals-last = record { clash = refl; sharps = refl }
 
 key-run : Run (child (leaf (bytes "INSDFeature_key"))) (bytes "<INSDFeature_key" ∷ []) (bytes "<INSDFeature_location" ∷ [])
@@ -122,7 +122,7 @@ module _ {s : List ℕ} where
 
 -- ---- INSDSeq_feature-table
 
-pub features-last : Before (bytes "INSDFeature") closing
+pub features-last : StandsBefore (bytes "INSDFeature") closing
 features-last = record { clash = refl; sharps = refl }
 
 table-run : Run (each⁺ (child feature)) (bytes "<INSDFeature" ∷ []) closing
@@ -151,7 +151,7 @@ module _ {s : List ℕ} where
 
 -- ---- INSDSeq_other-seqids
 
-id-last : Before (bytes "INSDSeqid") closing
+id-last : StandsBefore (bytes "INSDSeqid") closing
 id-last = record { clash = refl; sharps = refl }
 
 pub ids-facts : Children (child? (leaf (bytes "INSDSeqid")))
@@ -186,10 +186,10 @@ divided = bytes "<INSDSeq_division" ∷ []
 abbrev typed : List (List ℕ)
 typed = bytes "<INSDSeq_moltype" ∷ []
 
-table-next : Before (bytes "INSDSeq_feature-table") residued
+table-next : StandsBefore (bytes "INSDSeq_feature-table") residued
 table-next = record { clash = refl; sharps = refl }
 
-ids-next : Before (bytes "INSDSeq_other-seqids") tabled
+ids-next : StandsBefore (bytes "INSDSeq_other-seqids") tabled
 ids-next = record { clash = refl; sharps = refl }
 
 length-run : Run (child (leaf (bytes "INSDSeq_length"))) (bytes "<INSDSeq_length" ∷ []) typed

@@ -10,7 +10,7 @@ use Rattle.paper.specs.Tree.{Text, Spoken, Party, Identification, Heading, refe
 use Rattle.paper.specs.Layout.{tag, attribute, leaf, spoken, child, child?, holding, identification, heading, party, sequence, attributes, root}
 use Rattle.paper.proofs.Forms.{ev-these, Evers, evs-both, evs-after}
 use Rattle.read_steps.specs.Reads.{Reads, Passes, Tried, stayed}
-use Rattle.read_steps.specs.Follow.{Not, Starts, Before, anything, closing}
+use Rattle.read_steps.specs.Follow.{Not, Starts, StandsBefore, anything, closing}
 use Rattle.read_steps.specs.declared.Step.{Step}
 use Rattle.read_steps.specs.declared.Step.the-variants.{Ok, Fail}
 use Rattle.read_steps.proofs.Steps.{as-reads, before, seq, pass-then, either-first, either-second, tried, failed-at, failed-again, step-is, step-to}
@@ -69,10 +69,10 @@ module _ {s : List ℕ} where
 
 -- ---- identifications
 
-office-next : Before (bytes "IPOfficeCode") (bytes "<ApplicationNumberText" ∷ [])
+office-next : StandsBefore (bytes "IPOfficeCode") (bytes "<ApplicationNumberText" ∷ [])
 office-next = record { clash = refl; sharps = refl }
 
-filed-last : Before (bytes "FilingDate") closing
+filed-last : StandsBefore (bytes "FilingDate") closing
 filed-last = record { clash = refl; sharps = refl }
 
 office-run : Run (child? (leaf (bytes "IPOfficeCode"))) (bytes "<IPOfficeCode" ∷ bytes "<ApplicationNumberText" ∷ []) (bytes "<ApplicationNumberText" ∷ [])
@@ -112,7 +112,7 @@ module _ (name latin : List ℕ) where
   party-leads : (x : Party ℕ) → Leads (bytes "<" ++ name) (party name latin x)
   party-leads x = leads-seq (bytes "<" ++ name) (child (spoken name) (x .name)) (child? (leaf latin) (x .latin)) (child-leads (spoken-element name) (x .name))
 
-  module _ (l : List (List ℕ)) (b : Before name l) (c : Before latin l) where
+  module _ (l : List (List ℕ)) (b : StandsBefore name l) (c : StandsBefore latin l) where
     abbrev latins : List (List ℕ)
     latins = (bytes "<" ++ latin) ∷ l
 
@@ -165,7 +165,7 @@ File = bytes "ApplicantFileReference"
 abbrev pub Application : List ℕ
 Application = bytes "ApplicationIdentification"
 
-file-next : Before File earlier
+file-next : StandsBefore File earlier
 file-next = record { clash = refl; sharps = refl }
 
 abbrev Applied : Heading ℕ → Form
@@ -257,22 +257,22 @@ heading-run =
     go h at w z (inl d) = starts-wider _ (bytes "<ApplicationIdentification" ∷ []) refl (w ++ z) (leads-starts (bytes "<ApplicationIdentification") (Applied h) (applied-leads h) at w z d)
     go h at w z (inr d) = starts-wider _ (bytes "<ApplicantFileReference" ∷ []) refl (w ++ z) (leads-starts (bytes "<ApplicantFileReference") (Referred h) (referred-leads h) at w z d)
 
-earliest-next : Before (bytes "EarliestPriorityApplicationIdentification") applying
+earliest-next : StandsBefore (bytes "EarliestPriorityApplicationIdentification") applying
 earliest-next = record { clash = refl; sharps = refl }
 
 earliest-run : Run (child? (identification (bytes "EarliestPriorityApplicationIdentification"))) earlier applying
 earliest-run = run-maybe (identification-element (bytes "EarliestPriorityApplicationIdentification")) applying earliest-next
 
-applicant-next : Before (bytes "ApplicantName") inventing
+applicant-next : StandsBefore (bytes "ApplicantName") inventing
 applicant-next = record { clash = refl; sharps = refl }
 
-applicant-latin : Before (bytes "ApplicantNameLatin") inventing
+applicant-latin : StandsBefore (bytes "ApplicantNameLatin") inventing
 applicant-latin = record { clash = refl; sharps = refl }
 
-inventor-next : Before (bytes "InventorName") titled
+inventor-next : StandsBefore (bytes "InventorName") titled
 inventor-next = record { clash = refl; sharps = refl }
 
-inventor-latin : Before (bytes "InventorNameLatin") titled
+inventor-latin : StandsBefore (bytes "InventorNameLatin") titled
 inventor-latin = record { clash = refl; sharps = refl }
 
 applicant-run : Run (maybe (party (bytes "ApplicantName") (bytes "ApplicantNameLatin"))) applying inventing

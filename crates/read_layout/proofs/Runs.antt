@@ -9,7 +9,7 @@ use Rattle.paper.specs.Form.{Form, _·_, maybe, each, each⁺}
 use Rattle.paper.specs.Layout.{blanks, tag, child, child?, holding}
 use Rattle.paper.proofs.Forms.{Evers, evs-both, evs-maybe, evs-each}
 use Rattle.read_steps.specs.Reads.{Reads, Passes, Tried, Followed, chosen}
-use Rattle.read_steps.specs.Follow.{Not, Starts, Before, anything, closing, clashes, sharp}
+use Rattle.read_steps.specs.Follow.{Not, Starts, StandsBefore, anything, closing, clashes, sharp}
 use Rattle.read_steps.specs.declared.Step.{Step}
 use Rattle.read_steps.specs.declared.Step.the-variants.{Ok, Fail}
 use Rattle.read_steps.proofs.Steps.{before, seq, skip-tried, failed}
@@ -35,15 +35,15 @@ module _ {A : Type 0} {E : A → Form} {name : List ℕ} (e : Element E name) (g
       }
 
   -- one child or none
-  pub run-maybe : Before name g → Run (child? E) ((bytes "<" ++ name) ∷ g) g
+  pub run-maybe : StandsBefore name g → Run (child? E) ((bytes "<" ++ name) ∷ g) g
   run-maybe b = record { starts = optional-starts e g b; ever = evs-maybe (child E); sole = sole-optional e g b }
 
   -- any number of children
-  pub run-each : Before name g → Run (each (child E)) ((bytes "<" ++ name) ∷ g) g
+  pub run-each : StandsBefore name g → Run (each (child E)) ((bytes "<" ++ name) ∷ g) g
   run-each b = record { starts = items-starts e g b; ever = evs-each (child E); sole = sole-items e g b }
 
   -- one or more
-  pub run-some : Before name g → Run (each⁺ (child E)) ((bytes "<" ++ name) ∷ []) g
+  pub run-some : StandsBefore name g → Run (each⁺ (child E)) ((bytes "<" ++ name) ∷ []) g
   run-some b = record { starts = λ x at w z d n. some-starts e g b x at w z d; ever = ev-some e g b; sole = sole-some-items e g b }
 
 -- one run after another

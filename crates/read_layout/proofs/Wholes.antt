@@ -15,7 +15,7 @@ use Rattle.paper.specs.Layout.{blanks, gap, tag, close, attribute, attribute?, 
 use Rattle.paper.specs.Answers.{Strays, Begins}
 use Rattle.paper.proofs.Forms.{Ever, ev-seq, ev-these, ev-run, ev-gap, Evers, evs-both, evs-after, evs-maybe}
 use Rattle.read_steps.specs.Reads.{Lost, Reads, Passes, Tried}
-use Rattle.read_steps.specs.Follow.{Not, Starts, Before, anything, nothing, closing, clashes, sharp, skip}
+use Rattle.read_steps.specs.Follow.{Not, Starts, StandsBefore, anything, nothing, closing, clashes, sharp, skip}
 use Rattle.read_steps.specs.declared.Step.{Step}
 use Rattle.read_steps.specs.declared.Step.the-variants.{Ok, Fail}
 use Rattle.read_steps.proofs.Laws.{agree-le}
@@ -79,10 +79,10 @@ ev-attributed at =
 
 -- ---- what the root holds
 
-pub titles-next : Before (bytes "InventionTitle") totalled
+pub titles-next : StandsBefore (bytes "InventionTitle") totalled
 titles-next = record { clash = refl; sharps = refl }
 
-pub sequences-last : Before (bytes "SequenceData") closing
+pub sequences-last : StandsBefore (bytes "SequenceData") closing
 sequences-last = record { clash = refl; sharps = refl }
 
 titles-run : Run (each⁺ (child (spoken (bytes "InventionTitle")))) titled totalled

@@ -8,7 +8,7 @@ use Rattle.paper.specs.Form.{Form, lit, maybe, each}
 use Rattle.paper.specs.Tree.{Text, Spoken, Party, Qualifier, Identification, Heading, reference, Table, Sequence, Listing}
 use Rattle.paper.specs.Layout.{blanks, close, leaf, child, child?, holding?, qualifier, party, inner, attributes, parties}
 use Rattle.read_steps.specs.Reads.{Reads, Passes}
-use Rattle.read_steps.specs.Follow.{Not, Starts, Before, anything, skip}
+use Rattle.read_steps.specs.Follow.{Not, Starts, StandsBefore, anything, skip}
 use Rattle.read_steps.specs.declared.Step.{Step}
 
 -- blanks, the `>` of a start tag, and blanks
@@ -28,7 +28,7 @@ pub record Leaves (name s : List ℕ) (x r : Step) : Type 0 where
 -- a name and its Latin form, or none, before whatever clashes with both
 abbrev pub MaybeParty : List ℕ → List ℕ → List ℕ → Step → Step → Type 0
 MaybeParty name latin s x r =
-    (l : List (List ℕ)) → Before name l → Before latin l → Reads (maybe (party name latin)) (Starts l) s x r
+    (l : List (List ℕ)) → StandsBefore name l → StandsBefore latin l → Reads (maybe (party name latin)) (Starts l) s x r
 
 -- what INSDSeq holds
 pub record Held : Type 0 where

@@ -11,7 +11,7 @@ use borrow.Author.Tests.{eq-eqb, eqb-true}
 use Rattle.paper.specs.Bytes.{all, isBlank}
 use Rattle.paper.specs.Form.{Form, these, _·_, maybe, each}
 use Rattle.paper.specs.Layout.{gap}
-use Rattle.read_steps.specs.Follow.{Not, Named, Starts, first, later, skip, clash, clashes, sharp}
+use Rattle.read_steps.specs.Follow.{Not, NoBlankFirst, Starts, first, later, skip, clash, clashes, sharp}
 
 pub false-true : false ≡ true → ⊥
 false-true e = let z : _≡_ {A = ℕ} 0 1 = cc in omega arith
@@ -64,7 +64,7 @@ starts-sharp f ((b ∷ k) ∷ l) p z (first v n) =
     subst (Not f) (sym n) (not-is (f b) (and-eq-true-iff (not (f b)) (sharp f l) .0 p .0))
 starts-sharp f ((b ∷ k) ∷ l) p z (later n) = starts-sharp f l (and-eq-true-iff (not (f b)) (sharp f l) .0 p .1) z n
 
-pub named-sharp : (x : List ℕ) → Named x → sharp isBlank (x ∷ []) ≡ true
+pub named-sharp : (x : List ℕ) → NoBlankFirst x → sharp isBlank (x ∷ []) ≡ true
 named-sharp [] n = absurd n
 named-sharp (b ∷ x) n = rw n
 

@@ -28,9 +28,9 @@ skip [] = []
 skip (b ∷ z) = cond (isBlank b) (skip z) (b ∷ z)
 
 -- a word that starts with no blank
-abbrev pub Named : List ℕ → Type 0
-Named [] = ⊥
-Named (b ∷ x) = isBlank b ≡ false
+abbrev pub NoBlankFirst : List ℕ → Type 0
+NoBlankFirst [] = ⊥
+NoBlankFirst (b ∷ x) = isBlank b ≡ false
 
 -- ---- computed tests on words
 
@@ -56,6 +56,6 @@ abbrev pub closing : List (List ℕ)
 closing = bytes "</" ∷ []
 
 -- what elements of one name may stand before: words that all clash with their tag, and start with no blank
-pub record Before (name : List ℕ) (l : List (List ℕ)) : Type 0 where
+pub record StandsBefore (name : List ℕ) (l : List (List ℕ)) : Type 0 where
   pub clash : clashes (bytes "<" ++ name) l ≡ true
   pub sharps : sharp isBlank l ≡ true

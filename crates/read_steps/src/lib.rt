@@ -12,7 +12,7 @@ ghost use Rattle.paper.specs.Form.{these, one};
 ghost use Rattle.paper.specs.Layout;
 ghost use Rattle.read_bytes.specs.Words.{StandsAt};
 ghost use Rattle.read_steps.specs.declared.Step.the-variants.{Ok};
-ghost use Rattle.read_steps.specs.Parts.{Shows};
+ghost use Rattle.read_steps.specs.Parts.{ShowsBytes};
 ghost use Rattle.read_steps.specs.Reads.{Reads, Passes, AtEnd, raised, chosen, stayed};
 ghost use Rattle.read_steps.specs.Follow.{Not, anything, nothing};
 ghost use Rattle.read_steps.specs.Words.{Eight};
@@ -445,7 +445,7 @@ pub fn class_table() -> [u8; 256]
 
 // The bytes of a part.
 pub fn bytes_of<'s>(s: &'s [u8], from: usize, to: usize) -> &'s [u8]
-    ensures { λ r. ⌜ Shows (now (s .entry)) from to (now r) ⌝ }
+    ensures { λ r. ⌜ ShowsBytes (now (s .entry)) from to (now r) ⌝ }
 {
     if s.len() < to {
         return &s[0..0];

@@ -12,7 +12,7 @@ use Rattle.paper.specs.Tree.{Text}
 use Rattle.paper.specs.Layout.{blanks, gap, text, tag, close, attribute, content, leaf, spoken, child, holding, holding?}
 use Rattle.paper.proofs.Forms.{ev-seq, ev-these, ev-run, ev-gap, ev-close, Evers, evs-then, evs-after, evs-both}
 use Rattle.read_steps.specs.Reads.{Viable, Reads, Passes, Tried}
-use Rattle.read_steps.specs.Follow.{Not, Starts, first, anything, skip, clashes, sharp, closing, Before}
+use Rattle.read_steps.specs.Follow.{Not, Starts, first, anything, skip, clashes, sharp, closing, StandsBefore}
 use Rattle.read_steps.specs.Texts.{allowedIn, isText}
 use Rattle.read_steps.specs.declared.Step.{Step}
 use Rattle.read_steps.specs.declared.Step.the-variants.{Ok, Fail}
@@ -360,7 +360,7 @@ module _ {A : Type 0} {E : A → Form} {name : List ℕ} (e : Element E name) wh
   pub child-sole : Sole (child E) (Not isBlank)
   child-sole = sole-then E blanks anything (Not isBlank) (λ at w z l g. tt) (e .sole) (sure-run isBlank)
 
-module _ {A : Type 0} {E : A → Form} {name : List ℕ} (e : Element E name) (l : List (List ℕ)) (b : Before name l) where
+module _ {A : Type 0} {E : A → Form} {name : List ℕ} (e : Element E name) (l : List (List ℕ)) (b : StandsBefore name l) where
   abbrev Item : A → Form
   Item = child E
 

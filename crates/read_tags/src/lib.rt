@@ -16,7 +16,7 @@ ghost use mathlib.Core.Bool.{true, false};
 ghost use Rattle.paper.specs.Bytes.{isBlank};
 ghost use Rattle.paper.specs.Layout;
 ghost use Rattle.read_steps.specs.Reads.{Reads, Passes, Tried, Followed};
-ghost use Rattle.read_steps.specs.Follow.{Not, Named, anything};
+ghost use Rattle.read_steps.specs.Follow.{Not, NoBlankFirst, anything};
 ghost use Rattle.read_steps.specs.Texts.{allowedIn, ClassTable};
 ghost use Rattle.read_tags.specs.Standing.{Usual};
 
@@ -61,7 +61,7 @@ pub fn close(s: &[u8], st: Step, name: &[u8]) -> Step
 // One blank or more, the name, `="`, a text, `"`.
 pub fn attribute(s: &[u8], st: Step, name: &[u8], t: &[u8; 256]) -> Step
     requires { ⌜ ClassTable (now t) ⌝ }
-    requires { ⌜ Named (now name) ⌝ }
+    requires { ⌜ NoBlankFirst (now name) ⌝ }
     ensures { λ r. ⌜ Reads (Layout.attribute (now (name .entry))) anything (now (s .entry)) st r ⌝ }
 {
     let a = lit(s, word(s, gap(s, st), name), b"=\"");
@@ -74,7 +74,7 @@ pub fn attribute(s: &[u8], st: Step, name: &[u8], t: &[u8; 256]) -> Step
 // The same where it may be missing: the step stays where it is, with how far the attribute went.
 pub fn attribute_maybe(s: &[u8], st: Step, name: &[u8], t: &[u8; 256]) -> Step
     requires { ⌜ ClassTable (now t) ⌝ }
-    requires { ⌜ Named (now name) ⌝ }
+    requires { ⌜ NoBlankFirst (now name) ⌝ }
     ensures { λ r. ⌜ Tried (Layout.attribute (now (name .entry))) anything (now (s .entry)) st r ⌝ }
 {
     let Step::Ok { next, far: _ } = st else {

@@ -8,7 +8,7 @@ use Rattle.read_layout.specs.Says.{Lays, Refuses}
 use Rattle.location_judge.specs.Judging.{Judges}
 use Rattle.location_spans.specs.Room.{Answers}
 use Rattle.location_judge.specs.declared.judging.Facts.{Facts}
-use Rattle.location_judge.specs.declared.judging.Verdict.the-variants.{Bad, Is}
+use Rattle.location_judge.specs.declared.judging.Judgement.the-variants.{Bad, Is}
 use Rattle.location_spans.specs.declared.room.Answer.{Answer}
 use Rattle.location_spans.specs.declared.room.Answer.the-variants as answer
 use Rattle.paper.specs.Translation.{code1}

@@ -1,6 +1,6 @@
 // Calls of the inner crates as C functions, so that they can be compared and measured outside the prover (tests/compare, bench).
 // Relies on those crates; nothing of the product relies on it.
-use location_judge::judging::Verdict;
+use location_judge::judging::Judgement;
 use location_spans::room::Answer;
 use protein_measure::Size;
 use read_layout::Shape;
@@ -48,7 +48,7 @@ pub extern "C" fn trial_location(
     ensures { λ r. ⌜ LocationNumbers (now (part .entry)) top r (now (operator .exit)) (now (count .exit)) (now (wrong .exit)) (now (complemented .exit)) (now (unjudged .exit)) ⌝ }
 {
     match location_judge::judging::judge_location(part, 0, part.len(), top) {
-        Verdict::Bad => {
+        Judgement::Bad => {
             *operator = 0;
             *count = 0;
             *wrong = 0;
@@ -56,7 +56,7 @@ pub extern "C" fn trial_location(
             *unjudged = 0;
             24
         }
-        Verdict::Is(f) => {
+        Judgement::Is(f) => {
             *operator = f.operator;
             *count = f.count;
             *wrong = flag(f.wrong, 1);

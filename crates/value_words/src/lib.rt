@@ -6,7 +6,7 @@ ghost use Rattle.paper.specs.Rules.{Whole};
 ghost use Rattle.value_words.specs.Reading.{Tells, OfRead, Moltypes};
 
 // What a moltype names.
-pub enum Kind {
+pub enum Molecule {
     Dna,
     Rna,
     Aa,
@@ -88,17 +88,17 @@ pub fn is_whole(w: &[u8], n: usize) -> bool
 }
 
 // Which kind a moltype names.
-pub fn kind_of(w: &[u8]) -> Kind
+pub fn kind_of(w: &[u8]) -> Molecule
     ensures { λ r. ⌜ Moltypes (now (w .entry)) r ⌝ }
 {
     if same(w, b"DNA") {
-        return Kind::Dna;
+        return Molecule::Dna;
     }
     if same(w, b"RNA") {
-        return Kind::Rna;
+        return Molecule::Rna;
     }
     if same(w, b"AA") {
-        return Kind::Aa;
+        return Molecule::Aa;
     }
-    Kind::Other
+    Molecule::Other
 }

@@ -23,7 +23,7 @@ use Rattle.walk_steps.specs.declared.FoundMaybe.{FoundMaybe}
 use Rattle.walk_steps.proofs.Places.{part, join, wider, some-each, from}
 use Rattle.walk_steps.proofs.Leaves.{starts-at, no-blank}
 use Rattle.walk_steps.proofs.Elements.{Sharp, Inside, inside, upto-ends, tag-starts, leaf-leads}
-use Rattle.walk_header.specs.Header.{FindsParty, FindsIdentificationMaybe, identifiedBy, titled, inventing, applying, earlier, FindsHeading, FindsParties, tagEnd, FindsAttributes, line, Behind, FindsHeader}
+use Rattle.walk_header.specs.Header.{FindsParty, FindsIdentificationMaybe, identifiedBy, titled, inventing, applying, earlier, FindsHeading, FindsParties, tagEnd, FindsAttributes, anyLine, Behind, FindsHeader}
 use Rattle.walk_header.specs.declared.FoundIdentification.{FoundIdentification}
 use Rattle.walk_header.specs.declared.FoundAttributes.{FoundAttributes}
 use Rattle.walk_header.specs.declared.FoundParties.{FoundParties}
@@ -105,7 +105,7 @@ parties-found fh fe fa fi l e d fol =
 
 -- ---- the first line and the document type line: no `>` but the last byte
 
-pub line-ends : {s : List ℕ} {at a b r : ℕ} → Scanned (others 62) s at (length s) a → Past s a 1 b → Scanned isBlank s b (length s) r → Ends line (Not isBlank) s at r
+pub line-ends : {s : List ℕ} {at a b r : ℕ} → Scanned (others 62) s at (length s) a → Past s a 1 b → Scanned isBlank s b (length s) r → Ends anyLine (Not isBlank) s at r
 line-ends c p k = upto-ends (others 62) refl c p k
 
 abbrev free : List ℕ → Bool
@@ -189,7 +189,7 @@ doctype-lined =
 doctype-leads : Leads (bytes "<") doctype
 doctype-leads = leads-seq (bytes "<") (Public · gap) (lit "\"ST26SequenceListing_V1_2.dtd\">") (leads-seq (bytes "<") Public gap (public-words .leads))
 
-lined : (F : Form) → Lined F → {s : List ℕ} {at e : ℕ} → Stands (F · blanks) s at e → Stands line s at e
+lined : (F : Form) → Lined F → {s : List ℕ} {at e : ℕ} → Stands (F · blanks) s at e → Stands anyLine s at e
 lined F h d = let u = part F blanks d in join (wider h (u .1)) (u .2)
 
 -- ---- the root
@@ -241,7 +241,7 @@ module _ (l : Listing ℕ) where
   root-leads = leads-seq (tagOf Root) (tag Root · attributes l) (holding Root Children) (leads-seq (tagOf Root) (tag Root) (attributes l) (leads-all (tagOf Root)))
 
 -- a listing stands from the first byte to the last, and its root behind the two lines
-root-at : (l : Listing ℕ) {s : List ℕ} {a b : ℕ} → LaidOut l s → Ends line (Not isBlank) s 0 a → Ends line (Not isBlank) s a b
+root-at : (l : Listing ℕ) {s : List ℕ} {a b : ℕ} → LaidOut l s → Ends anyLine (Not isBlank) s 0 a → Ends anyLine (Not isBlank) s a b
     → (m : ℕ) × Stands (root l) s b m × Stands blanks s m (length s)
 root-at l {s} laid p q =
     let d : Stands (document l) s 0 (length s) =
@@ -283,7 +283,7 @@ split-children l o =
           };
     }
 
-pub header-found : {s : List ℕ} {a b c e : ℕ} {x : FoundAttributes} {y : FoundParties} → Ends line (Not isBlank) s 0 a → Ends line (Not isBlank) s a b
+pub header-found : {s : List ℕ} {a b c e : ℕ} {x : FoundAttributes} {y : FoundParties} → Ends anyLine (Not isBlank) s 0 a → Ends anyLine (Not isBlank) s a b
     → Ends (tag Root) anything s b c → FindsAttributes s c x → Ends entering (Not isBlank) s (x .next) e → FindsParties s e y
     → FindsHeader s
     (record {

@@ -8,7 +8,7 @@ use Rattle.paper.specs.Bytes.{bytes, isBlank}
 use Rattle.paper.specs.Form.{Form, lit, run, _·_, maybe, each}
 use Rattle.paper.specs.Tree.{Text, Spoken, Party, Identification, Heading, reference, application, Listing}
 use Rattle.paper.specs.Layout.{blanks, leaf, spoken, child, child?, identification, heading, party, sequence, attributes, parties, LaidOut}
-use Rattle.read_steps.specs.Follow.{Not, Starts, Before, closing, skip}
+use Rattle.read_steps.specs.Follow.{Not, Starts, StandsBefore, closing, skip}
 use Rattle.walk_steps.specs.Stands.{Stands, others, IsPart, IsFound, MaybeIs, IsMaybe}
 use Rattle.walk_steps.specs.declared.Found.{Found}
 use Rattle.walk_steps.specs.declared.FoundMaybe.{FoundMaybe}
@@ -56,7 +56,7 @@ FindsSpoken name s at r = (x : Spoken ℕ) (e : ℕ) → Stands (child (spoken n
 -- a name and its Latin form, before what clashes with both
 abbrev pub FindsParty : List ℕ → List ℕ → List ℕ → ℕ → FoundMaybe → Type 0
 FindsParty name latin s at r =
-    (l : List (List ℕ)) → Before name l → Before latin l → (o : Option (Party ℕ)) (e : ℕ) → Stands (maybe (party name latin) o) s at e → Starts l (drop e s) → IsMaybe s (languageIn o) e r
+    (l : List (List ℕ)) → StandsBefore name l → StandsBefore latin l → (o : Option (Party ℕ)) (e : ℕ) → Stands (maybe (party name latin) o) s at e → Starts l (drop e s) → IsMaybe s (languageIn o) e r
 
 -- ---- identifications
 
@@ -71,7 +71,7 @@ FindsIdentification name s at r =
 
 abbrev pub FindsIdentificationMaybe : List ℕ → List ℕ → ℕ → FoundIdentification → Type 0
 FindsIdentificationMaybe name s at r =
-    (l : List (List ℕ)) → Before name l → (o : Option (Identification ℕ)) (e : ℕ) → Stands (child? (identification name) o) s at e → Starts l (drop e s) → IsIdentification s o e r
+    (l : List (List ℕ)) → StandsBefore name l → (o : Option (Identification ℕ)) (e : ℕ) → Stands (child? (identification name) o) s at e → Starts l (drop e s) → IsIdentification s o e r
 
 -- ---- what stands before the titles
 
@@ -106,8 +106,8 @@ FindsParties s at r = (l : Listing ℕ) (e : ℕ) → Stands (parties l) s at e 
 -- ---- the header
 
 -- up to the first `>`, and the blanks after it
-abbrev pub line : Form
-line = run (others 62) · lit ">" · blanks
+abbrev pub anyLine : Form
+anyLine = run (others 62) · lit ">" · blanks
 
 -- what stands behind the header: the titles, the total, the sequences
 pub record Behind (s : List ℕ) (l : Listing ℕ) (at : ℕ) : Type 0 where

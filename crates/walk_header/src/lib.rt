@@ -4,13 +4,13 @@
 use walk_steps::Found;
 use walk_steps::FoundMaybe;
 use walk_steps::Maybe;
-use walk_steps::Part;
+use walk_steps::Range;
 ghost use Rattle.paper.specs.Bytes.{bytes, isBlank};
 ghost use Rattle.paper.specs.Layout as Form;
 ghost use Rattle.read_bytes.specs.Words.{There};
 ghost use Rattle.read_steps.specs.Follow.{Not};
 ghost use Rattle.walk_steps.specs.Stands.{Ends, Finds};
-ghost use Rattle.walk_header.specs.Header.{FindsSpoken, FindsIdentification, FindsIdentificationMaybe, FindsHeading, FindsParty, FindsAttributes, FindsParties, line, FindsHeader};
+ghost use Rattle.walk_header.specs.Header.{FindsSpoken, FindsIdentification, FindsIdentificationMaybe, FindsHeading, FindsParty, FindsAttributes, FindsParties, anyLine, FindsHeader};
 
 // The languageCode of a text that has one, and what follows the text.
 fn spoken(s: &[u8], at: usize, name: &[u8]) -> Found
@@ -118,7 +118,7 @@ fn heading(s: &[u8], at: usize) -> FoundIdentification
 
 // What is asked of the root's attributes.
 pub struct FoundAttributes {
-    pub version: Part,
+    pub version: Range,
     pub produced: Maybe,
     pub next: usize,
 }
@@ -189,7 +189,7 @@ fn parties(s: &[u8], at: usize) -> FoundParties
 
 // Past the first `>` and the blanks after it: the first line, or the document type line.
 fn line_over(s: &[u8], at: usize) -> usize
-    ensures { λ r. ⌜ Ends line (Not isBlank) (now (s .entry)) at r ⌝ }
+    ensures { λ r. ⌜ Ends anyLine (Not isBlank) (now (s .entry)) at r ⌝ }
 {
     let a = walk_steps::until(s, at, b'>');
     let b = walk_steps::past(s, a, 1);
@@ -198,7 +198,7 @@ fn line_over(s: &[u8], at: usize) -> usize
 
 // What is asked of a listing's header, and where its titles start.
 pub struct FoundHeader {
-    pub version: Part,
+    pub version: Range,
     pub produced: Maybe,
     pub office: Maybe,
     pub filed: Maybe,

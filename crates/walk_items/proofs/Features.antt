@@ -17,7 +17,7 @@ use Rattle.walk_steps.specs.declared.Opened.{Opened}
 use Rattle.walk_steps.proofs.Places.{part, join, from}
 use Rattle.walk_steps.proofs.Leaves.{no-blank}
 use Rattle.walk_steps.proofs.Elements.{Sharp, held, within, tag-starts, tag-leads, leaf-leads}
-use Rattle.walk_items.specs.Items.{FindsQualifier, FindsFeature}
+use Rattle.walk_items.specs.Items.{MeetsQualifier, MeetsFeature}
 
 -- ---- a qualifier
 
@@ -30,7 +30,7 @@ leaf-sharp name x F at w z =
 pub qualifier-found : {s : List ℕ} {at a b n : ℕ} {x : Found} {v : FoundMaybe} → Ends (tag (bytes "INSDQualifier")) anything s at a
     → Ends entering (Not isBlank) s a b → Finds (child (leaf (bytes "INSDQualifier_name"))) (Not isBlank) s b x
     → FindsMaybe (bytes "INSDQualifier_value") s (x .next) v → Ends (leaving (bytes "INSDQualifier")) (Not isBlank) s (v .next) n
-    → FindsQualifier s at (record { name = x .part; value = v .part; next = n })
+    → MeetsQualifier s at (record { name = x .part; value = v .part; next = n })
 qualifier-found {s} p i name value l q e d fol =
     let N = child (leaf (bytes "INSDQualifier_name")) (q .name) in
     let W = maybe (child (leaf (bytes "INSDQualifier_value"))) (q .value) in
@@ -60,7 +60,7 @@ quals-leads l = tag-leads (bytes "INSDFeature_quals") (holding? (bytes "INSDFeat
 pub feature-found : {s : List ℕ} {at a b : ℕ} {x y : Found} {r : Opened} → Ends (tag (bytes "INSDFeature")) anything s at a
     → Ends entering (Not isBlank) s a b → Finds (child (leaf (bytes "INSDFeature_key"))) (Not isBlank) s b x
     → Finds (child (leaf (bytes "INSDFeature_location"))) (Not isBlank) s (x .next) y → OpensSo (bytes "INSDFeature_quals") s (y .next) r
-    → FindsFeature s at (record { key = x .part; location = y .part; quals = r .first; long = r .long })
+    → MeetsFeature s at (record { key = x .part; location = y .part; quals = r .first; long = r .long })
 feature-found {s} {y = y} {r = r} p i key location o f e d fol =
     let K = child (leaf (bytes "INSDFeature_key")) (f .key) in
     let L = child (leaf (bytes "INSDFeature_location")) (f .location) in

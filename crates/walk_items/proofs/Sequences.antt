@@ -19,7 +19,7 @@ use Rattle.walk_steps.specs.declared.Opened.{Opened}
 use Rattle.walk_steps.proofs.Places.{part, join, wider, some-each, from}
 use Rattle.walk_steps.proofs.Leaves.{starts-at, no-blank}
 use Rattle.walk_steps.proofs.Elements.{Sharp, inside, held, within, missing-none, there-some, tag-starts, tag-leads, leaf-leads}
-use Rattle.walk_items.specs.Items.{FindsQualifier, FindsFeature, featureTail, FindsIds, FindsTable, FindsSequence, residuesNext, tableNext, tableClosing}
+use Rattle.walk_items.specs.Items.{MeetsQualifier, MeetsFeature, featureTail, FindsIds, FindsTable, MeetsSequence, residuesNext, tableNext, tableClosing}
 use Rattle.walk_items.specs.declared.FoundQualifier.{FoundQualifier}
 use Rattle.walk_items.specs.declared.FoundFeature.{FoundFeature}
 use Rattle.walk_items.specs.declared.FoundIds.{FoundIds}
@@ -27,10 +27,10 @@ use Rattle.walk_items.specs.declared.FoundTable.{FoundTable}
 
 -- ---- passed over
 
-pub qualifier-over : {s : List ℕ} {at : ℕ} {r : FoundQualifier} → FindsQualifier s at r → Over (child qualifier) (Not isBlank) s at (r .next)
+pub qualifier-over : {s : List ℕ} {at : ℕ} {r : FoundQualifier} → MeetsQualifier s at r → Over (child qualifier) (Not isBlank) s at (r .next)
 qualifier-over f = record { is = λ q e d fol. f q e d fol .next }
 
-pub feature-over : {s : List ℕ} {at a n : ℕ} {r : FoundFeature} → FindsFeature s at r → Over (each (child qualifier)) (Starts closing) s (r .quals) a
+pub feature-over : {s : List ℕ} {at a n : ℕ} {r : FoundFeature} → MeetsFeature s at r → Over (each (child qualifier)) (Starts closing) s (r .quals) a
     → Ends (featureTail (r .long)) (Not isBlank) s a n → Over (child feature) (Not isBlank) s at n
 feature-over f q t =
     record { is = λ x e d fol. let y = f x e d fol in t .is e (from (q .is (qualifiersOf x) (y .stop) (y .quals) (y .closes)) (y .ends)) fol }
@@ -163,7 +163,7 @@ pub sequence-found : {s : List ℕ} {at a b c d g h : ℕ} {xn xd xm xb xr : Fou
     → Finds (child (leaf (bytes "INSDSeq_division"))) (Not isBlank) s (xm .next) xb → FindsIds s (xb .next) ids → FindsTable s (ids .next) tb
     → Finds (child (leaf (bytes "INSDSeq_sequence"))) (Not isBlank) s (tb .next) xr
     → Ends (leaving (bytes "INSDSeq")) (Not isBlank) s (xr .next) g → Ends (leaving (bytes "SequenceData")) (Not isBlank) s g h
-    → FindsSequence s at
+    → MeetsSequence s at
     (record { number = xn .part; declared = xd .part; moltype = xm .part; division = xb .part; ids = ids .present; table = tb; residues = xr .part; next = h })
 sequence-found {s} {xn = xn} p pn i p' i' fd fm fb fi ft fr l l' q e st fol =
     let A = attribute (bytes "sequenceIDNumber") (q .number) in

@@ -24,8 +24,8 @@ pub record IsQualifier (s : List ℕ) (q : Qualifier ℕ) (e : ℕ) (r : FoundQu
   pub value : MaybeIs s (q .value) (r .value)
   pub next : r .next ≡ e
 
-abbrev pub FindsQualifier : List ℕ → ℕ → FoundQualifier → Type 0
-FindsQualifier s at r = (q : Qualifier ℕ) (e : ℕ) → Stands (child qualifier q) s at e → Not isBlank (drop e s) → IsQualifier s q e r
+abbrev pub MeetsQualifier : List ℕ → ℕ → FoundQualifier → Type 0
+MeetsQualifier s at r = (q : Qualifier ℕ) (e : ℕ) → Stands (child qualifier q) s at e → Not isBlank (drop e s) → IsQualifier s q e r
 
 -- what follows the last qualifier of a feature
 abbrev pub featureTail : Bool → Form
@@ -39,8 +39,8 @@ pub record IsFeature (s : List ℕ) (f : Feature ℕ) (e : ℕ) (r : FoundFeatur
   pub closes : Starts closing (drop stop s)
   pub ends : Stands (featureTail (r .long)) s stop e
 
-abbrev pub FindsFeature : List ℕ → ℕ → FoundFeature → Type 0
-FindsFeature s at r = (f : Feature ℕ) (e : ℕ) → Stands (child feature f) s at e → Not isBlank (drop e s) → IsFeature s f e r
+abbrev pub MeetsFeature : List ℕ → ℕ → FoundFeature → Type 0
+MeetsFeature s at r = (f : Feature ℕ) (e : ℕ) → Stands (child feature f) s at e → Not isBlank (drop e s) → IsFeature s f e r
 
 -- ---- the end of a feature table
 
@@ -113,5 +113,5 @@ pub record IsSequence (s : List ℕ) (q : Sequence ℕ) (e : ℕ) (r : FoundSequ
   pub residues : IsPart s (q .residues) (r .residues)
   pub next : r .next ≡ e
 
-abbrev pub FindsSequence : List ℕ → ℕ → FoundSequence → Type 0
-FindsSequence s at r = (q : Sequence ℕ) (e : ℕ) → Stands (child sequence q) s at e → Not isBlank (drop e s) → IsSequence s q e r
+abbrev pub MeetsSequence : List ℕ → ℕ → FoundSequence → Type 0
+MeetsSequence s at r = (q : Sequence ℕ) (e : ℕ) → Stands (child sequence q) s at e → Not isBlank (drop e s) → IsSequence s q e r

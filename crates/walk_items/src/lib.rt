@@ -5,7 +5,7 @@ use walk_steps::Found;
 use walk_steps::FoundMaybe;
 use walk_steps::Maybe;
 use walk_steps::Opened;
-use walk_steps::Part;
+use walk_steps::Range;
 ghost use Prim.Native.Nat.{_+_, _≤_};
 ghost use mathlib.Core.Bool.{false};
 ghost use lib.ListN.{length};
@@ -15,18 +15,18 @@ ghost use Rattle.paper.specs.Form.{each};
 ghost use Rattle.read_bytes.specs.Words.{There};
 ghost use Rattle.read_steps.specs.Follow.{Not, Starts, closing};
 ghost use Rattle.walk_steps.specs.Stands.{Ends, Over};
-ghost use Rattle.walk_items.specs.Items.{FindsQualifier, FindsFeature, featureTail, Ending, Endings, FirstEnding, tableClosing, FindsTable, FindsIds, FindsSequence};
+ghost use Rattle.walk_items.specs.Items.{MeetsQualifier, MeetsFeature, featureTail, Ending, Endings, FirstEnding, tableClosing, FindsTable, FindsIds, MeetsSequence};
 
 // ---- qualifiers and features
 
 pub struct FoundQualifier {
-    pub name: Part,
+    pub name: Range,
     pub value: Maybe,
     pub next: usize,
 }
 
 pub fn qualifier(s: &[u8], at: usize) -> FoundQualifier
-    ensures { λ r. ⌜ FindsQualifier (now (s .entry)) at r ⌝ }
+    ensures { λ r. ⌜ MeetsQualifier (now (s .entry)) at r ⌝ }
 {
     let a = walk_steps::tag(s, at, b"INSDQualifier");
     let b = walk_steps::enter(s, a);
@@ -47,14 +47,14 @@ pub fn qualifier(s: &[u8], at: usize) -> FoundQualifier
 
 // A feature's texts, and where its qualifiers stand. `long` says how its qualifiers end.
 pub struct FoundFeature {
-    pub key: Part,
-    pub location: Part,
+    pub key: Range,
+    pub location: Range,
     pub quals: usize,
     pub long: bool,
 }
 
 pub fn feature(s: &[u8], at: usize) -> FoundFeature
-    ensures { λ r. ⌜ FindsFeature (now (s .entry)) at r ⌝ }
+    ensures { λ r. ⌜ MeetsFeature (now (s .entry)) at r ⌝ }
 {
     let a = walk_steps::tag(s, at, b"INSDFeature");
     let b = walk_steps::enter(s, a);
@@ -249,18 +249,18 @@ fn other_ids(s: &[u8], at: usize) -> FoundIds
 }
 
 pub struct FoundSequence {
-    pub number: Part,
-    pub declared: Part,
-    pub moltype: Part,
-    pub division: Part,
+    pub number: Range,
+    pub declared: Range,
+    pub moltype: Range,
+    pub division: Range,
     pub ids: bool,
     pub table: FoundTable,
-    pub residues: Part,
+    pub residues: Range,
     pub next: usize,
 }
 
 pub fn sequence(s: &[u8], at: usize) -> FoundSequence
-    ensures { λ r. ⌜ FindsSequence (now (s .entry)) at r ⌝ }
+    ensures { λ r. ⌜ MeetsSequence (now (s .entry)) at r ⌝ }
 {
     let a = walk_steps::tag(s, at, b"SequenceData");
     let Found {

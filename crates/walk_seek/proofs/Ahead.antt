@@ -12,13 +12,13 @@ use Rattle.paper.specs.Form.{Form, each}
 use Rattle.paper.specs.Layout.{child}
 use Rattle.paper.specs.Layout as layout
 use Rattle.read_bytes.specs.Words.{There}
-use Rattle.read_steps.specs.Follow.{Not, Starts, Before, closing}
+use Rattle.read_steps.specs.Follow.{Not, Starts, StandsBefore, closing}
 use Rattle.read_steps.proofs.Fronts.{Leads}
 use Rattle.walk_steps.specs.Stands.{Stands, tagOf, Over}
 use Rattle.walk_steps.proofs.Places.{from}
 use Rattle.walk_steps.proofs.Loops.{left-none, left-some}
 use Rattle.walk_steps.proofs.Loops as loops
-use Rattle.walk_items.specs.Items.{FindsSequence}
+use Rattle.walk_items.specs.Items.{MeetsSequence}
 use Rattle.walk_items.specs.declared.FoundSequence.{FoundSequence}
 use Rattle.walk_items.proofs.Features.{qualifier-leads}
 use Rattle.walk_items.proofs.Sequences.{sequence-leads, feature-leads}
@@ -27,7 +27,7 @@ use Rattle.walk_seek.specs.declared.Item.{Item}
 use Rattle.walk_seek.specs.declared.Item.the-variants.{Sequence, Feature, Qualifier}
 use Rattle.walk_seek.specs.declared.Place.the-variants.{Missing, At}
 
-pub sequence-over : {s : List ℕ} {at : ℕ} {r : FoundSequence} → FindsSequence s at r → Over (child layout.sequence) (Not isBlank) s at (r .next)
+pub sequence-over : {s : List ℕ} {at : ℕ} {r : FoundSequence} → MeetsSequence s at r → Over (child layout.sequence) (Not isBlank) s at (r .next)
 sequence-over f = record { is = λ q e d fol. f q e d fol .next }
 
 leads : (i : Item) (x : Asked i) → Leads (tagOf (nameOf i)) (formOf i x)
@@ -36,7 +36,7 @@ leads Feature x = feature-leads x
 leads Qualifier x = qualifier-leads x
 
 -- what closes a list is no item of it
-apart : (i : Item) → Before (nameOf i) closing
+apart : (i : Item) → StandsBefore (nameOf i) closing
 apart Sequence = record { clash = refl; sharps = refl }
 apart Feature = record { clash = refl; sharps = refl }
 apart Qualifier = record { clash = refl; sharps = refl }

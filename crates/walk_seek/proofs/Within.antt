@@ -10,7 +10,7 @@ use Rattle.paper.specs.Form.{Form}
 use Rattle.paper.specs.Tree.{Feature, Table, featuresIn, qualifiersOf}
 use Rattle.paper.specs.Layout.{child}
 use Rattle.paper.specs.Layout as layout
-use Rattle.walk_items.specs.Items.{TableIs, FindsFeature, FindsQualifier}
+use Rattle.walk_items.specs.Items.{TableIs, MeetsFeature, MeetsQualifier}
 use Rattle.walk_items.specs.declared.FoundSequence.{FoundSequence}
 use Rattle.walk_items.specs.declared.FoundFeature.{FoundFeature}
 use Rattle.walk_items.specs.declared.FoundQualifier.{FoundQualifier}
@@ -46,7 +46,7 @@ module _ {w : List ℕ} {j : ℕ} where
     no-feature h n = record { says = λ q e x. (refl, refl, sought-in (r .table) h n (q .table) (x .table)) }
 
     pub feature-so : {at : ℕ} {f : FoundFeature} → not (r .table .present) ≡ false → SeeksIn (child layout.feature) w (r .table .first) j (At at)
-        → FindsFeature w at f → FeatureFound w r j (feature.Found r f)
+        → MeetsFeature w at f → FeatureFound w r j (feature.Found r f)
     feature-so h n found =
         record {
           says =
@@ -61,7 +61,7 @@ module _ {w : List ℕ} {g : FoundFeature} {i : ℕ} where
   pub no-qualifier : SeeksIn (child layout.qualifier) w (g .quals) i Missing → QualifierFound w g i (qualifier.Refused 33 0)
   no-qualifier n = record { says = λ f e x. (refl, refl, n .says (qualifiersOf f) (x .stop) (x .quals) (x .closes)) }
 
-  pub qualifier-so : {at : ℕ} {r : FoundQualifier} → SeeksIn (child layout.qualifier) w (g .quals) i (At at) → FindsQualifier w at r
+  pub qualifier-so : {at : ℕ} {r : FoundQualifier} → SeeksIn (child layout.qualifier) w (g .quals) i (At at) → MeetsQualifier w at r
       → QualifierFound w g i (qualifier.Found r)
   qualifier-so n found =
       record {

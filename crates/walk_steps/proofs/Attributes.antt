@@ -13,7 +13,7 @@ use Rattle.paper.specs.Tree.{Text}
 use Rattle.paper.specs.Layout.{gap, text, attribute, attribute?}
 use Rattle.read_bytes.specs.Words.{There}
 use Rattle.read_bytes.proofs.Words.{stands-long}
-use Rattle.read_steps.specs.Follow.{Not, Starts, Named, sharp, skip}
+use Rattle.read_steps.specs.Follow.{Not, Starts, NoBlankFirst, sharp, skip}
 use Rattle.read_steps.specs.Texts.{Scanned}
 use Rattle.read_steps.proofs.Fronts.{leads-all, leads-sharp, named-sharp, gap-blank}
 use Rattle.read_tags.proofs.Tags.{attribute-leads}
@@ -41,7 +41,7 @@ attribute-found name {s} {at} sc p q sc2 o named t e d fol =
     let f = text-found 34 free-quote isPrinted t (omega (arith, eb, these-inside (bytes "=\"") (w .2) (omega arith))) sc2 (from eb (y .2)) (before (Not (others 34)) (x .2) (leads-sharp (others 34) (bytes "\"") (lit "\"") refl (leads-all (bytes "\"")) (x .0) (x .2 .word) (drop e s) (x .2 .laid))) in
     record { part = f .1; next = past-these (bytes "\"") refl o (from (f .0) (x .2)) }
   where
-    name-sharp : (k : List ℕ) → Named k → {at e : ℕ} → Stands (these k) s at e → Not isBlank (drop at s)
+    name-sharp : (k : List ℕ) → NoBlankFirst k → {at e : ℕ} → Stands (these k) s at e → Not isBlank (drop at s)
     name-sharp k h d = no-blank k (named-sharp k h) (leads-all k) d
 
 -- ---- an attribute that may be missing
@@ -63,7 +63,7 @@ skip-at {s} {at} c =
     let size = scan-end isBlank c (x .0) (skip (drop at s)) (x .1) (x .2) (x .3) in
     sym (drop-append-seam (x .0) (skip (drop at s))) ∙ ap (drop (length (x .0))) (sym (x .1)) ∙ drop-drop (length (x .0)) at s ∙ ap (λ (i : ℕ). drop i s) (sym size)
 
-named-long : (x : List ℕ) → Named x → 0 < length x
+named-long : (x : List ℕ) → NoBlankFirst x → 0 < length x
 named-long [] n = absurd n
 named-long (b ∷ x) n = omega arith
 

@@ -13,7 +13,7 @@ use Rattle.paper.specs.Tree.{Text}
 use Rattle.paper.specs.Layout.{blanks, tag, close, leaf, child, holding, holding?}
 use Rattle.read_bytes.specs.Words.{StandsAt, There}
 use Rattle.read_bytes.proofs.Words.{stands-long}
-use Rattle.read_steps.specs.Follow.{Not, Starts, first, later, Before, anything, closing, clashes, sharp}
+use Rattle.read_steps.specs.Follow.{Not, Starts, first, later, StandsBefore, anything, closing, clashes, sharp}
 use Rattle.read_steps.specs.Texts.{Scanned}
 use Rattle.read_steps.proofs.Fronts.{Leads, LeadsBy, leads-all, leads-seq, leads-by, leads-sharp, whole, maybe-starts, starts-sharp, starts-apart}
 use Rattle.read_tags.proofs.Tags.{close-leads, leaf-element}
@@ -93,7 +93,7 @@ module _ {A : Type 0} (name : List ℕ) (F : A → Form) (leads : (a : A) → Le
       absent-by whole (tagOf name) F (leads-by (tagOf name) F leads) (λ (i : Option A) (j : ℕ). (i ≡ none) × (at ≡ j))
       (λ y g. t (stands-long (omega arith) y g)) (refl, refl) o e d
 
-  pub there-some : (l : List (List ℕ)) → Before name l → Starts l (drop e s) → StandsAt (tagOf name) s at → (o : Option A) → Stands (maybe F o) s at e
+  pub there-some : (l : List (List ℕ)) → StandsBefore name l → Starts l (drop e s) → StandsAt (tagOf name) s at → (o : Option A) → Stands (maybe F o) s at e
       → (a : A) × (o ≡ some a) × Stands (F a) s at e
   there-some l b fol t o d =
       present-by whole (tagOf name) F (leads-by (tagOf name) F leads) (λ (i : Option A) (j : ℕ). (a : A) × (i ≡ some a) × Stands (F a) s at j)
@@ -188,7 +188,7 @@ module _ {A : Type 0} (name : List ℕ) (nothing : A → Type 0) (C : A → Form
   full-leads : (a : A) → Leads (bytes ">") (Full a)
   full-leads a = leads-seq (bytes ">") (lit ">" · blanks · C a) (close name) (leads-seq (bytes ">") (lit ">" · blanks) (C a) (leads-seq (bytes ">") (lit ">") blanks (leads-all (bytes ">"))))
 
-  module _ {s : List ℕ} {e : ℕ} (l : List (List ℕ)) (b : Before name l) (fol : Starts l (drop e s)) where
+  module _ {s : List ℕ} {e : ℕ} (l : List (List ℕ)) (b : StandsBefore name l) (fol : Starts l (drop e s)) where
     -- nothing stands, and what follows is here
     none-at : (D' : Form) (r : Opened) → r .long ≡ false → ((p : ℕ) → D' p []) → r .first ≡ e → Within name D' l s r e
     none-at D' r h n q =

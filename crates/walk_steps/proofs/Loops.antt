@@ -8,7 +8,7 @@ use lib.ListN.{length, drop}
 use Rattle.paper.specs.Bytes.{isBlank}
 use Rattle.paper.specs.Form.{Form, each}
 use Rattle.read_bytes.specs.Words.{There}
-use Rattle.read_steps.specs.Follow.{Not, Starts, Before}
+use Rattle.read_steps.specs.Follow.{Not, Starts, StandsBefore}
 use Rattle.read_steps.proofs.Fronts.{Leads, leads-by, leads-long, whole, each-starts, starts-sharp, starts-apart}
 use Rattle.walk_steps.specs.Stands.{Stands, tagOf, Over}
 use Rattle.walk_steps.proofs.Places.{part, before, from, nothing-stands}
@@ -39,7 +39,7 @@ module _ {A : Type 0} (name : List ℕ) (F : A → Form) (leads : (a : A) → Le
       absurd (t .no h (tag-stands name (F a) (leads a) (u .1)))
 
   -- where one starts it is the first of the list
-  pub left-some : {q e : ℕ} {t : Bool} → Before name fl → t ≡ true → There (tagOf name) s q t → Starts fl (drop e s)
+  pub left-some : {q e : ℕ} {t : Bool} → StandsBefore name fl → t ≡ true → There (tagOf name) s q t → Starts fl (drop e s)
       → (k : List A) → Stands (each F k) s q e → Item F s k q e
   left-some {q} {e} c h t fol [] d =
       absurd (starts-apart (tagOf name) fl (drop e s) _ (c .clash) (ap (λ (i : ℕ). drop i s) (sym (nothing-stands d)) ∙ t .yes h .here) fol)
@@ -63,7 +63,7 @@ module _ {A : Type 0} (name : List ℕ) (F : A → Form) (leads : (a : A) → Le
 pub record Left {A : Type 0} (F : A → Form) (fl : List (List ℕ)) (s : List ℕ) (first at : ℕ) : Type 0 where
   pub is : (l : List A) (e : ℕ) → Stands (each F l) s first e → Starts fl (drop e s) → (k : List A) × Stands (each F k) s at e
 
-module _ {A : Type 0} (name : List ℕ) (F : A → Form) (leads : (a : A) → Leads (tagOf name) (F a)) (fl : List (List ℕ)) (c : Before name fl) {s : List ℕ} {first at : ℕ} where
+module _ {A : Type 0} (name : List ℕ) (F : A → Form) (leads : (a : A) → Leads (tagOf name) (F a)) (fl : List (List ℕ)) (c : StandsBefore name fl) {s : List ℕ} {first at : ℕ} where
   pub over-next : {t : Bool} {n : ℕ} → t ≡ true → There (tagOf name) s at t → Left F fl s first at → Over F (Not isBlank) s at n → Left F fl s first n
   over-next h t w o =
       record {

@@ -11,9 +11,9 @@ use Rattle.paper.specs.Form.{Form, lit, _·_, maybe}
 use Rattle.paper.specs.Tree.{Text}
 use Rattle.paper.specs.Layout.{blanks, tag, close, attribute, content, leaf, child, attribute?}
 use Rattle.read_bytes.specs.Words.{StandsAt}
-use Rattle.read_steps.specs.Follow.{Starts, Before, Named, anything, clashes, skip}
+use Rattle.read_steps.specs.Follow.{Starts, StandsBefore, NoBlankFirst, anything, clashes, skip}
 use Rattle.read_steps.specs.Texts.{Scanned}
-use Rattle.walk_steps.specs.declared.Part.{Part}
+use Rattle.walk_steps.specs.declared.Range.{Range}
 use Rattle.walk_steps.specs.declared.Found.{Found}
 use Rattle.walk_steps.specs.declared.Maybe.{Maybe}
 use Rattle.walk_steps.specs.declared.Maybe.the-variants.{Absent, Present}
@@ -48,7 +48,7 @@ pub record Over {A : Type 0} (F : A → Form) (Fol : List ℕ → Type 0) (s : L
   pub is : (x : A) (e : ℕ) → Stands (F x) s at e → Fol (drop e s) → r ≡ e
 
 -- the part is where the text x is written
-pub record IsPart (s : List ℕ) (x : Text ℕ) (p : Part) : Type 0 where
+pub record IsPart (s : List ℕ) (x : Text ℕ) (p : Range) : Type 0 where
   pub first : p .from ≡ x .place
   pub behind : p .to ≡ x .place + length (raw (x .read))
   pub inside : p .from ≤ length s
@@ -79,7 +79,7 @@ pub record IsMaybe (s : List ℕ) (o : Option (Text ℕ)) (e : ℕ) (r : FoundMa
 
 abbrev pub FindsMaybe : List ℕ → List ℕ → ℕ → FoundMaybe → Type 0
 FindsMaybe name s at r =
-    (l : List (List ℕ)) → Before name l → (o : Option (Text ℕ)) (e : ℕ) → Stands (maybe (child (leaf name)) o) s at e → Starts l (drop e s) → IsMaybe s o e r
+    (l : List (List ℕ)) → StandsBefore name l → (o : Option (Text ℕ)) (e : ℕ) → Stands (maybe (child (leaf name)) o) s at e → Starts l (drop e s) → IsMaybe s o e r
 
 -- ---- elements that hold elements
 
@@ -116,8 +116,8 @@ isThere (some a) = true
 -- ---- attributes
 
 abbrev pub FindsAttribute : List ℕ → List ℕ → ℕ → Found → Type 0
-FindsAttribute name s at r = Named name → Finds (attribute name) anything s at r
+FindsAttribute name s at r = NoBlankFirst name → Finds (attribute name) anything s at r
 
 abbrev pub FindsAttributeMaybe : List ℕ → List ℕ → ℕ → FoundMaybe → Type 0
 FindsAttributeMaybe name s at r =
-    Named name → (l : List (List ℕ)) → clashes name l ≡ true → (o : Option (Text ℕ)) (e : ℕ) → Stands (attribute? name o) s at e → Starts l (skip (drop e s)) → IsMaybe s o e r
+    NoBlankFirst name → (l : List (List ℕ)) → clashes name l ≡ true → (o : Option (Text ℕ)) (e : ℕ) → Stands (attribute? name o) s at e → Starts l (skip (drop e s)) → IsMaybe s o e r

@@ -14,14 +14,14 @@ ghost use Rattle.read_steps.specs.Texts.{allowedIn, isPlain, Scanned};
 ghost use Rattle.walk_steps.specs.Stands.{Past, others, tagOf, Ends, Finds, FindsContent, FindsMaybe, entering, leaving, shutting, OpensSo, FindsAttribute, FindsAttributeMaybe};
 
 // A text of the listing, from its first byte to the one behind its last.
-pub struct Part {
+pub struct Range {
     pub from: usize,
     pub to: usize,
 }
 
 // A text, and where what follows it starts.
 pub struct Found {
-    pub part: Part,
+    pub part: Range,
     pub next: usize,
 }
 
@@ -110,7 +110,7 @@ pub fn content(s: &[u8], at: usize, start: usize, name: &[u8], high: bool) -> Fo
     let h = blanks(s, at);
     if peek(s, h) == b'/' {
         return Found {
-            part: Part {
+            part: Range {
                 from: start,
                 to: start,
             },
@@ -120,7 +120,7 @@ pub fn content(s: &[u8], at: usize, start: usize, name: &[u8], high: bool) -> Fo
     let from = past(s, h, 1);
     let to = until(s, from, b'<');
     Found {
-        part: Part { from, to },
+        part: Range { from, to },
         next: close(s, to, name),
     }
 }
@@ -139,7 +139,7 @@ pub fn leaf(s: &[u8], at: usize, name: &[u8]) -> Found
 // A text that may be missing.
 pub enum Maybe {
     Absent,
-    Present(Part),
+    Present(Range),
 }
 
 pub struct FoundMaybe {
@@ -247,7 +247,7 @@ pub fn attribute(s: &[u8], at: usize, name: &[u8]) -> Found
     let from = past(s, a, 2);
     let to = until(s, from, b'"');
     Found {
-        part: Part { from, to },
+        part: Range { from, to },
         next: past(s, to, 1),
     }
 }
