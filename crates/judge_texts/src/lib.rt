@@ -148,7 +148,13 @@ fn is_known(kind: Molecule) -> bool
 }
 
 // Rules 16 to 20.
-pub fn judge_texts(s: &[u8], declared: Range, moltype: Range, division: Range, known: Known) -> Fault
+pub fn judge_texts(
+    s: &[u8],
+    declared: Range,
+    moltype: Range,
+    division: Range,
+    known: Known,
+) -> Fault
     ensures { λ r. ⌜ JudgesTexts (now (s .entry)) declared moltype division known r ⌝ }
 {
     let kind = known.kind;

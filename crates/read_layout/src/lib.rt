@@ -405,7 +405,11 @@ fn document(s: &[u8], t: &[u8; 256]) -> Step
     requires { ⌜ ClassTable (now t) ⌝ }
     ensures { λ r. ⌜ Reads Form.document nothing (now (s .entry)) (Ok 0 0) r × AtEnd (now (s .entry)) r ⌝ }
 {
-    let a = read_steps::word(s, Step::fresh(), b"<?xml version=\"1.0\" encoding=\"UTF-8\"?>");
+    let a = read_steps::word(
+        s,
+        Step::fresh(),
+        b"<?xml version=\"1.0\" encoding=\"UTF-8\"?>",
+    );
     let b = doctype(s, read_steps::blanks(s, a));
     let d = root(s, read_steps::blanks(s, b), t);
     read_steps::end(s, read_steps::blanks(s, d))

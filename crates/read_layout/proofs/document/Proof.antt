@@ -33,10 +33,13 @@ end-requires : tie.Need-end-requires
 end-requires c κs = search needs
 
 returns : tie.Need-returns
-returns c = (
-  document-reads (step-from (c@fresh .ensures) (c@word .ensures)) (c@blanks .ensures) (c@doctype .ensures) (c@blanks2 .ensures) (c@root .ensures) (c@blanks3 .ensures) (c@end .ensures .0),
-  c@end .ensures .1,
-)
+returns c =
+    let fresh = c .before .before .before .before .before .before .before .before .fresh in
+    let word = c .before .before .before .before .before .before .word in
+    let blanks = c .before .before .before .before .before .blanks in (
+      document-reads (step-from (fresh .ensures) (word .ensures)) (blanks .ensures) (c .before .before .before .before .doctype .ensures) (c .before .before .before .blanks2 .ensures) (c .before .before .root .ensures) (c .before .blanks3 .ensures) (c .end .ensures .0),
+      c .end .ensures .1,
+    )
 
 pub document-spec : {M : Type 1} → statement M
 document-spec =
