@@ -1,4 +1,5 @@
 -- `read_layout::document` meets its contract: its parts one after another, up to the end.
+use mathlib.Core.Path.{sym}
 use Rattle.read_steps.proofs.Steps.{step-from}
 use Rattle.read_layout.proofs.Wholes.{document-reads}
 use borrow.Author.Needs.{needs}
@@ -37,7 +38,7 @@ returns c =
     let fresh = c .before .before .before .before .before .before .before .before .fresh in
     let word = c .before .before .before .before .before .before .word in
     let blanks = c .before .before .before .before .before .blanks in (
-      document-reads (step-from (fresh .ensures) (word .ensures)) (blanks .ensures) (c .before .before .before .before .doctype .ensures) (c .before .before .before .blanks2 .ensures) (c .before .before .root .ensures) (c .before .blanks3 .ensures) (c .end .ensures .0),
+      document-reads (step-from (sym (fresh .ensures)) (word .ensures)) (blanks .ensures) (c .before .before .before .before .doctype .ensures) (c .before .before .before .blanks2 .ensures) (c .before .before .root .ensures) (c .before .blanks3 .ensures) (c .end .ensures .0),
       c .end .ensures .1,
     )
 
