@@ -15,7 +15,7 @@ use Rattle.paper.specs.Values.{Number}
 use Rattle.paper.specs.Locations.{Location, Locates, spans, operatorNumber}
 use Rattle.paper.specs.Translation.{code1, codonsFrom, codingText, dropStop, hasStopInside}
 use Rattle.paper.specs.Rules.{Skipped, Kind, dna, rna, aa, IsKind, kindName, valueRead, CodonStart, absent, stated, Codons, Broken, First}
-use Rattle.paper.specs.Answers.{partOf, isPresent, valuePart, triples, front, Outcome, refuse, give, Strays, Checked, too-long, strays, breaks, accepted, Counts, CheckSays, FindsSequence, FindsFeature, FindsQualifier, FindsLocation, Translates, FindsTranslation, FindsTranslations, Lines, Lent, Part, kindNumber, SequenceSays, FeatureSays, QualifierSays, SpansSays, TranslationSays, TranslationsSays}
+use Rattle.paper.specs.Answers.{Prints, page, partOf, isPresent, valuePart, triples, front, Outcome, refuse, give, Strays, Checked, too-long, strays, breaks, accepted, Counts, CheckSays, FindsSequence, FindsFeature, FindsQualifier, FindsLocation, Translates, FindsTranslation, FindsTranslations, Lines, Lent, Part, kindNumber, SequenceSays, FeatureSays, QualifierSays, SpansSays, TranslationSays, TranslationsSays}
 use Rattle.paper.specs.declared.Verdict.{Verdict}
 use Rattle.paper.specs.declared.Verdict.the-variants.{Accepted, Refused}
 use Rattle.paper.proofs.Decimal.{number-once}
@@ -179,6 +179,13 @@ module _ {w : List ℕ} (once : (l m : Listing ℕ) → LaidOut l w → LaidOut 
           let x = k .totals ∙ sym (c .totals) in
           let y = k .featured ∙ sym (c .featured) in
           λ i. Accepted (x i) (count-once (k .skips) (c .skips) i) (y i) (count-once (k .judges) (c .judges) i) (count-once (k .unjudges) (c .unjudges) i)
+
+  -- the program's page
+  pub prints-once : {x y : List ℕ} → Prints w x → Prints w y → x ≡ y
+  prints-once (Prints.too-long h) (Prints.too-long k) = refl
+  prints-once (Prints.too-long h) (Prints.verdict v k c) = absurd (omega (arith, h, k))
+  prints-once (Prints.verdict v h c) (Prints.too-long k) = absurd (omega (arith, h, k))
+  prints-once (Prints.verdict v h c) (Prints.verdict u k d) = ap page (check-once v u c d)
 
   module _ {k : ℕ} where
     -- the numbered sequence of the one listing

@@ -1,19 +1,19 @@
 -- The definitions tried where a slip would be likely: small theorems that they mean what document 01 says.
-use Prim.Native.Nat.{ℕ, _+_}
+use Prim.Native.Nat.{ℕ, _+_, _≤_, _<_}
 use native.Mathlib.Omega.{arith}
 use mathlib.Core.Path.{_≡_, refl, sym, ap, _∙_}
-use mathlib.Core.Bool.{true}
+use mathlib.Core.Bool.{true, false}
 use mathlib.Core.Logic.{inl, inr}
 use mathlib.Core.List.{List, [], _∷_, _++_, append-nil}
 use mathlib.Core.Option.{none, some}
 use lib.ListN.{length}
-use Rattle.paper.specs.Bytes.{bytes}
+use Rattle.paper.specs.Bytes.{bytes, isBlank}
 use Rattle.paper.specs.Lists.{Count, end, has, lacks}
 use Rattle.paper.specs.Tree.{Text, Sequence, Listing, markText}
 use Rattle.paper.specs.Layout.{leaf}
 use Rattle.paper.specs.Locations.{Member, Operator, Location, many, Locates, spans, spanOf, breaks25}
-use Rattle.paper.specs.Rules.{L, Skipped, valueRead}
-use Rattle.paper.specs.Answers.{Counts, page}
+use Rattle.paper.specs.Rules.{L, Skipped, dna, rna, aa, valueRead}
+use Rattle.paper.specs.Answers.{limit, Counts, kindNumber, page}
 use Rattle.paper.specs.declared.Verdict.the-variants.{Accepted, Refused}
 use Rattle.paper.proofs.Locate.{locate-sound}
 
@@ -73,3 +73,15 @@ pages = (refl, refl)
 -- a position of thirty digits is read as it stands, and breaks rule 25 in the longest listing
 thirty-digits : (t : Location) × Locates t (bytes "100000000000000000000000000012") × (breaks25 16777216 t ≡ true)
 thirty-digits = (_, locate-sound _ _ refl, refl)
+
+-- "Blanks are space, tab, CR, LF."
+four-blanks : (isBlank 32 ≡ true) × (isBlank 9 ≡ true) × (isBlank 13 ≡ true) × (isBlank 10 ≡ true) × (isBlank 12 ≡ false)
+four-blanks = (refl, refl, refl, refl, refl)
+
+-- "16,777,216 bytes is the longest listing.": so many, and no more
+longest : (16777216 ≤ limit) × (limit < 16777217)
+longest = (omega arith, omega arith)
+
+-- the numbers of the kinds, as the header tells them to the box
+kinds : (kindNumber dna ≡ 1) × (kindNumber rna ≡ 2) × (kindNumber aa ≡ 3)
+kinds = (refl, refl, refl)
