@@ -8,8 +8,10 @@ use mathlib.Core.List.{List, [], _∷_, _++_, append-nil}
 use lib.ListN.{length, take, drop, set, length-append, length-drop, take-append-drop, drop-of-length-le}
 use lib.Seq.{sets, sets-eq, length-take-le, take-all, take-at}
 use lib.Dec.{eqb}
+use Rattle.paper.specs.Bytes.{bytes}
 use Rattle.paper.specs.Answers.{front}
 use Rattle.lent_room.specs.Room.{agree, Puts}
+use Rattle.lent_room.specs.Spelled.{littleEnd}
 
 -- ---- one behind another
 
@@ -93,15 +95,6 @@ module _ {at : ℕ} {room : List ℕ} where
 
 -- ---- beginnings
 
-pub agree-most : (x z : List ℕ) → agree x z ≤ length x
-agree-most [] z = omega arith
-agree-most (a ∷ x) [] = omega arith
-agree-most (a ∷ x) (b ∷ z) = go (eqb a b) (agree-most x z)
-  where
-    go : (t : Bool) → agree x z ≤ length x → cond t (suc (agree x z)) 0 ≤ suc (length x)
-    go true h = omega (arith, h)
-    go false h = omega arith
-
 -- x is passed, and then comes y
 pub agree-on : (x y z : List ℕ) → agree x z ≡ length x → agree (x ++ y) z ≡ length x + agree y (drop (length x) z)
 agree-on [] y z e = omega arith
@@ -123,3 +116,12 @@ agree-off (a ∷ x) y (b ∷ z) h = go (eqb a b) (agree-off x y z) h
         → cond t (suc (agree (x ++ y) z)) 0 ≡ cond t (suc (agree x z)) 0
     go true h k = ap suc (h (omega (arith, k)))
     go false h k = refl
+
+-- ---- the definitions tried
+
+-- the first differing place, or the shorter length
+apart : (agree (bytes "verdict") (bytes "verdant") ≡ 4) × (agree (bytes "join") (bytes "join(") ≡ 4) × (agree (bytes "join(") (bytes "join") ≡ 4)
+apart = (refl, refl, refl)
+
+little : (littleEnd 16909060 ≡ 4 ∷ 3 ∷ 2 ∷ 1 ∷ []) × (littleEnd 4294967295 ≡ 255 ∷ 255 ∷ 255 ∷ 255 ∷ [])
+little = (refl, refl)

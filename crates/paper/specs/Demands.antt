@@ -1,6 +1,6 @@
 -- The demands of document 00, for an auditor to print: each sentence that can be said of answers, and beside it the statement.
--- They speak of whatever answers the paper allows; that a call gives such an answer for every input is its own promise. Proofs: demands 1
--- and 2 in proofs/Demands.antt, demand 3 in ask_check's.
+-- They speak of whatever answers the paper allows; that a call gives such an answer for every input is the call's own promise. Proofs:
+-- demands 1 and 2 in paper/proofs/Demands.antt, demand 3 in ask_check/proofs/Demands.antt.
 use Prim.Native.Nat.{ℕ, _+_, _≤_}
 use mathlib.Core.Path.{_≡_}
 use mathlib.Core.Bool.{Bool, false}
@@ -101,5 +101,5 @@ pub record Demand3 : Type 0 where
   pub exactly : (w : List ℕ) (r : Verdict) → CheckSays w r → IsAccepted r ↔ Good w
   -- ".. and then no other listing is written by those bytes."
   pub no-other : (w : List ℕ) (a b : Bare) → Writes a w → Writes b w → a ≡ b
-  -- so no reader that refuses everything keeps it: there are such bytes
+  -- there are such bytes, so not all are refused
   pub someone : (w : List ℕ) × Good w
