@@ -6,11 +6,9 @@ use mathlib.Core.Bool.{Bool, true, false, true≢false}
 use mathlib.Core.Logic.{_↔_}
 use mathlib.Core.List.{List}
 use lib.ListN.{length}
-use Rattle.paper.specs.Lists.{_∈_}
-use Rattle.paper.specs.Tree.{Sequence, Feature, Listing, Bare, forget, featuresOf}
-use Rattle.paper.specs.Locations.{Location, Locates, Span, spans}
+use Rattle.paper.specs.Tree.{Listing, Bare, forget}
 use Rattle.paper.specs.Layout.{LaidOut, Writes}
-use Rattle.paper.specs.Rules.{L, Broken}
+use Rattle.paper.specs.Rules.{Broken}
 use Rattle.paper.specs.Answers.{limit, CheckSays, Checked, refuse, give}
 use Rattle.paper.specs.Answers as paper
 use Rattle.paper.specs.Demands.{IsAccepted, Good, Demand3}

@@ -3,10 +3,11 @@
 use Prim.Native.Nat.{ℕ}
 use mathlib.Core.Path.{_≡_, ap, sym, _∙_}
 use mathlib.Core.List.{List}
+use Rattle.paper.specs.Answers.{CheckNumbers, numbersOf}
 use Rattle.ask_check.proofs.Demands.{answers-once}
 use Rattle.ask_lookups.proofs.Once.{qualifier-once}
 use Rattle.ask_answers.specs.Handed.{flagOf}
-use Rattle.dreichnook.specs.Numbers.{CheckNumbers, numbersOf, SaysCheck, QualifierNumbers, SaysQualifier}
+use Rattle.dreichnook.specs.Numbers.{SaysCheck, QualifierNumbers, SaysQualifier}
 
 pub check-numbers-once : (w : List ℕ) (x y : CheckNumbers) → SaysCheck w x → SaysCheck w y → x ≡ y
 check-numbers-once w x y a b = a .is ∙ ap numbersOf (answers-once w (a .verdict) (b .verdict) (a .says) (b .says)) ∙ sym (b .is)

@@ -1,29 +1,14 @@
--- What the C functions return and set, by name; and how they say an enum or a Boolean in numbers.
+-- What the C functions return and set, by name; and how they say a Boolean in numbers.
 use Prim.Native.Nat.{ℕ}
 use mathlib.Core.Path.{_≡_}
 use mathlib.Core.Bool.{Bool}
 use mathlib.Core.List.{List}
-use Rattle.paper.specs.Answers.{Part, CheckSays, QualifierSays}
+use Rattle.paper.specs.Answers.{Part, CheckSays, CheckNumbers, numbersOf, QualifierSays}
 use Rattle.paper.specs.Demands.{InListing}
 use Rattle.paper.specs.declared.Verdict.{Verdict}
-use Rattle.paper.specs.declared.Verdict.the-variants.{Accepted, Refused}
 use Rattle.ask_answers.specs.Handed.{flagOf}
 
 -- ---- the check
-
-pub record CheckNumbers : Type 0 where
-  pub number : ℕ
-  pub place : ℕ
-  pub total : ℕ
-  pub skipped : ℕ
-  pub features : ℕ
-  pub judged : ℕ
-  pub unjudged : ℕ
-
--- "a definition gives this paper's number and values for each of its cases"
-abbrev pub numbersOf : Verdict → CheckNumbers
-numbersOf (Accepted t s f j u) = record { number = 0; place = 0; total = t; skipped = s; features = f; judged = j; unjudged = u }
-numbersOf (Refused n p) = record { number = n; place = p; total = 0; skipped = 0; features = 0; judged = 0; unjudged = 0 }
 
 pub record SaysCheck (w : List ℕ) (x : CheckNumbers) : Type 0 where
   pub verdict : Verdict

@@ -134,10 +134,10 @@ built =
     document-of "1_2" "2024-02-29" (heading-of "IB" "PCT/IB2013/099999") "en" "Reverse strand & its protein" "3" nucleotides (acids ∷ empty ∷ [])
 
 -- its tree, with the places of its texts
-abbrev tree : Listing ℕ
+abbrev pub tree : Listing ℕ
 tree = built 0 .0
 
-laid : LaidOut tree listing
+pub laid : LaidOut tree listing
 unfolding listing
 laid = record { is = built 0 .2 }
 

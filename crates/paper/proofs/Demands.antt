@@ -1,5 +1,5 @@
 -- Demands 1 and 2.
-use Prim.Native.Nat.{ℕ, zero, suc, _≤_}
+use Prim.Native.Nat.{ℕ, zero, suc}
 use native.Mathlib.Omega.{arith}
 use mathlib.Core.Path.{_≡_, refl, subst}
 use mathlib.Core.Bool.{Bool, false}
@@ -7,7 +7,7 @@ use mathlib.Core.Logic.{inl, inr}
 use mathlib.Core.Option.{Option, none, some}
 use mathlib.Core.List.{List, [], _∷_, _++_}
 use Rattle.paper.specs.Lists.{_∈_, Numbered, gather, present}
-use Rattle.paper.specs.Tree.{Text, Qualifier, Feature, Sequence, Listing, featuresOf, qualifiersOf, qualifierTexts, featureTexts, sequenceTexts, attributeTexts, partiesTexts, spokenTexts, textsOf}
+use Rattle.paper.specs.Tree.{Text, Qualifier, Feature, Sequence, Listing, featuresOf, qualifiersOf, qualifierTexts, featureTexts, sequenceTexts, attributeTexts, partiesTexts, spokenTexts}
 use Rattle.paper.specs.Layout.{LaidOut}
 use Rattle.paper.specs.Answers.{Checked, give, FindsSequence, FindsFeature, FindsQualifier, FindsTranslation, FindsTranslations, Part, noPart, partOf, valuePart, SequenceSays, FeatureSays, QualifierSays, SpansSays}
 use Rattle.paper.specs.Demands.{AnswerOrRefusal, InListing, Demand1, Demand2}

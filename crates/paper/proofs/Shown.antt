@@ -1,5 +1,5 @@
 -- Each text of a laid-out listing stands at its place in the listing, as it is written: the part shown of it is the stated stretch.
-use Prim.Native.Nat.{ℕ, zero, suc, _+_, _≤_}
+use Prim.Native.Nat.{ℕ, zero, suc, _+_}
 use native.Mathlib.Omega.{arith}
 use mathlib.Core.Path.{_≡_, refl, sym, ap, _∙_, subst}
 use mathlib.Core.Bool.{Bool}
@@ -10,10 +10,9 @@ use lib.ListN.{length, take, drop, length-append}
 use lib.Seq.{take-at, drop-at}
 use Rattle.paper.specs.Bytes.{bytes, isPrinted, isPrintedOrHigh, raw}
 use Rattle.paper.specs.Form.{Form, these, lit, _·_, _∪_, given, maybe, each, each⁺}
-use Rattle.paper.specs.Lists.{Nth, _∈_, gather, present}
+use Rattle.paper.specs.Lists.{_∈_, gather, present}
 use Rattle.paper.specs.Tree.{Text, Spoken, Party, Identification, Heading, reference, application, Qualifier, Feature, Table, Sequence, Listing, featuresIn, listed, spokenTexts, partyTexts, identificationTexts, headingTexts, qualifierTexts, featureTexts, sequenceTexts, attributeTexts, partiesTexts, textsOf}
-use Rattle.paper.specs.Layout.{blanks, gap, text, tag, close, attribute, content, leaf, spoken, child, child?, holding, holding?, identification, heading, party, qualifier, quals, feature, table, otherIds, inner, sequence, attributes, parties, root, doctype, document, LaidOut}
-use Rattle.paper.specs.Answers.{shown, partOf}
+use Rattle.paper.specs.Layout.{blanks, gap, text, tag, close, attribute, content, leaf, spoken, child, child?, holding, holding?, identification, heading, party, qualifier, quals, feature, table, otherIds, inner, sequence, attributes, parties, root, doctype, LaidOut}
 use Rattle.paper.specs.Demands.{StatedStretch}
 
 -- the text t stands in the bytes w, which stand at `at`

@@ -89,7 +89,7 @@ pub raw-all : (f : ℕ → Bool) → ((b : ℕ) → all f (spell b)) → (v : Li
 raw-all f h [] = tt
 raw-all f h (b ∷ v) = all-append f (spell b) (raw v) (h b) (raw-all f h v)
 
-front-empty : (u v : List ℕ) → u ++ v ≡ [] → u ≡ []
+pub front-empty : (u v : List ℕ) → u ++ v ≡ [] → u ≡ []
 front-empty [] v e = refl
 front-empty (a ∷ u) v e = absurd (cons≢nil e)
 

@@ -1,7 +1,7 @@
 -- The definitions tried where a slip would be likely: small theorems that they mean what document 01 says.
 use Prim.Native.Nat.{ℕ, _+_, _≤_, _<_}
 use native.Mathlib.Omega.{arith}
-use mathlib.Core.Path.{_≡_, refl, sym, ap, _∙_}
+use mathlib.Core.Path.{_≡_, refl, sym, ap, _∙_, subst}
 use mathlib.Core.Bool.{true, false}
 use mathlib.Core.Logic.{inl, inr}
 use mathlib.Core.List.{List, [], _∷_, _++_, append-nil}
@@ -10,12 +10,15 @@ use lib.ListN.{length}
 use Rattle.paper.specs.Bytes.{bytes, isBlank}
 use Rattle.paper.specs.Lists.{Count, end, has, lacks}
 use Rattle.paper.specs.Tree.{Text, Sequence, Listing, markText}
-use Rattle.paper.specs.Layout.{leaf}
+use Rattle.paper.specs.Form.{Form, lit, _·_}
+use Rattle.paper.specs.Layout.{blanks, leaf, root, doctype, LaidOut}
 use Rattle.paper.specs.Locations.{Member, Operator, Location, many, Locates, spans, spanOf, breaks25}
 use Rattle.paper.specs.Rules.{L, Skipped, dna, rna, aa, valueRead}
-use Rattle.paper.specs.Answers.{limit, Counts, kindNumber, page}
+use Rattle.paper.specs.Answers.{limit, Checked, Counts, CheckSays, kindNumber, page, Prints}
 use Rattle.paper.specs.declared.Verdict.the-variants.{Accepted, Refused}
+use Rattle.paper.proofs.Accepted.{listing, tree, laid}
 use Rattle.paper.proofs.Locate.{locate-sound}
+use Rattle.paper.proofs.Texts.{front-empty}
 
 -- a complement of a join or order reverses its members and complements each
 reverses : (op : Operator) (a b c : Member)
@@ -85,3 +88,29 @@ longest = (omega arith, omega arith)
 -- the numbers of the kinds, as the header tells them to the box
 kinds : (kindNumber dna ≡ 1) × (kindNumber rna ≡ 2) × (kindNumber aa ≡ 3)
 kinds = (refl, refl, refl)
+
+-- "or `verdict refused`, `rule 2`, `place 0` (this is empty input, whole)"
+no-front : (F G : Form) (at : ℕ) → (F · G) at [] → F at []
+no-front F G at x = subst (F at) (front-empty (x .0) (x .1) (sym (x .2))) (x .3)
+
+-- how each begins
+abbrev firstLine : Form
+firstLine = lit "<?xml version=\"1.0\" encoding=\"UTF-8\"?>"
+
+-- no listing is written as nothing
+not-empty : (l : Listing ℕ) → LaidOut l [] → ⊥
+not-empty l h = omega (arith, ap length first)
+  where
+    first : _≡_ {A = List ℕ} [] (bytes "<?xml version=\"1.0\" encoding=\"UTF-8\"?>")
+    first =
+        no-front firstLine blanks 0
+        (no-front (firstLine · blanks) doctype 0
+        (no-front (firstLine · blanks · doctype) blanks 0
+        (no-front (firstLine · blanks · doctype · blanks) (root l) 0 (no-front (firstLine · blanks · doctype · blanks · root l) blanks 0 (h .is)))))
+
+empty-refused : CheckSays [] (Refused 2 0)
+empty-refused =
+    Checked.strays {p = 0} (omega arith) (record { stray = not-empty; inside = omega arith; begins = (tree, listing, laid); longest = λ j h b. h })
+
+empty-printed : Prints [] (bytes "verdict refused\nrule 2\nplace 0\n")
+empty-printed = Prints.verdict (Refused 2 0) (omega arith) empty-refused

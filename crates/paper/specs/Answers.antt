@@ -70,6 +70,20 @@ abbrev pub CheckSays : List ℕ → Verdict → Type 0
 CheckSays w (Accepted t s f j u) = (l : Listing ℕ) × Checked w (give l) × Counts l t s f j u
 CheckSays w (Refused n p) = Checked w (refuse n p)
 
+-- the same in numbers: "a definition gives this paper's number and values for each of its cases"; a refusal has "counts .. 0"
+pub record CheckNumbers : Type 0 where
+  pub number : ℕ
+  pub place : ℕ
+  pub total : ℕ
+  pub skipped : ℕ
+  pub features : ℕ
+  pub judged : ℕ
+  pub unjudged : ℕ
+
+abbrev pub numbersOf : Verdict → CheckNumbers
+numbersOf (Accepted t s f j u) = record { number = 0; place = 0; total = t; skipped = s; features = f; judged = j; unjudged = u }
+numbersOf (Refused n p) = record { number = n; place = p; total = 0; skipped = 0; features = 0; judged = 0; unjudged = 0 }
+
 -- ---- "Refusals, first that applies: the check's own; 30 no such sequence; 31 skipped; 32 no such feature; 33 no such qualifier; .."
 
 pub data FindsSequence (w : List ℕ) (k : ℕ) : Outcome (Sequence ℕ) → Type 0 where

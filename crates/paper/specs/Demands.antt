@@ -21,7 +21,7 @@ use Rattle.paper.specs.declared.Verdict.the-variants.{Accepted, Refused}
 
 -- ".. one of the numbered refusals of document 01", with the place that 01 gives it
 pub data Refusal : (number place : ℕ) → Type 0 where
-  -- "above 16,777,216 bytes | 0"
+  -- "more than 16,777,216 bytes | 0"
   too-long : Refusal 1 0
   -- "not of the layout | length of the longest beginning .."
   not-laid-out : {p : ℕ} → Refusal 2 p

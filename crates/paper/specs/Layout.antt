@@ -30,7 +30,7 @@ tag name = these (bytes "<" ++ name)
 abbrev pub close : List ℕ → Form
 close name = these (bytes "</" ++ name) · blanks · lit ">"
 
--- "A start tag has one or more blanks before each attribute"; "no blanks around `=`"
+-- "A start tag has one or more blanks before each attribute"; "blanks around `=`" are left out
 abbrev pub attribute : List ℕ → Text ℕ → Form
 attribute name t = gap · these (name ++ bytes "=\"") · text isPrinted t · lit "\""
 
