@@ -1,5 +1,5 @@
 // All translations of a sequence of an accepted listing, a line for each feature that is a CDS, into lent bytes.
-// Relies on the translation of one feature and the walk along the features.
+// Relies on the translation of one feature, the walk along the features and lent_room.
 use ask_translation::Plan;
 use ask_translation::Written;
 use ask_translation::plan_of;

@@ -1,5 +1,5 @@
-// Translations written: the translation in lent room. It relies on the paper, on the reading of the coding text and on its measuring;
-// parameters and the lent table are as in protein_codons.
+// Translations written: the translation in lent room. It relies on the paper, on the reading of the coding text and on its measuring,
+// and in its proofs on lent_room's laws; parameters and the lent table are as in protein_codons.
 use protein_codons::Letter;
 use protein_codons::Reading;
 use protein_codons::begin;
