@@ -1,5 +1,5 @@
 -- What follows from the check's promise alone: demand 3, and that two allowed answers are equal.
-use Prim.Native.Nat.{ℕ, _≤_}
+use Prim.Native.Nat.{ℕ, _+_, _≤_}
 use native.Mathlib.Omega.{arith}
 use mathlib.Core.Path.{_≡_, refl, ap, _∙_, subst}
 use mathlib.Core.Bool.{Bool, true, false, true≢false}
@@ -8,20 +8,24 @@ use mathlib.Core.List.{List}
 use lib.ListN.{length}
 use Rattle.paper.specs.Tree.{Listing, Bare, forget}
 use Rattle.paper.specs.Layout.{LaidOut, Writes}
-use Rattle.paper.specs.Rules.{Broken}
-use Rattle.paper.specs.Answers.{limit, CheckSays, Checked, refuse, give}
+use Rattle.paper.specs.Rules.{Broken, Breaks}
+use Rattle.paper.specs.Answers.{limit, CheckSays, Checked, refuse, give, Prints}
 use Rattle.paper.specs.Answers as paper
 use Rattle.paper.specs.Demands.{IsAccepted, Good, Demand3}
 use Rattle.paper.specs.declared.Verdict.{Verdict}
 use Rattle.paper.specs.declared.Verdict.the-variants.{Accepted, Refused}
 use Rattle.paper.proofs.Accepted.{listing, accepts}
 use Rattle.paper.proofs.Marks.{bare-exactly}
-use Rattle.paper.proofs.Once.{check-once}
+use Rattle.paper.proofs.Once.{check-once, prints-once}
 use Rattle.read_layout.proofs.Wholes.{laid-once, writes-once}
 
 -- two allowed answers are equal
 pub answers-once : (w : List ℕ) (a b : Verdict) → CheckSays w a → CheckSays w b → a ≡ b
 answers-once w = check-once {w = w} laid-once
+
+-- and so are two texts that the program may print
+pub print-once : {w x y : List ℕ} → Prints w x → Prints w y → x ≡ y
+print-once = prints-once laid-once
 
 -- an accepted listing is laid out, within the limit, and breaks no rule
 given : {w : List ℕ} {l : Listing ℕ} → Checked w (give l) → (length w ≤ limit) × LaidOut l w × ((n p : ℕ) → ¬ Broken l n p)
@@ -33,7 +37,7 @@ not-refused g (paper.too-long h) = omega (arith, h, g .short)
 not-refused g (paper.strays h s) = s .stray (g .writes .listing) (g .writes .laid)
 not-refused {n = n} {p} g (paper.breaks l h laid f) =
     let e : forget l ≡ g .bare = ap (λ (m : Listing ℕ). forget m) (laid-once l (g .writes .listing) laid (g .writes .laid)) ∙ g .writes .same in
-    g .keeps n (subst (λ (b : Bare). Broken b n tt) e (bare-exactly l n .0 (p, f .broken)))
+    g .keeps n (subst (λ (b : Bare). Breaks b n) e (bare-exactly _+_ l n .0 (p, f .broken)))
 
 -- demand 3: accepted exactly when some bare listing is written by the bytes and breaks none of rules 10 to 29
 pub exactly : (w : List ℕ) (r : Verdict) → CheckSays w r → IsAccepted r ↔ Good w
@@ -43,7 +47,7 @@ exactly w (Accepted t s f j u) c =
         short = g .0;
         bare = forget (c .0);
         writes = record { listing = c .0; laid = g .1; same = refl };
-        keeps = λ n b. let x = bare-exactly (c .0) n .1 b in g .2 n (x .0) (x .1);
+        keeps = λ n b. let x = bare-exactly _+_ (c .0) n .1 b in g .2 n (x .0) (x .1);
       },
       λ g. record { total = t; skipped = s; features = f; judged = j; unjudged = u; is = refl },
     )

@@ -12,6 +12,7 @@ use Rattle.paper.specs.Tree.{Text, Spoken, Party, Identification, Heading, refe
 use Rattle.paper.specs.Layout.{child, leaf, spoken, sequence}
 use Rattle.paper.specs.Values.{Date, Two, isUpper, isLower}
 use Rattle.paper.specs.Rules.{identifiedIn, dates, offices, languages, InHeader, rule-10, rule-11, rule-12, rule-13}
+use Rattle.paper.proofs.Lists.{of-append, in-first, in-second}
 use Rattle.judge_faults.specs.declared.Fault.{Fault}
 use Rattle.judge_faults.specs.declared.Fault.the-variants.{Clean}
 use Rattle.judge_faults.proofs.Parts.{_or_}
@@ -39,25 +40,6 @@ use Rattle.judge_header.specs.declared.Spoke.{Spoke}
 
 -- ---- lists of texts under one rule
 
--- an element of two lists together is one of either
-in-both : {A : Type 0} (l k : List A) (x : A) (i : ℕ) → Nth (l ++ k) i x → (x ∈ l) ⊎ (x ∈ k)
-in-both [] k x i h = inr (i, h)
-in-both (y ∷ l) k x zero h = inl (zero, h)
-in-both (y ∷ l) k x (suc i) h = up (in-both l k x i h)
-  where
-    up : (x ∈ l) ⊎ (x ∈ k) → (x ∈ (y ∷ l)) ⊎ (x ∈ k)
-    up (inl a) = inl (suc (a .0), a .1)
-    up (inr a) = inr a
-
-in-first : {A : Type 0} (l k : List A) (x : A) (i : ℕ) → Nth l i x → Nth (l ++ k) i x
-in-first [] k x i h = absurd h
-in-first (y ∷ l) k x zero h = h
-in-first (y ∷ l) k x (suc i) h = in-first l k x i h
-
-in-second : {A : Type 0} (l k : List A) (x : A) → x ∈ k → x ∈ (l ++ k)
-in-second [] k x h = h
-in-second (y ∷ l) k x h = let i = in-second l k x h in (suc (i .0), i .1)
-
 module _ (m : ℕ) (A : List ℕ → Type 0) where
   pub wrong-none : Firsts (Wrong m A []) Clean
   wrong-none = firsts-none (Wrong m A []) (λ n p x. x .1 .1)
@@ -66,11 +48,11 @@ module _ (m : ℕ) (A : List ℕ → Type 0) where
   wrong-both l k f g e = firsts-as (_or_ (Wrong m A l) (Wrong m A k)) (Wrong m A (l ++ k)) to of (firsts-or (Wrong m A l) (Wrong m A k) f g e)
     where
       to : (n p : ℕ) → _or_ (Wrong m A l) (Wrong m A k) n p → Wrong m A (l ++ k) n p
-      to n p (inl x) = (x .0, (x .1 .0, in-first l k (x .0) (x .1 .0) (x .1 .1)), x .2)
+      to n p (inl x) = (x .0, in-first l k (x .0) (x .1), x .2)
       to n p (inr x) = (x .0, in-second l k (x .0) (x .1), x .2)
 
       of : (n p : ℕ) → Wrong m A (l ++ k) n p → _or_ (Wrong m A l) (Wrong m A k) n p
-      of n p x = by (in-both l k (x .0) (x .1 .0) (x .1 .1))
+      of n p x = by (of-append l k (x .0) (x .1))
         where
           by : (x .0 ∈ l) ⊎ (x .0 ∈ k) → _or_ (Wrong m A l) (Wrong m A k) n p
           by (inl h) = inl (x .0, h, x .2)

@@ -1,6 +1,6 @@
 -- Someone is accepted: one small listing is laid out and breaks no rule, so no definition here refuses everything. It has a sequence
 -- of each sort and something for each rule to judge. tests/specimens/proved.xml has the same bytes: scripts/proved-listing compares.
-use Prim.Native.Nat.{ℕ, _≤_}
+use Prim.Native.Nat.{ℕ, _+_, _≤_}
 use Prim.Native.String.{String}
 use native.Mathlib.Omega.{arith}
 use mathlib.Core.Path.{_≡_, refl, sym, ap, _∙_, subst}
@@ -305,4 +305,4 @@ counts =
 
 -- this very text is accepted: three sequences, one of them skipped, three features, one judged CDS
 pub accepts : CheckSays listing (Accepted 3 1 3 1 0)
-accepts = (tree, accepted short laid (λ n p b. keeps-all kept (bare-exactly tree n .0 (p, b))), counts)
+accepts = (tree, accepted short laid (λ n p b. keeps-all kept (bare-exactly _+_ tree n .0 (p, b))), counts)

@@ -1,16 +1,17 @@
 -- Demands 1 and 2.
-use Prim.Native.Nat.{ℕ, zero, suc}
+use Prim.Native.Nat.{ℕ, suc}
 use native.Mathlib.Omega.{arith}
 use mathlib.Core.Path.{_≡_, refl, subst}
 use mathlib.Core.Bool.{Bool, false}
 use mathlib.Core.Logic.{inl, inr}
 use mathlib.Core.Option.{Option, none, some}
 use mathlib.Core.List.{List, [], _∷_, _++_}
-use Rattle.paper.specs.Lists.{_∈_, Numbered, gather, present}
+use Rattle.paper.specs.Lists.{_∈_, gather, present}
 use Rattle.paper.specs.Tree.{Text, Qualifier, Feature, Sequence, Listing, featuresOf, qualifiersOf, qualifierTexts, featureTexts, sequenceTexts, attributeTexts, partiesTexts, spokenTexts}
 use Rattle.paper.specs.Layout.{LaidOut}
 use Rattle.paper.specs.Answers.{Checked, give, FindsSequence, FindsFeature, FindsQualifier, FindsTranslation, FindsTranslations, Part, noPart, partOf, valuePart, SequenceSays, FeatureSays, QualifierSays, SpansSays}
 use Rattle.paper.specs.Demands.{AnswerOrRefusal, InListing, Demand1, Demand2}
+use Rattle.paper.proofs.Lists.{in-first, in-second, in-gather, number-in}
 use Rattle.paper.proofs.Refusals.{checked, own, sequence-refused, feature-refused, qualifier-refused, location-refused, translation-refused, translations-refused, lent-ends}
 use Rattle.paper.proofs.Inside.{accepted-inside}
 use Rattle.paper.proofs.Shown.{parts-shown}
@@ -47,24 +48,6 @@ demand1 =
     spans-ends (SpansSays.found c l) = inl (refl, refl)
 
 -- ---- the texts of which parts are shown are texts of the listing
-
-module _ {A : Type 0} where
-  in-first : (l k : List A) (x : A) → x ∈ l → x ∈ (l ++ k)
-  in-first [] k x m = absurd (m .1)
-  in-first (y ∷ l) k x (zero, n) = (0, n)
-  in-first (y ∷ l) k x (suc i, n) = let m = in-first l k x (i, n) in (suc (m .0), m .1)
-
-  in-second : (l k : List A) (x : A) → x ∈ k → x ∈ (l ++ k)
-  in-second [] k x m = m
-  in-second (y ∷ l) k x m = let n = in-second l k x m in (suc (n .0), n .1)
-
-  in-gather : {B : Type 0} (f : B → List A) (l : List B) (b : B) → b ∈ l → (x : A) → x ∈ f b → x ∈ gather f l
-  in-gather f [] b m x h = absurd (m .1)
-  in-gather f (c ∷ l) b (zero, n) x h = in-first (f c) (gather f l) x (subst (λ (d : _). x ∈ f d) n h)
-  in-gather f (c ∷ l) b (suc i, n) x h = in-second (f c) (gather f l) x (in-gather f l b (i, n) x h)
-
-  number-in : (l : List A) (k : ℕ) (x : A) → Numbered l k x → x ∈ l
-  number-in l k x n = (n .0, n .2)
 
 -- those of a sequence before its features
 abbrev headTexts : Sequence ℕ → List (Text ℕ)

@@ -13,7 +13,7 @@ use Rattle.paper.specs.Tree.{Text, Qualifier, Feature, Sequence, Listing
 use Rattle.paper.specs.Values.{Number, Date, Two, isUpper, isLower}
 use Rattle.paper.specs.Locations.{Location, Locates, breaks25, hasComplement}
 use Rattle.paper.specs.Translation.{dropStop, hasStopInside}
-use Rattle.paper.specs.Rules.{L, Skipped, Kind, aa, IsKind, isSymbol, undefined, fewest, Keyed, Named, upperIn, sourceName, organismName, molTypeName, OneSource, Whole, valueRead, Codons, dates, offices, languages, InHeader, InResidues, InTexts, InSource, InLocation, InCoding, InFeature, InTable, Empty, InSequence, Broken, header, sequence, residues, texts, table, source, feature, rule-10, rule-11, rule-12, rule-13, rule-14, rule-15, rule-16, rule-17, rule-18, rule-19, rule-20, rule-21, rule-22, rule-23, rule-24, rule-25, rule-26, rule-27, rule-28, rule-29}
+use Rattle.paper.specs.Rules.{L, Skipped, Kind, aa, IsKind, isSymbol, undefined, fewest, Keyed, Named, upperIn, sourceName, organismName, molTypeName, OneSource, Whole, valueRead, Codons, dates, offices, languages, InHeader, ResiduesBy, TextsBy, InSource, InLocation, InCoding, InFeature, InTable, Empty, SequenceBy, BrokenBy, header, sequence, residues, texts, table, source, feature, rule-10, rule-11, rule-12, rule-13, rule-14, rule-15, rule-16, rule-17, rule-18, rule-19, rule-20, rule-21, rule-22, rule-23, rule-24, rule-25, rule-26, rule-27, rule-28, rule-29}
 use Rattle.paper.proofs.Lists.{EachAt, each-at, Every, every, count-once}
 use Rattle.paper.proofs.Locate.{locates-once}
 use Rattle.paper.proofs.Once.{codons-once, kind-once}
@@ -82,13 +82,13 @@ module _ {P : Type 0} where
     of-kind : (R : Kind → Type 0) → R k → (j : Kind) → IsKind j s → R j
     of-kind R h j i = subst R (kind-once s k j (r .is) i) h
 
-    residues-kept : {n : ℕ} {p : P} → ¬ InResidues s n p
+    residues-kept : {plus : P → ℕ → P} {n : ℕ} {p : P} → ¬ ResiduesBy plus s n p
     residues-kept (rule-18 j i h) = of-kind (λ (j : Kind). ¬ (all (isSymbol j) (s .residues .read)) → ⊥) (λ h. h (r .symbols)) j i h
     residues-kept (rule-19 j i n c h) =
         of-kind (λ (j : Kind). Count (λ (b : ℕ). ¬ (b ≡ undefined j)) (s .residues .read) n → n < fewest j → ⊥)
         (λ c h. omega (arith, h, r .enough, count-once c (r .counted))) j i c h
 
-    texts-kept : {n : ℕ} {p : P} → ¬ InTexts s n p
+    texts-kept : {plus : P → ℕ → P} {n : ℕ} {p : P} → ¬ TextsBy plus s n p
     texts-kept (rule-16 h) = h k (r .is)
     texts-kept (rule-17 h) = h (r .division)
     texts-kept (residues h) = residues-kept h
@@ -106,7 +106,7 @@ module _ {P : Type 0} where
     judged : {d : Kind} → Number k (s .number .read) → Right d s → Kept k s
     skipped : Number k (s .number .read) → Skipped s → Empty s → Kept k s
 
-  sequence-kept : {k : ℕ} {s : Sequence P} {n : ℕ} {p : P} → Kept k s → ¬ InSequence k s n p
+  sequence-kept : {plus : P → ℕ → P} {k : ℕ} {s : Sequence P} {n : ℕ} {p : P} → Kept k s → ¬ SequenceBy plus k s n p
   sequence-kept (judged d r) (rule-15 h) = h d
   sequence-kept (judged d r) (texts u h) = texts-kept r h
   sequence-kept (judged d r) (table u h) = table-kept r h
@@ -132,8 +132,8 @@ module _ {P : Type 0} where
   header-kept {l} k (rule-13 t i h) = h (every _ (languages l) (k .spoken) t i)
 
   -- whoever keeps them breaks none
-  pub keeps-all : {l : Listing P} {n : ℕ} {p : P} → Keeps l → ¬ Broken l n p
+  pub keeps-all : {plus : P → ℕ → P} {l : Listing P} {n : ℕ} {p : P} → Keeps l → ¬ BrokenBy plus l n p
   keeps-all k (header h) = header-kept k h
   keeps-all k (rule-14 h) = h (k .total)
-  keeps-all {l} {n} {p} k (sequence m s i h) =
-      sequence-kept (each-at (λ (i : ℕ). Kept (suc i)) (l .sequences) (k .sequences) (i .0) s (i .2)) (subst (λ (m : ℕ). InSequence m s n p) (i .1) h)
+  keeps-all {plus} {l} {n} {p} k (sequence m s i h) =
+      sequence-kept (each-at (λ (i : ℕ). Kept (suc i)) (l .sequences) (k .sequences) (i .0) s (i .2)) (subst (λ (m : ℕ). SequenceBy plus m s n p) (i .1) h)

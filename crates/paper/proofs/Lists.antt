@@ -2,9 +2,10 @@
 use Prim.Native.Nat.{ℕ, zero, suc, _+_, _<_}
 use native.Mathlib.Omega.{arith}
 use mathlib.Core.Path.{_≡_, refl, sym, ap, _∙_, subst}
+use mathlib.Core.Logic.{_⊎_, inl, inr}
 use mathlib.Core.List.{List, [], _∷_, _++_, map}
 use lib.ListN.{length}
-use Rattle.paper.specs.Lists.{Nth, _∈_, Numbered, Count, end, has, lacks}
+use Rattle.paper.specs.Lists.{Nth, _∈_, Numbered, Count, end, has, lacks, gather}
 
 pub nth-once : {A : Type 0} (l : List A) (i : ℕ) (x y : A) → Nth l i x → Nth l i y → x ≡ y
 nth-once [] i x y h k = absurd h
@@ -89,3 +90,33 @@ module _ {A B : Type 0} (f : A → B) where
   pub map-append : (l k : List A) → map f (l ++ k) ≡ map f l ++ map f k
   map-append [] k = refl
   map-append (x ∷ l) k = ap (_∷_ (f x)) (map-append l k)
+
+-- ---- elements of lists put together
+
+-- an element of two lists together is of one of them
+pub of-append : {A : Type 0} (l k : List A) (x : A) → x ∈ (l ++ k) → (x ∈ l) ⊎ (x ∈ k)
+of-append [] k x m = inr m
+of-append (y ∷ l) k x (zero, n) = inl (0, n)
+of-append (y ∷ l) k x (suc i, n) = up (of-append l k x (i, n))
+  where
+    up : (x ∈ l) ⊎ (x ∈ k) → (x ∈ (y ∷ l)) ⊎ (x ∈ k)
+    up (inl m) = inl (suc (m .0), m .1)
+    up (inr m) = inr m
+
+module _ {A : Type 0} where
+  pub in-first : (l k : List A) (x : A) → x ∈ l → x ∈ (l ++ k)
+  in-first [] k x m = absurd (m .1)
+  in-first (y ∷ l) k x (zero, n) = (0, n)
+  in-first (y ∷ l) k x (suc i, n) = let m = in-first l k x (i, n) in (suc (m .0), m .1)
+
+  pub in-second : (l k : List A) (x : A) → x ∈ k → x ∈ (l ++ k)
+  in-second [] k x m = m
+  in-second (y ∷ l) k x m = let n = in-second l k x m in (suc (n .0), n .1)
+
+  pub in-gather : {B : Type 0} (f : B → List A) (l : List B) (b : B) → b ∈ l → (x : A) → x ∈ f b → x ∈ gather f l
+  in-gather f [] b m x h = absurd (m .1)
+  in-gather {B} f (c ∷ l) b (zero, n) x h = in-first (f c) (gather f l) x (subst (λ (d : B). x ∈ f d) n h)
+  in-gather f (c ∷ l) b (suc i, n) x h = in-second (f c) (gather f l) x (in-gather f l b (i, n) x h)
+
+  pub number-in : (l : List A) (k : ℕ) (x : A) → Numbered l k x → x ∈ l
+  number-in l k x n = (n .0, n .2)

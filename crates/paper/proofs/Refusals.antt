@@ -5,7 +5,7 @@ use mathlib.Core.Path.{_≡_, refl}
 use mathlib.Core.Logic.{inl, inr}
 use mathlib.Core.List.{List}
 use Rattle.paper.specs.Tree.{Sequence, Feature, Listing}
-use Rattle.paper.specs.Rules.{Broken, header, rule-14, sequence, InHeader, InResidues, InTexts, InSource, InLocation, InCoding, InTable, InSequence}
+use Rattle.paper.specs.Rules.{Broken, header, rule-14, sequence, InHeader, ResiduesBy, TextsBy, InTexts, InSource, InLocation, InCoding, InTable, SequenceBy, InSequence}
 use Rattle.paper.specs.Answers.{Outcome, refuse, give, Checked, FindsSequence, FindsFeature, FindsQualifier, FindsLocation, FindsTranslation, FindsTranslations, Translates, Lent}
 use Rattle.paper.specs.Demands.{Refusal, AnswerOrRefusal}
 
@@ -19,11 +19,11 @@ broken-value (rule-14 h) = (omega arith, omega arith)
 broken-value (sequence k q i h) = in-sequence h
   where
     in-texts : {q : Sequence ℕ} {n p : ℕ} → InTexts q n p → (10 ≤ n) × (n ≤ 29)
-    in-texts (InTexts.rule-16 h) = (omega arith, omega arith)
-    in-texts (InTexts.rule-17 h) = (omega arith, omega arith)
-    in-texts (InTexts.residues (InResidues.rule-18 k i h)) = (omega arith, omega arith)
-    in-texts (InTexts.residues (InResidues.rule-19 k i m c h)) = (omega arith, omega arith)
-    in-texts (InTexts.rule-20 h) = (omega arith, omega arith)
+    in-texts (TextsBy.rule-16 h) = (omega arith, omega arith)
+    in-texts (TextsBy.rule-17 h) = (omega arith, omega arith)
+    in-texts (TextsBy.residues (ResiduesBy.rule-18 k i h)) = (omega arith, omega arith)
+    in-texts (TextsBy.residues (ResiduesBy.rule-19 k i m c h)) = (omega arith, omega arith)
+    in-texts (TextsBy.rule-20 h) = (omega arith, omega arith)
 
     in-table : {q : Sequence ℕ} {n p : ℕ} → InTable q n p → (10 ≤ n) × (n ≤ 29)
     in-table (InTable.rule-21 k i h) = (omega arith, omega arith)
@@ -36,10 +36,10 @@ broken-value (sequence k q i h) = in-sequence h
     in-table (InTable.feature f m (inr (InCoding.rule-28 x j y i t h))) = (omega arith, omega arith)
 
     in-sequence : {k : ℕ} {q : Sequence ℕ} {n p : ℕ} → InSequence k q n p → (10 ≤ n) × (n ≤ 29)
-    in-sequence (InSequence.rule-15 h) = (omega arith, omega arith)
-    in-sequence (InSequence.texts u h) = in-texts h
-    in-sequence (InSequence.table u h) = in-table h
-    in-sequence (InSequence.rule-29 u h) = (omega arith, omega arith)
+    in-sequence (SequenceBy.rule-15 h) = (omega arith, omega arith)
+    in-sequence (SequenceBy.texts u h) = in-texts h
+    in-sequence (SequenceBy.table u h) = in-table h
+    in-sequence (SequenceBy.rule-29 u h) = (omega arith, omega arith)
 
 pub checked : {w : List ℕ} {n p : ℕ} → Checked w (refuse n p) → Refusal n p
 checked (Checked.too-long h) = Refusal.too-long

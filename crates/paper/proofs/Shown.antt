@@ -14,6 +14,7 @@ use Rattle.paper.specs.Lists.{_∈_, gather, present}
 use Rattle.paper.specs.Tree.{Text, Spoken, Party, Identification, Heading, reference, application, Qualifier, Feature, Table, Sequence, Listing, featuresIn, listed, spokenTexts, partyTexts, identificationTexts, headingTexts, qualifierTexts, featureTexts, sequenceTexts, attributeTexts, partiesTexts, textsOf}
 use Rattle.paper.specs.Layout.{blanks, gap, text, tag, close, attribute, content, leaf, spoken, child, child?, holding, holding?, identification, heading, party, qualifier, quals, feature, table, otherIds, inner, sequence, attributes, parties, root, doctype, LaidOut}
 use Rattle.paper.specs.Demands.{StatedStretch}
+use Rattle.paper.proofs.Lists.{of-append}
 
 -- the text t stands in the bytes w, which stand at `at`
 record Standing (t : Text ℕ) (at : ℕ) (w : List ℕ) : Type 0 where
@@ -42,16 +43,6 @@ module _ {t : Text ℕ} {at : ℕ} where
         is = ap (_++_ u) (s .is) ∙ sym (append-assoc u (s .before) (raw (t .read) ++ s .behind));
         place = s .place ∙ omega (arith, length-append u (s .before));
       }
-
--- an element of two lists together is of one of them
-of-append : {A : Type 0} (l k : List A) (x : A) → x ∈ (l ++ k) → (x ∈ l) ⊎ (x ∈ k)
-of-append [] k x m = inr m
-of-append (y ∷ l) k x (zero, n) = inl (0, n)
-of-append (y ∷ l) k x (suc i, n) = up (of-append l k x (i, n))
-  where
-    up : (x ∈ l) ⊎ (x ∈ k) → (x ∈ (y ∷ l)) ⊎ (x ∈ k)
-    up (inl m) = inl (suc (m .0), m .1)
-    up (inr m) = inr m
 
 -- ---- forms
 

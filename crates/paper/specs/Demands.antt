@@ -12,7 +12,7 @@ use Rattle.paper.specs.Lists.{_∈_}
 use Rattle.paper.specs.Tree.{Text, Feature, Sequence, Listing, Bare, textsOf, featuresOf}
 use Rattle.paper.specs.Layout.{LaidOut, Writes}
 use Rattle.paper.specs.Locations.{Location, Locates, Span, spans}
-use Rattle.paper.specs.Rules.{L, Broken}
+use Rattle.paper.specs.Rules.{L, Breaks}
 use Rattle.paper.specs.Answers.{limit, give, Checked, CheckSays, Part, shown, noPart, partOf, SequenceSays, FeatureSays, QualifierSays, SpansSays, TranslationSays, TranslationsSays}
 use Rattle.paper.specs.declared.Verdict.{Verdict}
 use Rattle.paper.specs.declared.Verdict.the-variants.{Accepted, Refused}
@@ -94,7 +94,7 @@ pub record Good (w : List ℕ) : Type 0 where
   pub short : length w ≤ limit
   pub bare : Bare
   pub writes : Writes bare w
-  pub keeps : (n : ℕ) → ¬ Broken bare n tt
+  pub keeps : (n : ℕ) → ¬ Breaks bare n
 
 pub record Demand3 : Type 0 where
   -- "They are accepted exactly when 01's layout writes them from some listing whose values break none of rules 10 to 29, .."
