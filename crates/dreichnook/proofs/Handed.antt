@@ -18,7 +18,7 @@ use Rattle.paper.proofs.Demands.{demand1, demand2}
 use Rattle.paper.proofs.Refusals.{refusal-most, ends-most}
 use Rattle.dreichnook.proofs.Operators.{operator-most}
 
-stays : {n r : ℕ} → Narrow n r → n ≤ 37 → n ≡ r
+stays : {n r : ℕ} → Narrow n r → n ≤ 99 → n ≡ r
 stays h l = sym (h .says (omega (arith, l)))
 
 module _ {w : List ℕ} where

@@ -10,7 +10,7 @@ number-most (one m) = omega arith
 number-most (many c join l) = omega arith
 number-most (many c order l) = omega arith
 
-pub operator-most : {w : List ℕ} {k j : ℕ} {out after : List ℕ} {n p o c : ℕ} → SpansSays w k j out n p o c after → o ≤ 37
+pub operator-most : {w : List ℕ} {k j : ℕ} {out after : List ℕ} {n p o c : ℕ} → SpansSays w k j out n p o c after → o ≤ 99
 operator-most (SpansSays.refused c) = omega arith
 operator-most (SpansSays.short c l) = omega arith
 operator-most (SpansSays.found {t = t} c l) = omega (arith, number-most t)

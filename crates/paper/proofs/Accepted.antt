@@ -5,9 +5,10 @@ use Prim.Native.String.{String}
 use native.Mathlib.Omega.{arith}
 use mathlib.Core.Path.{_≡_, refl, sym, ap, _∙_, subst}
 use mathlib.Core.Bool.{Bool, true, false, true≢false}
+use mathlib.Core.Logic.{inl, inr}
 use mathlib.Core.List.{List, [], _∷_, _++_, map}
 use lib.ListN.{length}
-use Rattle.paper.specs.Bytes.{bytes, among, all}
+use Rattle.paper.specs.Bytes.{bytes, among, all, same}
 use Rattle.paper.specs.Lists.{_∈_, Count, end, has, lacks, gather}
 use Rattle.paper.specs.Tree.{Qualifier, Feature, Sequence, Listing, markSequence, forget, qualifiersOf}
 use Rattle.paper.specs.Layout.{child, table, sequence, document, LaidOut}
@@ -18,7 +19,7 @@ use Rattle.paper.specs.Answers.{limit, Counts, CheckSays, accepted}
 use Rattle.paper.specs.declared.Verdict.the-variants.{Accepted}
 use Rattle.paper.proofs.Lists.{every, in-map}
 use Rattle.paper.proofs.Forms.{Evers, evs-maybe}
-use Rattle.paper.proofs.Texts.{same, apart}
+use Rattle.paper.proofs.Texts.{apart}
 use Rattle.paper.proofs.Decimal.{decimal-number}
 use Rattle.paper.proofs.Locate.{locate-sound, locates-once}
 use Rattle.paper.proofs.Marks.{bare-exactly}
@@ -205,6 +206,13 @@ nucleotides-right =
         record {
           located = record { location = _; is = twelve; inside = refl; acid = λ a. absurd (apart refl a) };
           coded = λ e. absurd (apart refl e);
+          worded =
+              record {
+                row = _;
+                is = record { member = (36, refl); keyed = refl };
+                allowed = (inl (0, refl), (inl (1, refl), tt));
+                required = ((_, (0, refl), refl), ((_, (1, refl), refl), tt));
+              };
         },
         (
           record {
@@ -222,6 +230,7 @@ nucleotides-right =
                   };
               translated = ((λ e. (refl, refl)), tt);
             };
+            worded = record { row = _; is = record { member = (1, refl); keyed = refl }; allowed = (inr (18, refl), tt); required = tt };
           },
           tt,
         ),
@@ -245,7 +254,17 @@ acids-right =
         tt,
       );
       features = (
-        record { located = record { location = _; is = four; inside = refl; acid = λ a. refl }; coded = λ e. absurd (apart refl e) },
+        record {
+          located = record { location = _; is = four; inside = refl; acid = λ a. refl };
+          coded = λ e. absurd (apart refl e);
+          worded =
+              record {
+                row = _;
+                is = record { member = (29, refl); keyed = refl };
+                allowed = (inl (1, refl), (inl (0, refl), tt));
+                required = ((_, (1, refl), refl), ((_, (0, refl), refl), tt));
+              };
+        },
         tt,
       );
     }

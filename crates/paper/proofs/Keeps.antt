@@ -1,22 +1,24 @@
 -- The rules as they are kept: what each asks, said of a listing that has it. A listing that keeps them all breaks none.
 use Prim.Native.Nat.{ℕ, suc, _≤_, _<_}
 use native.Mathlib.Omega.{arith}
-use mathlib.Core.Path.{_≡_, sym, ap, _∙_, subst}
+use mathlib.Core.Path.{_≡_, refl, sym, ap, _∙_, subst, subst₂}
 use mathlib.Core.Bool.{false, true≢false}
 use mathlib.Core.Logic.{inl, inr}
 use mathlib.Core.List.{List}
 use mathlib.Core.Option.{some}
 use lib.ListN.{length}
 use Rattle.paper.specs.Bytes.{bytes, all}
-use Rattle.paper.specs.Lists.{Count}
+use Rattle.paper.specs.Lists.{_∈_, Count}
 use Rattle.paper.specs.Tree.{Text, Qualifier, Feature, Sequence, Listing, featuresOf, qualifiersOf}
 use Rattle.paper.specs.Values.{Number, Date, Two, isUpper, isLower}
 use Rattle.paper.specs.Locations.{Location, Locates, breaks25, hasComplement}
 use Rattle.paper.specs.Translation.{dropStop, hasStopInside}
-use Rattle.paper.specs.Rules.{L, Skipped, Kind, aa, IsKind, isSymbol, undefined, fewest, Keyed, Named, upperIn, sourceName, organismName, molTypeName, OneSource, Whole, valueRead, Codons, dates, offices, languages, InHeader, ResiduesBy, TextsBy, InSource, InLocation, InCoding, InFeature, InTable, Empty, SequenceBy, BrokenBy, header, sequence, residues, texts, table, source, feature, rule-10, rule-11, rule-12, rule-13, rule-14, rule-15, rule-16, rule-17, rule-18, rule-19, rule-20, rule-21, rule-22, rule-23, rule-24, rule-25, rule-26, rule-27, rule-28, rule-29}
+use Rattle.paper.specs.Vocabulary.{Row, counted}
+use Rattle.paper.specs.Rules.{L, Skipped, Kind, aa, IsKind, isSymbol, undefined, fewest, Keyed, Named, upperIn, sourceName, organismName, molTypeName, OneSource, Whole, valueRead, Codons, dates, offices, languages, InHeader, ResiduesBy, TextsBy, InSource, InLocation, InCoding, CountsAs, RowOf, Allows, InVocabulary, InFeature, InTable, Empty, SequenceBy, BrokenBy, header, sequence, residues, texts, table, source, feature, rule-10, rule-11, rule-12, rule-13, rule-14, rule-15, rule-16, rule-17, rule-18, rule-19, rule-20, rule-21, rule-22, rule-23, rule-24, rule-25, rule-26, rule-27, rule-28, rule-29, rule-40, rule-41, rule-42}
 use Rattle.paper.proofs.Lists.{EachAt, each-at, Every, every, count-once}
 use Rattle.paper.proofs.Locate.{locates-once}
 use Rattle.paper.proofs.Once.{codons-once, kind-once}
+use Rattle.paper.proofs.Words.{row-once}
 
 module _ {P : Type 0} where
   -- 24 to 26
@@ -44,14 +46,36 @@ module _ {P : Type 0} where
       h (subst (λ (x : List ℕ). (valueRead q ≡ some (dropStop x)) × (hasStopInside x ≡ false)) (codons-once (c .codons) (j .codons))
       (every _ (qualifiersOf f) (c .translated) q i e))
 
-  -- 24 to 28
-  pub record Featured (s : Sequence P) (f : Feature P) : Type 0 where
+  -- 40 to 42, of a sequence of the kind k
+  pub record Worded (k : Kind) (f : Feature P) : Type 0 where
+    pub row : Row
+    pub is : RowOf k (f .key .read) row
+    pub allowed : Every (λ (q : Qualifier P). Allows row (counted (upperIn k) (q .name .read))) (qualifiersOf f)
+    pub required : Every (λ (w : List ℕ). (q : Qualifier P) × q ∈ qualifiersOf f × CountsAs k (q .name .read) w) (row .required)
+
+  worded-kept : {k : Kind} {s : Sequence P} {f : Feature P} {n : ℕ} {p : P} → IsKind k s → Worded k f → ¬ InVocabulary s f n p
+  worded-kept {k} {s} {f} i x (rule-40 j o h) = h (x .row) (subst (λ (j : Kind). RowOf j (f .key .read) (x .row)) (kind-once s k j i o) (x .is))
+  worded-kept {k} {s} {f} i x (rule-41 j o r m q e h) =
+      let same = kind-once s k j i o in
+      let row = row-once k (f .key .read) (x .row) r (x .is) (subst (λ (j : Kind). RowOf j (f .key .read) r) (sym same) m) in
+      h (counted (upperIn j) (q .name .read)) refl
+      (subst₂ (λ (j : Kind) (r : Row). Allows r (counted (upperIn j) (q .name .read))) same row (every _ (qualifiersOf f) (x .allowed) q e))
+  worded-kept {k} {s} {f} i x (rule-42 j o r m w e h) =
+      let same = kind-once s k j i o in
+      let row = row-once k (f .key .read) (x .row) r (x .is) (subst (λ (j : Kind). RowOf j (f .key .read) r) (sym same) m) in
+      let q = every _ (x .row .required) (x .required) w (subst (λ (r : Row). w ∈ r .required) (sym row) e) in
+      h (q .0) (q .1) (subst (λ (j : Kind). CountsAs j (q .0 .name .read) w) same (q .2))
+
+  -- 24 to 28, 40 to 42
+  pub record Featured (k : Kind) (s : Sequence P) (f : Feature P) : Type 0 where
     pub located : Located s (f .location)
     pub coded : Keyed "CDS" f → Coded s f
+    pub worded : Worded k f
 
-  featured-kept : {s : Sequence P} {f : Feature P} {n : ℕ} {p : P} → Featured s f → ¬ InFeature s f n p
-  featured-kept k (inl h) = located-kept (k .located) h
-  featured-kept k (inr h) = coded-kept (k .coded) h
+  featured-kept : {k : Kind} {s : Sequence P} {f : Feature P} {n : ℕ} {p : P} → IsKind k s → Featured k s f → ¬ InFeature s f n p
+  featured-kept i k (inl h) = located-kept (k .located) h
+  featured-kept i k (inr (inl h)) = coded-kept (k .coded) h
+  featured-kept i k (inr (inr h)) = worded-kept i (k .worded) h
 
   -- 22 and 23
   pub record Sourced (k : Kind) (s : Sequence P) (f : Feature P) : Type 0 where
@@ -63,7 +87,7 @@ module _ {P : Type 0} where
   sourced-kept k (rule-22 h) = h (k .organism, k .molType)
   sourced-kept k (rule-23 h) = h (k .whole)
 
-  -- 16 to 28, of a sequence of the kind k that isn't skipped
+  -- 16 to 28 and 40 to 42, of a sequence of the kind k that isn't skipped
   pub record Right (k : Kind) (s : Sequence P) : Type 0 where
     pub is : IsKind k s
     pub there : ¬ Skipped s
@@ -75,7 +99,7 @@ module _ {P : Type 0} where
     pub declared : Number (L s) (s .declared .read)
     pub one : OneSource (upperIn k) s
     pub sources : Every (λ (f : Feature P). Keyed (sourceName (upperIn k)) f → Sourced k s f) (featuresOf s)
-    pub features : Every (Featured s) (featuresOf s)
+    pub features : Every (Featured k s) (featuresOf s)
 
   module _ {k : Kind} {s : Sequence P} (r : Right k s) where
     -- whichever kind it is of, it is this one
@@ -99,9 +123,9 @@ module _ {P : Type 0} where
     table-kept {n} {p} (source j i f o h) =
         of-kind (λ (j : Kind). Keyed (sourceName (upperIn j)) f → InSource (upperIn j) s f n p → ⊥)
         (λ e h. sourced-kept (every _ (featuresOf s) (r .sources) f (o .member) e) h) j i (o .keyed) h
-    table-kept (feature f i h) = featured-kept (every (Featured s) (featuresOf s) (r .features) f i) h
+    table-kept (feature f i h) = featured-kept (r .is) (every (Featured k s) (featuresOf s) (r .features) f i) h
 
-  -- 15 to 29, of the k-th sequence
+  -- 15 to 29 and 40 to 42, of the k-th sequence
   pub data Kept (k : ℕ) (s : Sequence P) : Type 0 where
     judged : {d : Kind} → Number k (s .number .read) → Right d s → Kept k s
     skipped : Number k (s .number .read) → Skipped s → Empty s → Kept k s
@@ -116,7 +140,7 @@ module _ {P : Type 0} where
   sequence-kept (skipped d u e) (table v h) = v u
   sequence-kept (skipped d u e) (rule-29 v h) = h e
 
-  -- 10 to 29
+  -- 10 to 29 and 40 to 42
   pub record Keeps (l : Listing P) : Type 0 where
     pub version : l .dtdVersion .read ≡ bytes "1_2"
     pub dated : Every (λ (t : Text P). Date (t .read)) (dates l)

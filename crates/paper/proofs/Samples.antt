@@ -8,11 +8,11 @@ use mathlib.Core.List.{List, [], _∷_}
 use mathlib.Core.Option.{Option, none, some}
 use lib.ListN.{length}
 use borrow.Author.Tests.{not-true}
-use Rattle.paper.specs.Bytes.{bytes}
+use Rattle.paper.specs.Bytes.{bytes, same}
 use Rattle.paper.specs.Locations.{Location, Locates, spans, breaks25}
 use Rattle.paper.specs.Translation.{code1, codingText, codonsFrom, letters, dropStop, hasStopInside}
 use Rattle.paper.proofs.Lists.{Every}
-use Rattle.paper.proofs.Texts.{same, same-is}
+use Rattle.paper.proofs.Texts.{same-is}
 use Rattle.paper.proofs.Locate.{locate-sound, locate-complete}
 use Rattle.paper.proofs.Locate.Model.{locate}
 

@@ -7,16 +7,9 @@ use mathlib.Core.List.{List, [], _∷_, _++_, append-assoc, cons≢nil}
 use lib.ListN.{getD, drop}
 use lib.Dec.{eqb}
 use borrow.Author.Tests.{eqb-true, eq-eqb}
-use Rattle.paper.specs.Bytes.{bytes, spell, raw, all}
+use Rattle.paper.specs.Bytes.{bytes, same, spell, raw, all}
 use Rattle.paper.specs.Tree.{Text}
 use Rattle.paper.specs.Layout.{text}
-
--- a test that two texts are one
-abbrev pub same : List ℕ → List ℕ → Bool
-same [] [] = true
-same [] (b ∷ w) = false
-same (a ∷ v) [] = false
-same (a ∷ v) (b ∷ w) = eqb a b && same v w
 
 pub same-is : (v w : List ℕ) → same v w ≡ true → v ≡ w
 same-is [] [] e = refl
@@ -28,7 +21,7 @@ same-is (a ∷ v) (b ∷ w) e =
     let t = same-is v w (k .1) in
     λ i. h i ∷ t i
 
-same-self : (w : List ℕ) → same w w ≡ true
+pub same-self : (w : List ℕ) → same w w ≡ true
 same-self [] = refl
 same-self (b ∷ w) = rw (eq-eqb b b refl, same-self w)
 

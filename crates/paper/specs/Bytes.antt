@@ -12,6 +12,13 @@ abbrev pub bytes : String → List ℕ
 bytes end = []
 bytes (_then_ c s) = code c ∷ bytes s
 
+-- two texts are one
+abbrev pub same : List ℕ → List ℕ → Bool
+same [] [] = true
+same [] (b ∷ w) = false
+same (a ∷ v) [] = false
+same (a ∷ v) (b ∷ w) = eqb a b && same v w
+
 -- b is one of these
 abbrev pub among : List ℕ → ℕ → Bool
 among [] b = false

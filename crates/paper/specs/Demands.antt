@@ -27,6 +27,8 @@ pub data Refusal : (number place : ℕ) → Type 0 where
   not-laid-out : {p : ℕ} → Refusal 2 p
   -- the value rules, at the place of a text or tag
   value : {n p : ℕ} → 10 ≤ n → n ≤ 29 → Refusal n p
+  -- "Every refusal number that a request adds counts as one of 01's." (02): 40 to 42 "carry their place as 10 to 29 do"
+  vocabulary : {n p : ℕ} → 40 ≤ n → n ≤ 42 → Refusal n p
   -- "30 no such sequence; .. 37 stop inside"
   lookup : {n : ℕ} → 30 ≤ n → n ≤ 37 → Refusal n 0
 
@@ -89,7 +91,8 @@ pub record IsAccepted (r : Verdict) : Type 0 where
   pub unjudged : ℕ
   pub is : r ≡ Accepted total skipped features judged unjudged
 
--- "bytes, at most 16,777,216 of them", that "01's layout writes .. from some listing whose values break none of rules 10 to 29"
+-- "bytes, at most 16,777,216 of them", that "01's layout writes .. from some listing whose values break none of rules 10 to 29"; with 02's
+-- request 1 "demand 3 then reads rules 10 to 29 and 40 to 42"
 pub record Good (w : List ℕ) : Type 0 where
   pub short : length w ≤ limit
   pub bare : Bare
@@ -97,7 +100,7 @@ pub record Good (w : List ℕ) : Type 0 where
   pub keeps : (n : ℕ) → ¬ Breaks bare n
 
 pub record Demand3 : Type 0 where
-  -- "They are accepted exactly when 01's layout writes them from some listing whose values break none of rules 10 to 29, .."
+  -- "They are accepted exactly when 01's layout writes them from some listing whose values break none of rules 10 to 29 [and 40 to 42], .."
   pub exactly : (w : List ℕ) (r : Verdict) → CheckSays w r → IsAccepted r ↔ Good w
   -- ".. and then no other listing is written by those bytes."
   pub no-other : (w : List ℕ) (a b : Bare) → Writes a w → Writes b w → a ≡ b

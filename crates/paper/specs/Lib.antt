@@ -6,6 +6,7 @@ pub mod Layout
 pub mod Values
 pub mod Locations
 pub mod Translation
+pub mod Vocabulary
 pub mod Rules
 pub mod Answers
 pub mod Demands

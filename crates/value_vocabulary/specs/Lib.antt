@@ -1,0 +1,3 @@
+-- What the crate's promises cite.
+pub mod Tables
+pub mod Lookups
