@@ -1,13 +1,14 @@
--- The vocabulary: a text that is one of some texts; and a key has one row.
+-- The vocabulary: a text that is one of some texts; a key has one row; its names are those of section 6.
 use Prim.Native.Nat.{ℕ, zero, suc}
 use mathlib.Core.Path.{_≡_, refl, sym, ap, _∙_, subst}
 use mathlib.Core.Bool.{Bool, true, false, _&&_, _||_, not, true≢false, and-eq-true-iff}
-use mathlib.Core.List.{List, [], _∷_, map}
+use mathlib.Core.Logic.{inl, inr}
+use mathlib.Core.List.{List, [], _∷_, _++_, map}
 use Rattle.paper.specs.Bytes.{same}
 use Rattle.paper.specs.Lists.{_∈_}
-use Rattle.paper.specs.Vocabulary.{Row, isOneOf}
-use Rattle.paper.specs.Rules.{Kind, dna, rna, aa, vocabulary, RowOf}
-use Rattle.paper.proofs.Lists.{in-map}
+use Rattle.paper.specs.Vocabulary.{Row, nucleotideNames, isOneOf}
+use Rattle.paper.specs.Rules.{Kind, dna, rna, aa, vocabulary, RowOf, Allows}
+use Rattle.paper.proofs.Lists.{in-map, in-first, in-second}
 use Rattle.paper.proofs.Texts.{same-is, same-self}
 
 pub one-in : (l : List (List ℕ)) (v : List ℕ) → isOneOf l v ≡ true → v ∈ l
@@ -67,3 +68,36 @@ keys-distinct aa = refl
 
 pub row-once : (k : Kind) (v : List ℕ) (r s : Row) → RowOf k v r → RowOf k v s → r ≡ s
 row-once k v r s a b = one-row (vocabulary k) (keys-distinct k) r s (a .member) (b .member) (sym (a .keyed) ∙ b .keyed)
+
+-- ---- the names of a row are those of section 6
+
+abbrev namesKnown : List (List ℕ) → Bool
+namesKnown [] = true
+namesKnown (w ∷ l) = isOneOf nucleotideNames w && namesKnown l
+
+abbrev rowsKnown : List Row → Bool
+rowsKnown [] = true
+rowsKnown (r ∷ l) = namesKnown (r .required ++ r .optional) && rowsKnown l
+
+known-name : (l : List (List ℕ)) → namesKnown l ≡ true → (w : List ℕ) → w ∈ l → w ∈ nucleotideNames
+known-name [] e w m = absurd (m .1)
+known-name (v ∷ l) e w (zero, m) = subst (λ (x : List ℕ). x ∈ nucleotideNames) (sym m) (one-in nucleotideNames v (and-eq-true-iff (isOneOf nucleotideNames v) (namesKnown l) .0 e .0))
+known-name (v ∷ l) e w (suc i, m) = known-name l (and-eq-true-iff (isOneOf nucleotideNames v) (namesKnown l) .0 e .1) w (i, m)
+
+known-row : (l : List Row) → rowsKnown l ≡ true → (r : Row) → r ∈ l → namesKnown (r .required ++ r .optional) ≡ true
+known-row [] e r m = absurd (m .1)
+known-row (x ∷ l) e r (zero, m) =
+    subst (λ (r : Row). namesKnown (r .required ++ r .optional) ≡ true) (sym m) (and-eq-true-iff (namesKnown (x .required ++ x .optional)) (rowsKnown l) .0 e .0)
+known-row (x ∷ l) e r (suc i, m) = known-row l (and-eq-true-iff (namesKnown (x .required ++ x .optional)) (rowsKnown l) .0 e .1) r (i, m)
+
+rows-known : (k : Kind) → rowsKnown (vocabulary k) ≡ true
+rows-known dna = refl
+rows-known rna = refl
+rows-known aa = refl
+
+pub row-named : (k : Kind) (r : Row) → r ∈ vocabulary k → (w : List ℕ) → Allows r w → w ∈ nucleotideNames
+row-named k r m w a = known-name (r .required ++ r .optional) (known-row (vocabulary k) (rows-known k) r m) w (go a)
+  where
+    go : Allows r w → w ∈ (r .required ++ r .optional)
+    go (inl h) = in-first (r .required) (r .optional) w h
+    go (inr h) = in-second (r .required) (r .optional) w h

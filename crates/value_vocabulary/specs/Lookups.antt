@@ -1,5 +1,5 @@
 -- What is promised of a look-up: it holds of whichever text as read the raw part is written from.
-use Prim.Native.Nat.{ℕ, _≤_}
+use Prim.Native.Nat.{ℕ}
 use mathlib.Core.Path.{_≡_}
 use mathlib.Core.List.{List}
 use lib.ListN.{length}
@@ -8,7 +8,7 @@ use Rattle.paper.specs.Vocabulary.{Row, counted}
 use Rattle.paper.specs.Rules.{Kind, kindName, upperIn, RowOf}
 use Rattle.value_words.specs.Reading.{KindIs}
 use Rattle.value_words.specs.declared.Molecule.{Molecule}
-use Rattle.value_vocabulary.specs.Tables.{PlaceOf, nameTexts, standingOf, needsAt, standingAt}
+use Rattle.value_vocabulary.specs.Tables.{PlaceOf, nameTexts, standingOf, needsAt, standingAt, Few}
 
 -- the number of a qualifier's name
 pub record Numbers (w : List ℕ) (r : ℕ) : Type 0 where
@@ -18,7 +18,7 @@ pub record Numbers (w : List ℕ) (r : ℕ) : Type 0 where
 
 -- how each name that counts stands in the row, and how many are required: all that a rule asks
 pub record RowStands (k : Kind) (t : List ℕ) (row : ℕ) (r : Row) : Type 0 where
-  pub few : length (r .required) ≤ 2
+  pub few : Few (r .required)
   pub needs : needsAt t row ≡ length (r .required)
   pub stands : (v : List ℕ) (j : ℕ) → PlaceOf nameTexts v j → standingAt t row j ≡ standingOf r (counted (upperIn k) v)
 

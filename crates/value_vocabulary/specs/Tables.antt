@@ -30,6 +30,7 @@ startOf mask t k = pairOf t (mask + 1 + 2 * k)
 -- t has the texts l
 pub record Dictionary (factor mask : ℕ) (l : List (List ℕ)) (t : List ℕ) : Type 0 where
   pub few : length l ≤ 255
+  pub full : (i : ℕ) → i ≤ mask → byteOf t i < length l
   pub long : (k : ℕ) → k < length l → 2 ≤ length (getD l k [])
   pub slot : (k : ℕ) → k < length l → byteOf t (slotOf factor mask (getD l k [])) ≡ k
   pub size : (k : ℕ) → k < length l → startOf mask t (k + 1) ≡ startOf mask t k + length (getD l k [])
@@ -73,6 +74,13 @@ crumbAt t row name = byteOf t (row + 1 + name / 4) / 2 ^ (2 * (name % 4)) % 4
 -- how the name of a number stands
 abbrev pub standingAt : List ℕ → ℕ → ℕ → ℕ
 standingAt t row name = cond (ltb name 85) (cond (ltb row 65536) (crumbAt t row name) 0) 0
+
+-- no row requires three names, or one twice
+abbrev pub Few : List (List ℕ) → Type 0
+Few [] = Unit {0}
+Few (v ∷ []) = Unit {0}
+Few (v ∷ w ∷ []) = ¬ (w ≡ v)
+Few (v ∷ w ∷ x ∷ l) = ⊥
 
 -- at this place stands the row r, for names that count in upper case too or not
 pub record HasRow (upper : Bool) (t : List ℕ) (row : ℕ) (r : Row) : Type 0 where

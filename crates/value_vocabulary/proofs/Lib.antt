@@ -1,0 +1,4 @@
+-- Laws that the crate's proofs share.
+pub mod Right
+pub mod InRow
+pub mod Keyed

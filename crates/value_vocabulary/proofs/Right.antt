@@ -1,0 +1,163 @@
+-- The table's rule, from a few equations that antt computes over the whole table: one for each dictionary, one for the rows of each kind.
+use Prim.Native.Nat.{ℕ, zero, suc, _+_, _*_, _-_, _/_, _%_, _^_, _≤_, _<_}
+use native.Mathlib.Nat.{zero-div}
+use native.Mathlib.Omega.{arith}
+use mathlib.Core.Path.{_≡_, refl, sym, ap, _∙_, subst}
+use mathlib.Core.Bool.{Bool, true, false, true≢false, cond}
+use mathlib.Core.List.{List, [], _∷_, _++_, map, cons≢nil}
+use mathlib.Core.Option.{Option, none, some, Option·none-ne-some, Option·some-injective}
+use lib.ListN.{length, getD, take, drop, length-map, List·getD-map, List·getD-append}
+use lib.Seq.{getD-take, getD-drop}
+use lib.Dec.{eqb}
+use borrow.Author.Tests.{eqb-true, eqb-false}
+use Rattle.paper.specs.Bytes.{raw, same}
+use Rattle.paper.specs.Lists.{_∈_}
+use Rattle.paper.specs.Vocabulary.{Row, counted}
+use Rattle.paper.proofs.Tables.{listed, each-same, each-element}
+use Rattle.paper.proofs.Texts.{same-is, same-self}
+use Rattle.value_vocabulary.specs.Tables.{byteOf, pairOf, slotOf, startOf, Dictionary, nameTexts, standingOf, needsAt, crumbAt, HasRow, keyTexts, RowFor, Keys}
+
+-- ---- dictionaries
+
+-- what stands in the table for the text w of number k, and what should
+abbrev pub entryOf : (factor mask : ℕ) → List ℕ → ℕ → List ℕ → List ℕ
+entryOf factor mask t k w =
+    (2 - length w) ∷ byteOf t (slotOf factor mask w) ∷ startOf mask t (k + 1) ∷ take (length w) (drop (startOf mask t k) t)
+
+abbrev pub wantedOf : (mask : ℕ) → List ℕ → ℕ → List ℕ → List ℕ
+wantedOf mask t k w = 0 ∷ k ∷ (startOf mask t k + length w) ∷ w
+
+module _ (factor mask : ℕ) (l : List (List ℕ)) (t : List ℕ) where
+  abbrev pub EntriesTest : Type 0
+  EntriesTest =
+      listed (λ (k : ℕ). entryOf factor mask t k (getD l k [])) 0 (length l) ≡ listed (λ (k : ℕ). wantedOf mask t k (getD l k [])) 0 (length l)
+
+  abbrev pub SlotsTest : Type 0
+  SlotsTest = listed (λ (i : ℕ). byteOf t i + 1 - length l) 0 (mask + 1) ≡ listed (λ (i : ℕ). 0) 0 (mask + 1)
+
+  pub dictionary-right : length l ≤ 255 → SlotsTest → EntriesTest → Dictionary factor mask l t
+  dictionary-right few slots test =
+      record {
+        few = few;
+        full = λ i h. omega (arith, each-same (λ (i : ℕ). byteOf t i + 1 - length l) (λ (i : ℕ). 0) (mask + 1) slots i (omega (arith, h)));
+        long = λ k h. omega (arith, part 0 k h);
+        slot = part 1;
+        size = part 2;
+        text = λ k h. ap (λ (x : List ℕ). drop 3 x) (at k h);
+      }
+    where
+      at : (k : ℕ) → k < length l → entryOf factor mask t k (getD l k []) ≡ wantedOf mask t k (getD l k [])
+      at = each-same (λ (k : ℕ). entryOf factor mask t k (getD l k [])) (λ (k : ℕ). wantedOf mask t k (getD l k [])) (length l) test
+
+      part : (i k : ℕ) → k < length l → getD (entryOf factor mask t k (getD l k [])) i 0 ≡ getD (wantedOf mask t k (getD l k [])) i 0
+      part i k h = ap (λ (x : List ℕ). getD x i 0) (at k h)
+
+-- ---- the rows of the keys
+
+-- the row of a key
+abbrev pub firstRow : List Row → List ℕ → Option Row
+firstRow [] v = none
+firstRow (r ∷ l) v = cond (same v (r .key)) (some r) (firstRow l v)
+
+first-some : (l : List Row) (v : List ℕ) (r : Row) → firstRow l v ≡ some r → r ∈ l × (v ≡ r .key)
+first-some [] v r e = absurd (Option·none-ne-some r e)
+first-some (x ∷ l) v r e = go (same v (x .key)) refl e (λ h. first-some l v r h)
+  where
+    go : (b : Bool) → same v (x .key) ≡ b → cond b (some x) (firstRow l v) ≡ some r → (firstRow l v ≡ some r → r ∈ l × (v ≡ r .key)) → r ∈ (x ∷ l) × (v ≡ r .key)
+    go true p q f = let e = Option·some-injective x r q in ((0, sym e), same-is v (x .key) p ∙ ap (λ (r : Row). r .key) e)
+    go false p q f = let y = f q in ((suc (y .0 .0), y .0 .1), y .1)
+
+first-none : (l : List Row) (v : List ℕ) → firstRow l v ≡ none → (r : Row) → r ∈ l → ¬ (v ≡ r .key)
+first-none [] v e r m h = m .1
+first-none (x ∷ l) v e r m h = go (same v (x .key)) refl e m (λ q n. first-none l v q r n h)
+  where
+    go : (b : Bool) → same v (x .key) ≡ b → cond b (some x) (firstRow l v) ≡ none → r ∈ (x ∷ l) → (firstRow l v ≡ none → r ∈ l → ⊥) → ⊥
+    go true p q n f = Option·none-ne-some x (sym q)
+    go false p q (zero, n) f = true≢false (sym (ap (same v) (sym (h ∙ ap (λ (r : Row). r .key) n)) ∙ same-self v) ∙ p)
+    go false p q (suc i, n) f = f q (i, n)
+
+-- four names for each byte
+abbrev pub crumbsOf : List ℕ → List ℕ
+crumbsOf [] = []
+crumbsOf (b ∷ l) = b % 4 ∷ b / 4 % 4 ∷ b / 16 % 4 ∷ b / 64 % 4 ∷ crumbsOf l
+
+crumbs-at : (l : List ℕ) (j : ℕ) → getD (crumbsOf l) j 0 ≡ getD l (j / 4) 0 / 2 ^ (2 * (j % 4)) % 4
+crumbs-at [] j = ap (λ (n : ℕ). n % 4) (sym (zero-div (2 ^ (2 * (j % 4)))))
+crumbs-at (b ∷ l) zero = ap (λ (n : ℕ). n % 4) (omega arith)
+crumbs-at (b ∷ l) (suc zero) = refl
+crumbs-at (b ∷ l) (suc (suc zero)) = refl
+crumbs-at (b ∷ l) (suc (suc (suc zero))) = refl
+crumbs-at (b ∷ l) (suc (suc (suc (suc j)))) =
+    let h : suc (suc (suc (suc j))) / 4 ≡ suc (j / 4) = omega arith in
+    let k : suc (suc (suc (suc j))) % 4 ≡ j % 4 = omega arith in
+    crumbs-at l j ∙ (λ i. getD (b ∷ l) (sym h i) 0 / 2 ^ (2 * sym k i) % 4)
+
+crumb-here : (t : List ℕ) (row j : ℕ) → j < 85 → crumbAt t row j ≡ getD (crumbsOf (take 22 (drop (row + 1) t))) j 0
+crumb-here t row j h =
+    sym
+    (crumbs-at (take 22 (drop (row + 1) t)) j
+    ∙ ap (λ (n : ℕ). n / 2 ^ (2 * (j % 4)) % 4) (getD-take 22 (drop (row + 1) t) (j / 4) 0 (omega (arith, h)) ∙ getD-drop (row + 1) t (j / 4) 0))
+
+mapped : {A : Type 0} (f : A → ℕ) (l : List A) (j : ℕ) (d : A) → j < length l → getD (map f l) j 0 ≡ f (getD l j d)
+mapped f [] j d h = absurd (omega (arith, h))
+mapped f (x ∷ l) zero d h = refl
+mapped f (x ∷ l) (suc j) d h = mapped f l j d (omega (arith, h))
+
+name-here : (r : Row) (upper : Bool) (j : ℕ) → j < length nameTexts
+    → getD (map (standingOf r) (map (counted upper) nameTexts) ++ (0 ∷ 0 ∷ 0 ∷ [])) j 0 ≡ standingOf r (counted upper (getD nameTexts j []))
+name-here r upper j h =
+    let n = length-map nameTexts (counted upper) in
+    let m = length-map (map (counted upper) nameTexts) (standingOf r) in
+    List·getD-append (map (standingOf r) (map (counted upper) nameTexts)) (0 ∷ 0 ∷ 0 ∷ []) 0 j (subst (λ (k : ℕ). j < k) (sym (m ∙ n)) h)
+    ∙ mapped (standingOf r) (map (counted upper) nameTexts) j (counted upper []) (subst (λ (k : ℕ). j < k) (sym n) h)
+    ∙ ap (standingOf r) (List·getD-map (counted upper) nameTexts j [])
+
+-- what stands at the place of a row, nothing at 0; and what should stand there: the names, and three that are none
+abbrev pub rowShown : List ℕ → ℕ → List ℕ
+rowShown t row = cond (eqb row 0) [] ((row - 65535) ∷ needsAt t row ∷ crumbsOf (take 22 (drop (row + 1) t)))
+
+abbrev pub rowWanted : List (List ℕ) → Option Row → List ℕ
+rowWanted names none = []
+rowWanted names (some r) = 0 ∷ length (r .required) ∷ (map (standingOf r) names ++ (0 ∷ 0 ∷ 0 ∷ []))
+
+module _ (upper : Bool) (rows : List Row) (places : ℕ) (part t : List ℕ) where
+  abbrev pub RowsTest : Type 0
+  RowsTest =
+      listed (λ (k : ℕ). rowShown t (pairOf part (places + 2 * k))) 0 (length (keyTexts upper rows))
+      ≡ map (λ (v : List ℕ). rowWanted (map (counted upper) nameTexts) (firstRow rows (counted upper v))) (keyTexts upper rows)
+
+  row-for : (v : List ℕ) (row : ℕ) → rowShown t row ≡ rowWanted (map (counted upper) nameTexts) (firstRow rows (counted upper v)) → RowFor upper rows t v row
+  row-for v row e = go (firstRow rows (counted upper v)) refl (eqb row 0) refl e
+    where
+      go : (o : Option Row) → firstRow rows (counted upper v) ≡ o → (b : Bool) → eqb row 0 ≡ b
+          → cond b [] ((row - 65535) ∷ needsAt t row ∷ crumbsOf (take 22 (drop (row + 1) t))) ≡ rowWanted (map (counted upper) nameTexts) o → RowFor upper rows t v row
+      go none p true q h = record { known = λ n. absurd (n (eqb-true row 0 q)); unknown = λ z r m. first-none rows (counted upper v) p r m }
+      go none p false q h = absurd (cons≢nil h)
+      go (some r) p true q h = absurd (cons≢nil (sym h))
+      go (some r) p false q h =
+          let is = first-some rows (counted upper v) r p in
+          record {
+            known =
+                λ n. (
+                  r,
+                  is .0,
+                  is .1,
+                  record {
+                    near = let z : row - 65535 ≡ 0 = ap (λ (x : List ℕ). getD x 0 0) h in omega (arith, z);
+                    needs = ap (λ (x : List ℕ). getD x 1 0) h;
+                    stands = λ j i. crumb-here t row j i ∙ ap (λ (x : List ℕ). getD x (suc (suc j)) 0) h ∙ name-here r upper j i;
+                  },
+                );
+            unknown = λ z. absurd (eqb-false row 0 q z);
+          }
+
+  pub keys-right : (factor : ℕ) → Dictionary factor 127 (map raw (keyTexts upper rows)) part → RowsTest → Keys upper rows factor places part t
+  keys-right factor d test =
+      record {
+        texts = d;
+        placed =
+            λ k h.
+            row-for (getD (keyTexts upper rows) k []) (pairOf part (places + 2 * k))
+            (each-element (λ (k : ℕ). rowShown t (pairOf part (places + 2 * k))) (λ (v : List ℕ). rowWanted (map (counted upper) nameTexts) (firstRow rows (counted upper v)))
+            (keyTexts upper rows) [] (length (keyTexts upper rows)) test k h);
+      }
