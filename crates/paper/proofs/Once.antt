@@ -114,19 +114,19 @@ lines-once (Lines.translation a r) (Lines.translation b t) =
 
 -- ---- the calls
 
+pub name-once : (d e : Kind) → bytes (kindName d) ≡ bytes (kindName e) → d ≡ e
+name-once dna dna q = refl
+name-once dna rna q = absurd (let z : _≡_ {A = ℕ} 68 82 = cc in omega arith)
+name-once dna aa q = absurd (let z : _≡_ {A = ℕ} 68 65 = cc in omega arith)
+name-once rna dna q = absurd (let z : _≡_ {A = ℕ} 82 68 = cc in omega arith)
+name-once rna rna q = refl
+name-once rna aa q = absurd (let z : _≡_ {A = ℕ} 82 65 = cc in omega arith)
+name-once aa dna q = absurd (let z : _≡_ {A = ℕ} 65 68 = cc in omega arith)
+name-once aa rna q = absurd (let z : _≡_ {A = ℕ} 65 82 = cc in omega arith)
+name-once aa aa q = refl
+
 pub kind-once : {P : Type 0} (s : Sequence P) (d e : Kind) → IsKind d s → IsKind e s → d ≡ e
-kind-once s d e a b = go d e (sym a ∙ b)
-  where
-    go : (d e : Kind) → bytes (kindName d) ≡ bytes (kindName e) → d ≡ e
-    go dna dna q = refl
-    go dna rna q = absurd (let z : _≡_ {A = ℕ} 68 82 = cc in omega arith)
-    go dna aa q = absurd (let z : _≡_ {A = ℕ} 68 65 = cc in omega arith)
-    go rna dna q = absurd (let z : _≡_ {A = ℕ} 82 68 = cc in omega arith)
-    go rna rna q = refl
-    go rna aa q = absurd (let z : _≡_ {A = ℕ} 82 65 = cc in omega arith)
-    go aa dna q = absurd (let z : _≡_ {A = ℕ} 65 68 = cc in omega arith)
-    go aa rna q = absurd (let z : _≡_ {A = ℕ} 65 82 = cc in omega arith)
-    go aa aa q = refl
+kind-once s d e a b = name-once d e (sym a ∙ b)
 
 -- ---- what was written to lent output
 pub lent-once : {out : List ℕ} {o : Outcome (List ℕ)} {n p k m q j : ℕ} {x y : List ℕ} → Lent out o n p k x → Lent out o m q j y

@@ -86,4 +86,3 @@ pub row-few : (k : Kind) (r : Row) → r ∈ vocabulary k → Few (r .required)
 row-few dna r m = few-in nucleotideRows refl r m
 row-few rna r m = few-in nucleotideRows refl r m
 row-few aa r m = few-in aminoRows refl r m
-

@@ -13,10 +13,12 @@ use Rattle.paper.specs.Lists.{Nth, _∈_}
 use Rattle.paper.specs.Vocabulary.{Row, nucleotideNames, older, isOneOf, lower, counted}
 use Rattle.paper.specs.Rules.{Kind, dna, rna, aa, kindName, upperIn, vocabulary, RowOf, Allows}
 use Rattle.paper.proofs.Lists.{in-map, in-first, in-second}
+use Rattle.paper.proofs.Once.{name-once}
 use Rattle.paper.proofs.Texts.{raw-once}
 use Rattle.paper.proofs.Words.{one-in, in-one, row-named}
-use Rattle.value_vocabulary.specs.Tables.{pairOf, PlaceOf, RowIn, nameTexts, standingOf, crumbAt, standingAt, HasRow, keyTexts, RowFor, Keys}
-use Rattle.value_vocabulary.specs.Lookups.{RowStands, RowIs}
+use Rattle.value_words.specs.declared.Molecule.the-variants as kind
+use Rattle.value_vocabulary.specs.Tables.{pairOf, PlaceOf, RowIn, nameTexts, standingOf, crumbAt, standingAt, HasRow, keyTexts, RowFor, Keys, partOf, VocabularyTable}
+use Rattle.value_vocabulary.specs.Lookups.{RowStands, RowIs, FindsRow}
 use Rattle.value_vocabulary.proofs.InRow.{standing-some, row-few}
 
 -- ---- places
@@ -124,3 +126,22 @@ module _ (k : Kind) where
         go false p =
             let z = found .none (map raw texts) (keys .texts) (none-of p) in
             record { known = λ n. absurd (n z); unknown = λ h. unknown-key p }
+
+-- ---- of the kind that the code names
+
+row-of-kind : (j : Kind) {w t : List ℕ} {row : ℕ} → ((v : List ℕ) → w ≡ raw v → RowIs j t v row) → (k : Kind) → bytes (kindName k) ≡ bytes (kindName j) → (v : List ℕ) → w ≡ raw v → RowIs k t v row
+row-of-kind j {t = t} {row} f k e v h = subst (λ (k : Kind). RowIs k t v row) (sym (name-once k j e)) (f v h)
+
+module _ {t w : List ℕ} (table : VocabularyTable t) {row : ℕ} where
+  pub finds-dna : RowIn 4094411 657 (partOf 1236 1991 t) w row → FindsRow t w kind.Dna row
+  finds-dna f = record { says = row-of-kind dna (row-is dna 4094411 657 (table .nucleotides) f) }
+
+  pub finds-rna : RowIn 4094411 657 (partOf 1236 1991 t) w row → FindsRow t w kind.Rna row
+  finds-rna f = record { says = row-of-kind rna (row-is rna 4094411 657 (table .nucleotides) f) }
+
+  pub finds-acid : RowIn 4266913 501 (partOf 1991 2578 t) w row → FindsRow t w kind.Aa row
+  finds-acid f = record { says = row-of-kind aa (row-is aa 4266913 501 (table .acids) f) }
+
+-- no kind is the other one
+pub finds-other : {t w : List ℕ} {row : ℕ} → FindsRow t w kind.Other row
+finds-other = record { says = λ k n v e. absurd (n k refl) }

@@ -2,3 +2,4 @@
 pub mod Right
 pub mod InRow
 pub mod Keyed
+pub mod Lookup

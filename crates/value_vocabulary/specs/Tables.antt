@@ -27,7 +27,7 @@ slotOf factor mask w = bitAnd ((byteOf w 0 + 256 * byteOf w (length w - 2) + 655
 abbrev pub startOf : (mask : ℕ) → List ℕ → ℕ → ℕ
 startOf mask t k = pairOf t (mask + 1 + 2 * k)
 
--- t has the texts l
+-- t has the texts l, and in every slot the number of one of them
 pub record Dictionary (factor mask : ℕ) (l : List (List ℕ)) (t : List ℕ) : Type 0 where
   pub few : length l ≤ 255
   pub full : (i : ℕ) → i ≤ mask → byteOf t i < length l
@@ -41,9 +41,10 @@ pub record PlaceOf (l : List (List ℕ)) (v : List ℕ) (r : ℕ) : Type 0 where
   pub is : r < length l → v ≡ getD l r []
   pub found : (k : ℕ) → k < length l → v ≡ getD l k [] → r ≡ k
 
--- whatever texts t is a dictionary of
+-- whatever texts t is a dictionary of, r is 255 where w is none of them
 pub record Finds (factor mask : ℕ) (t w : List ℕ) (r : ℕ) : Type 0 where
   pub looks : (l : List (List ℕ)) → Dictionary factor mask l t → PlaceOf l w r
+  pub below : (l : List (List ℕ)) → Dictionary factor mask l t → ¬ (r ≡ 255) → r < length l
 
 -- r is the number at the place of w's own, 0 where w is none of the dictionary's texts
 pub record RowIn (factor rows : ℕ) (t w : List ℕ) (r : ℕ) : Type 0 where

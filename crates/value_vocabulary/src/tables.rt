@@ -2,16 +2,21 @@
 
 // Bits 24 and on of this times three bytes of a text, under the dictionary's mask, are others for each of its texts.
 pub const NAMES_FACTOR: usize = 13_895_407;
+
 pub const NUCLEOTIDE_KEYS_FACTOR: usize = 4_094_411;
+
 pub const AMINO_KEYS_FACTOR: usize = 4_266_913;
 
 // Where the parts end: the names; the keys of nucleotides; the keys of AA. Behind them stand the rows.
 pub const NAMES_END: usize = 1236;
+
 pub const NUCLEOTIDE_KEYS_END: usize = 1991;
+
 pub const AMINO_KEYS_END: usize = 2578;
 
 // Where in a part of keys the places of their rows stand.
 pub const NUCLEOTIDE_KEYS_ROWS: usize = 657;
+
 pub const AMINO_KEYS_ROWS: usize = 501;
 
 // The three dictionaries, and the rows.

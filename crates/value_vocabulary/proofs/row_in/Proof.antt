@@ -1,34 +1,28 @@
+-- `value_vocabulary::row_in` meets its contract: a text's number is below 255, and the row is at the place of its number.
+use Rattle.value_vocabulary.proofs.Lookup.{no-row, has-row}
 use borrow.Author.Needs.{needs}
 use Rattle.value_vocabulary.proofs.row_in.Statement.{statement}
 use Rattle.value_vocabulary.proofs.row_in.Tie as tie
-use Rattle.value_vocabulary.proofs.row_in.Reads as reads
-use Rattle.value_vocabulary.proofs.row_in.Lts as lts
-use Rattle.value_vocabulary.proofs.find.Reads as find-reads
-use Rattle.value_vocabulary.proofs.pair_at.Reads as pair-at-reads
 
--- src/lib.rt:107:9
 find-requires : tie.Need-find-requires
 find-requires c κs = search needs
 
--- src/lib.rt:109:9
 returns : tie.Need-returns
-returns c = search needs
+returns c = no-row (c .before .before .before .before .args .rows) (c .before .find .ensures .0) (c .if1 .taken)
 
--- src/lib.rt:111:23
 mul-pair-at : tie.Need-mul-pair-at
 mul-pair-at c = search needs
 
--- src/lib.rt:111:16
 add-pair-at : tie.Need-add-pair-at
 add-pair-at c = search needs
 
--- src/lib.rt:111:5
 pair-at-requires : tie.Need-pair-at-requires
 pair-at-requires c κs = search needs
 
--- src/lib.rt:102:1
 returns-2 : tie.Need-returns-2
-returns-2 c = search needs
+returns-2 c =
+    let args = c .before .before .before .before .before .args in
+    has-row (args .rows) (c .before .before .find .ensures .0) (c .before .if1 .left) (c .pair-at .ensures .0)
 
 pub row-in-spec : {M : Type 1} → statement M
 row-in-spec =

@@ -1,49 +1,51 @@
+-- `value_vocabulary::slot_of` meets its contract: the product is below 2 ^ 48, and the slot is under the mask.
+use Prim.Native.Nat.{_+_, _*_, _/_, _≤_}
+use native.Mathlib.Nat.{mul-le-mul}
+use native.Mathlib.Omega.{arith}
+use lib.Bits.{and-le-r}
 use borrow.Author.Needs.{needs}
 use Rattle.value_vocabulary.proofs.slot_of.Statement.{statement}
 use Rattle.value_vocabulary.proofs.slot_of.Tie as tie
-use Rattle.value_vocabulary.proofs.slot_of.Reads as reads
-use Rattle.value_vocabulary.proofs.slot_of.Lts as lts
-use Rattle.value_vocabulary.proofs.byte_at.Reads as byte-at-reads
 
--- src/lib.rt:57:13
 byte-at-requires : tie.Need-byte-at-requires
 byte-at-requires c κs = search needs
 
--- src/lib.rt:57:46
 sub-byte-at : tie.Need-sub-byte-at
 sub-byte-at c = search needs
 
--- src/lib.rt:57:35
 byte-at-requires-2 : tie.Need-byte-at-requires-2
 byte-at-requires-2 c κs = search needs
 
--- src/lib.rt:57:29
 mul-p : tie.Need-mul-p
 mul-p c = search needs
 
--- src/lib.rt:57:13
 add-p : tie.Need-add-p
 add-p c = search needs
 
--- src/lib.rt:57:64
 byte-at-requires-3 : tie.Need-byte-at-requires-3
 byte-at-requires-3 c κs = search needs
 
--- src/lib.rt:57:55
 mul-p-2 : tie.Need-mul-p-2
 mul-p-2 c = search needs
 
--- src/lib.rt:57:13
 add-p-2 : tie.Need-add-p-2
 add-p-2 c = search needs
 
--- src/lib.rt:58:5
 mul-result : tie.Need-mul-result
-mul-result c = search needs
+mul-result c =
+    let x = c .before .before .before .before .args in
+    let p = c .before .before .byte-at .result + 256 * c .before .byte-at2 .result + 65536 * c .byte-at3 .result in
+    let bytes : p ≤ 16777215 = omega (arith, c .before .before .byte-at .ensures .1, c .before .byte-at2 .ensures .1, c .byte-at3 .ensures .1) in
+    let low : x .factor ≤ 16777215 = omega arith in
+    omega (arith, mul-le-mul bytes low)
 
--- src/lib.rt:51:1
 returns : tie.Need-returns
-returns c = search needs
+returns c =
+    let x = c .before .before .before .before .args in
+    let p = c .before .before .byte-at .result + 256 * c .before .byte-at2 .result + 65536 * c .byte-at3 .result in (
+      rw (c .before .before .byte-at .ensures .0, c .before .byte-at2 .ensures .0, c .byte-at3 .ensures .0),
+      and-le-r (p * x .factor / 16777216) (x .mask),
+    )
 
 pub slot-of-spec : {M : Type 1} → statement M
 slot-of-spec =
