@@ -248,10 +248,10 @@ fn many_sequences() -> Case {
 }
 
 fn many_qualifiers() -> Case {
-    let qualifiers = "<INSDQualifier><INSDQualifier_name/></INSDQualifier>".repeat(300_000);
-    let table = source("DNA", 12) + &feature("CDS", "1..12", &qualifiers);
+    let qualifier = "<INSDQualifier><INSDQualifier_name>map</INSDQualifier_name></INSDQualifier>";
+    let table = source("DNA", 12) + &feature("CDS", "1..12", &qualifier.repeat(220_000));
     let text = listing("", &[sequence("DNA", &table, "atgaaatgctaa")]);
-    case("300,000 qualifiers", text, one_cds())
+    case("220,000 qualifiers", text, one_cds())
 }
 
 fn long_length() -> Case {

@@ -10,7 +10,7 @@ use referee::{broken, Broken, Listing, Refusal};
 /// One damage for each rule many times, then several at once.
 pub fn damages(report: &mut Report) {
     let rng = &mut Rng::new(1);
-    for rule in 10..=29 {
+    for rule in (10..=29).chain(40..=42) {
         let mut hits = 0;
         for _ in 0..150 {
             let damaged = one_damage(rng, rule);
