@@ -23,4 +23,4 @@ pub use listing::{
 };
 pub use location::{location, Location, Operator, Span};
 pub use text::Part;
-pub use values::{Broken, Kind};
+pub use values::{value_rules, Broken, Kind};

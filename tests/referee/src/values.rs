@@ -8,6 +8,11 @@ use crate::tree::{Feature, Qualifier, Sequence, Tree};
 use crate::vocabulary;
 use std::collections::BTreeSet;
 
+/// The rules on values.
+pub fn value_rules() -> impl Iterator<Item = u32> + Clone {
+    (10..=29).chain(40..=42)
+}
+
 /// A broken rule; in order of place, and at one place of rule number.
 #[derive(Clone, Copy, Debug, PartialEq, Eq, PartialOrd, Ord)]
 pub struct Broken {
