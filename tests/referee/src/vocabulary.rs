@@ -24,6 +24,11 @@ impl Key {
     pub fn allowed(&self) -> impl Iterator<Item = &'static str> {
         self.required().chain(self.optional.split_whitespace())
     }
+
+    /// The names that may be there, in every spelling of this kind.
+    pub fn spelled(&self, kind: Kind) -> impl Iterator<Item = &'static str> {
+        self.allowed().flat_map(move |name| spellings(kind, name))
+    }
 }
 
 const fn key(name: &'static str, required: &'static str, optional: &'static str) -> Key {
@@ -40,6 +45,12 @@ pub fn keys(kind: Kind) -> &'static [Key] {
         Kind::Dna | Kind::Rna => &NUCLEOTIDE_KEYS,
         Kind::Aa => &AMINO_KEYS,
     }
+}
+
+/// The key that is written so in this kind, if there is one.
+pub fn known(kind: Kind, text: &str) -> Option<&'static Key> {
+    let mut keys = keys(kind).iter();
+    keys.find(|key| spellings(kind, key.name).any(|spelling| spelling == text))
 }
 
 /// The qualifiers of this kind, by section 6 or 8.

@@ -690,13 +690,13 @@ fn skipped_element(sequence: &mut Sequence, k: usize, rng: &mut Rng) -> Option<B
 fn vocabulary_breaks(sequence: &Sequence, k: usize, f: usize) -> Breaks {
     let kind = sequence.kind();
     let feature = &sequence.features()[f];
-    let key = known_key(kind, &feature.key).expect("a known key");
+    let key = vocabulary::known(kind, &feature.key).expect("a known key");
     let names: Vec<&str> = feature
         .qualifiers()
         .iter()
         .map(|q| q.name.as_str())
         .collect();
-    let allowed = allowed(kind, key);
+    let allowed: Vec<&str> = key.spelled(kind).collect();
     let is_missing = |name| !spellings(kind, name).any(|spelling| names.contains(&spelling));
     let mut breaks: Breaks = (0..names.len())
         .filter(|&q| !allowed.contains(&names[q]))
@@ -708,18 +708,6 @@ fn vocabulary_breaks(sequence: &Sequence, k: usize, f: usize) -> Breaks {
             .then_some((42, Field::Key(k, f))),
     );
     breaks
-}
-
-/// The key that is written so, if it is known.
-fn known_key(kind: Kind, text: &str) -> Option<&'static Key> {
-    let mut keys = keys(kind).iter();
-    keys.find(|key| spellings(kind, key.name).any(|spelling| spelling == text))
-}
-
-/// The names that the key allows, in all their spellings.
-fn allowed(kind: Kind, key: &Key) -> Vec<&'static str> {
-    let names = key.allowed();
-    names.flat_map(|name| spellings(kind, name)).collect()
 }
 
 fn other_kind(kind: Kind) -> Kind {
@@ -771,7 +759,7 @@ fn unknown_key(sequence: &mut Sequence, k: usize, rng: &mut Rng) -> Option<Break
             let near = rng.pick(keys(kind)).name;
             misspelled(rng, near)
         };
-        if known_key(kind, &key).is_none() {
+        if vocabulary::known(kind, &key).is_none() {
             break key;
         }
     };
@@ -787,7 +775,8 @@ fn unknown_names(sequence: &mut Sequence, k: usize, rng: &mut Rng) -> Option<Bre
     let kind = sequence.kind();
     let f = rng.below(sequence.features().len());
     let feature = &mut sequence.table.as_mut()?[f];
-    let allowed = allowed(kind, known_key(kind, &feature.key)?);
+    let key = vocabulary::known(kind, &feature.key)?;
+    let allowed: Vec<&str> = key.spelled(kind).collect();
     let qualifiers = feature.qualifiers.get_or_insert_with(Vec::new);
     for _ in 0..rng.between(1, 2) {
         let name = loop {

@@ -5,7 +5,7 @@ use super::model::{
 };
 use super::rng::Rng;
 use crate::location::{BEFORE, BEYOND, COMPLEMENT, SITE};
-use crate::vocabulary::{keys, spellings, Key};
+use crate::vocabulary::{keys, known, spellings, Key};
 use crate::{Kind, Operator, Span};
 
 /// Each letter with codons that give it, written down by hand.
@@ -286,7 +286,7 @@ fn sequence(
         spans: vec![span(1, length, 0)],
         is_unclear: false,
     };
-    let key = named(sequence.kind(), "source");
+    let key = known(sequence.kind(), source).expect("a known key");
     let mut qualifiers = others(rng, sequence.kind(), key, &[organism, mol_type]);
     qualifiers.push(Qualifier::new(organism, text(rng)));
     qualifiers.push(Qualifier {
@@ -316,12 +316,6 @@ fn feature(
     }
 }
 
-/// The key of this name, which the vocabulary of this kind has.
-pub fn named(kind: Kind, name: &str) -> &'static Key {
-    let mut keys = keys(kind).iter();
-    keys.find(|key| key.name == name).expect("a known key")
-}
-
 /// A feature of this key that is neither a CDS nor the source.
 fn ordinary(rng: &mut Rng, kind: Kind, key: &Key, place: Place) -> Feature {
     let qualifiers = qualifiers(rng, kind, key);
@@ -340,11 +334,8 @@ pub fn qualifiers(rng: &mut Rng, kind: Kind, key: &Key) -> Vec<Qualifier> {
 
 /// Up to three qualifiers that the key allows, in any spelling but these.
 fn others(rng: &mut Rng, kind: Kind, key: &Key, left_out: &[&str]) -> Vec<Qualifier> {
-    let names: Vec<&str> = key
-        .allowed()
-        .flat_map(|name| spellings(kind, name))
-        .filter(|name| !left_out.contains(name))
-        .collect();
+    let mut names: Vec<&str> = key.spelled(kind).collect();
+    names.retain(|name| !left_out.contains(name));
     let count = rng.below(4);
     (0..count).map(|_| qualifier(rng, &names)).collect()
 }
@@ -370,7 +361,8 @@ const DECIDING: [&str; 7] = [
 
 /// Qualifiers of a CDS that no rule on coding looks at.
 fn idle(rng: &mut Rng) -> Vec<Qualifier> {
-    others(rng, Kind::Dna, named(Kind::Dna, "CDS"), &DECIDING)
+    let cds = known(Kind::Dna, "CDS").expect("a known key");
+    others(rng, Kind::Dna, cds, &DECIDING)
 }
 
 /// A CDS whose translation is known because its codons are laid out here.

@@ -47,7 +47,7 @@ pub fn coverage(report: &mut Report) {
     for kind in [Kind::Dna, Kind::Aa] {
         for key in keys(kind) {
             for written in spellings(kind, key.name) {
-                for name in key.allowed().flat_map(|name| spellings(kind, name)) {
+                for name in key.spelled(kind) {
                     let pair = (kind == Kind::Dna, (written.into(), name.into()));
                     report.check(made.contains(&pair), || {
                         format!("no valid listing of {kind:?} has {written} with {name}")
