@@ -1,4 +1,4 @@
-//! Hand-made cases for rules 10 to 29 and 40 to 42: each with every rule that it breaks, or with its counts.
+//! Hand-made cases for rules 10 to 29: each with every rule that it breaks, or with its counts.
 
 use super::base::{edited, Edit};
 
