@@ -2,7 +2,10 @@
 //!
 //! Where the print is damaged or contradicts itself: CDS has trans_splicing, for which its row prints transl_except twice (6.79
 //! names CDS). ZN_FING requires note, as 8.2 says, not 7.39. COMPBias is COMPBIAS, operaon operon, flone clone, gnene gene,
-//! gene_synonyms gene_synonym, Frequency frequency, Protein_id protein_id, and 5.1's capitals are small letters.
+//! gene_synonyms gene_synonym, Frequency frequency, Protein_id protein_id, and 5.1's capitals are small letters. Where a cell prints
+//! "required" and "optional" together, only its first name is required: after it the alphabet starts anew. Else the lists of
+//! sections 5 and 7 hold as printed: gene has no product, and regulatory has bound_moiety and telomere rpt_unit_range and
+//! rpt_unit_seq, which the comments of 6.3, 6.62 and 6.63 don't name.
 
 use crate::Kind;
 

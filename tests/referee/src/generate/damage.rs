@@ -298,6 +298,7 @@ fn no_source(sequence: &mut Sequence, k: usize, rng: &mut Rng) -> Option<Breaks>
         "Source",
         "sources",
         " source",
+        "source ",
         "'source'",
         other_spelling,
     ];
