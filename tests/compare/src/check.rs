@@ -13,7 +13,8 @@ use std::path::Path;
 pub fn run(count: u64, seed: u64, root: &Path) -> Result<bool, String> {
     let specimens = layout::specimens(&root.join("tests/specimens"))?;
     let verdicts = [0, 1, 2].into_iter().chain(value_rules());
-    let mut check = Check::of_archive("check", verdicts, root)?;
+    let xmllint = Some(Xmllint::new(root)?);
+    let mut check = Check::of_archive("check", verdicts, xmllint, root);
     check.kind("specimens", layout::specimen_inputs(specimens))?;
     check.kind("hand-made", layout::hand_made())?;
     check.kind("generated", layout::generated(count, seed))?;
@@ -71,11 +72,11 @@ fn traps() -> impl Iterator<Item = Input> {
     })
 }
 
-/// The comparison, what xmllint says, and how often each verdict was the referee's: 0 stands for accepted.
+/// The comparison, what xmllint says if it is asked, and how often each verdict was the referee's: 0 stands for accepted.
 pub struct Check<P, J> {
     name: &'static str,
     comparison: Comparison<P, J>,
-    xmllint: Xmllint,
+    xmllint: Option<Xmllint>,
     verdicts: BTreeMap<u32, usize>,
     /// The verdicts that must be met.
     wanted: Vec<u32>,
@@ -88,12 +89,13 @@ impl Check<Checker, Checker> {
     pub fn of_archive(
         name: &'static str,
         wanted: impl Iterator<Item = u32>,
+        xmllint: Option<Xmllint>,
         root: &Path,
-    ) -> Result<Self, String> {
+    ) -> Self {
         let (proved, referee): (Checker, Checker) = (boundary::check, judged);
         let folder = root.join("target/compare");
         let comparison = Comparison::new(proved, referee, Some(folder));
-        Check::new(name, comparison, wanted, root)
+        Check::new(name, comparison, wanted, xmllint)
     }
 }
 
@@ -102,15 +104,15 @@ impl<P: Fn(&[u8]) -> Verdict<Counts>, J: Fn(&[u8]) -> Verdict<Counts>> Check<P, 
         name: &'static str,
         comparison: Comparison<P, J>,
         wanted: impl Iterator<Item = u32>,
-        root: &Path,
-    ) -> Result<Self, String> {
-        Ok(Check {
+        xmllint: Option<Xmllint>,
+    ) -> Self {
+        Check {
             name,
             comparison,
-            xmllint: Xmllint::new(root)?,
+            xmllint,
             verdicts: BTreeMap::new(),
             wanted: wanted.collect(),
-        })
+        }
     }
 
     /// Compares all inputs of one kind, and prints a line of their verdicts. What is accepted goes to xmllint.
@@ -118,8 +120,8 @@ impl<P: Fn(&[u8]) -> Verdict<Counts>, J: Fn(&[u8]) -> Verdict<Counts>> Check<P, 
         let mut verdicts = BTreeMap::new();
         for input in inputs {
             let (proved, referee) = self.comparison.one(&input);
-            if proved.is_ok() {
-                self.xmllint.add(&input)?;
+            if let (Ok(_), Some(xmllint)) = (proved, &mut self.xmllint) {
+                xmllint.add(&input)?;
             }
             let rule = referee.err().map_or(0, |refusal| refusal.rule);
             *verdicts.entry(rule).or_default() += 1;
@@ -145,7 +147,10 @@ impl<P: Fn(&[u8]) -> Verdict<Counts>, J: Fn(&[u8]) -> Verdict<Counts>> Check<P, 
         if !unmet.is_empty() {
             println!("NEVER THE VERDICT (0: accepted): {unmet:?}");
         }
-        let is_valid = self.xmllint.close()?;
+        let is_valid = match &mut self.xmllint {
+            Some(xmllint) => xmllint.close()?,
+            None => true,
+        };
         Ok(self.comparison.count.close(self.name) && is_valid && unmet.is_empty())
     }
 }
@@ -178,7 +183,8 @@ mod tests {
     {
         let comparison = Comparison::new(proved, referee, None);
         let verdicts = [0, 1, 2].into_iter().chain(value_rules());
-        Check::new("test", comparison, verdicts, layout::root()).unwrap()
+        let xmllint = Xmllint::new(layout::root()).unwrap();
+        Check::new("test", comparison, verdicts, Some(xmllint))
     }
 
     /// The comparison of an erring check with the referee.
@@ -205,7 +211,7 @@ mod tests {
         check.kind("test", mutants).unwrap();
         assert_eq!(check.close(), Ok(false));
         assert_eq!(check.comparison.count.differ, 0);
-        assert!(check.xmllint.opinions.refused > 30);
+        assert!(check.xmllint.unwrap().opinions.refused > 30);
     }
 
     #[test]
@@ -271,8 +277,9 @@ mod tests {
         check.kind("generated", layout::generated(400, 1)).unwrap();
         check.kind("one damage", damages(400, 1)).unwrap();
         assert_eq!(check.comparison.count.differ, 0);
-        assert_eq!(check.xmllint.close(), Ok(true));
-        let opinions = check.xmllint.opinions;
+        let mut xmllint = check.xmllint.unwrap();
+        assert_eq!(xmllint.close(), Ok(true));
+        let opinions = xmllint.opinions;
         assert!(
             opinions.whole > 80 && opinions.replaced > 10,
             "{opinions:?}"

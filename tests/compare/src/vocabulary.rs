@@ -19,7 +19,8 @@ const VERDICTS: [u32; 4] = [0, 40, 41, 42];
 
 /// Compares all that doesn't depend on the count, and so many generated feature tables.
 pub fn run(count: u64, seed: u64, root: &Path) -> Result<bool, String> {
-    let mut check = Check::of_archive("vocabulary", VERDICTS.into_iter(), root)?;
+    // The DTD has no vocabulary, so xmllint isn't asked.
+    let mut check = Check::of_archive("vocabulary", VERDICTS.into_iter(), None, root);
     check.kind("every key with every name", pairs())?;
     check.kind("source with two names", sources())?;
     check.kind("near misses", near_misses())?;
