@@ -5,20 +5,16 @@ use crate::xmllint::Xmllint;
 use crate::{boundary, large, layout, mutants};
 use referee::generate::sized::TRAPS;
 use referee::generate::{one_damage, several_damages, Rng};
-use referee::{Counts, Listing};
+use referee::{value_rules, Counts, Listing};
 use std::collections::BTreeMap;
-use std::ops::RangeInclusive;
 use std::path::Path;
-
-/// The rules on values.
-const VALUE_RULES: RangeInclusive<u32> = 10..=29;
 
 /// Compares on so many inputs of each kind, and all that doesn't depend on the count.
 pub fn run(count: u64, seed: u64, root: &Path) -> Result<bool, String> {
     let specimens = layout::specimens(&root.join("tests/specimens"))?;
-    let folder = root.join("target/compare");
-    let comparison = Comparison::new(boundary::check, judged, Some(folder));
-    let mut check = Check::new(comparison, root)?;
+    let verdicts = [0, 1, 2].into_iter().chain(value_rules());
+    let xmllint = Some(Xmllint::new(root)?);
+    let mut check = Check::of_archive("check", verdicts, xmllint, root);
     check.kind("specimens", layout::specimen_inputs(specimens))?;
     check.kind("hand-made", layout::hand_made())?;
     check.kind("generated", layout::generated(count, seed))?;
@@ -35,13 +31,13 @@ pub fn run(count: u64, seed: u64, root: &Path) -> Result<bool, String> {
 }
 
 /// The referee's check.
-fn judged(input: &[u8]) -> Verdict<Counts> {
+pub fn judged(input: &[u8]) -> Verdict<Counts> {
     Listing::new(input).check()
 }
 
 /// Listings with one damage, each rule in turn.
 pub fn damages(count: u64, seed: u64) -> impl Iterator<Item = Input> {
-    let rules = VALUE_RULES.cycle().zip(0..count);
+    let rules = value_rules().cycle().zip(0..count);
     rules.map(move |(rule, number)| Input {
         name: format!("damage {number} of seed {seed}, meant for rule {rule}"),
         bytes: one_damage(&mut rng(seed, number), rule).bytes,
@@ -56,7 +52,7 @@ fn combined(count: u64, seed: u64) -> impl Iterator<Item = Input> {
     })
 }
 
-fn rng(seed: u64, number: u64) -> Rng {
+pub fn rng(seed: u64, number: u64) -> Rng {
     Rng::new(seed ^ number.wrapping_mul(0xa24b_aed4_963e_e407))
 }
 
@@ -76,29 +72,56 @@ fn traps() -> impl Iterator<Item = Input> {
     })
 }
 
-/// The comparison, what xmllint says, and how often each verdict was the referee's: 0 stands for accepted.
-struct Check<P, J> {
+/// The comparison, what xmllint says if it is asked, and how often each verdict was the referee's: 0 stands for accepted.
+pub struct Check<P, J> {
+    name: &'static str,
     comparison: Comparison<P, J>,
-    xmllint: Xmllint,
+    xmllint: Option<Xmllint>,
     verdicts: BTreeMap<u32, usize>,
+    /// The verdicts that must be met.
+    wanted: Vec<u32>,
+}
+
+type Checker = fn(&[u8]) -> Verdict<Counts>;
+
+impl Check<Checker, Checker> {
+    /// The comparison of the archive's check with the referee's.
+    pub fn of_archive(
+        name: &'static str,
+        wanted: impl Iterator<Item = u32>,
+        xmllint: Option<Xmllint>,
+        root: &Path,
+    ) -> Self {
+        let (proved, referee): (Checker, Checker) = (boundary::check, judged);
+        let folder = root.join("target/compare");
+        let comparison = Comparison::new(proved, referee, Some(folder));
+        Check::new(name, comparison, wanted, xmllint)
+    }
 }
 
 impl<P: Fn(&[u8]) -> Verdict<Counts>, J: Fn(&[u8]) -> Verdict<Counts>> Check<P, J> {
-    fn new(comparison: Comparison<P, J>, root: &Path) -> Result<Self, String> {
-        Ok(Check {
+    fn new(
+        name: &'static str,
+        comparison: Comparison<P, J>,
+        wanted: impl Iterator<Item = u32>,
+        xmllint: Option<Xmllint>,
+    ) -> Self {
+        Check {
+            name,
             comparison,
-            xmllint: Xmllint::new(root)?,
+            xmllint,
             verdicts: BTreeMap::new(),
-        })
+            wanted: wanted.collect(),
+        }
     }
 
     /// Compares all inputs of one kind, and prints a line of their verdicts. What is accepted goes to xmllint.
-    fn kind(&mut self, kind: &str, inputs: impl Iterator<Item = Input>) -> Result<(), String> {
+    pub fn kind(&mut self, kind: &str, inputs: impl Iterator<Item = Input>) -> Result<(), String> {
         let mut verdicts = BTreeMap::new();
         for input in inputs {
             let (proved, referee) = self.comparison.one(&input);
-            if proved.is_ok() {
-                self.xmllint.add(&input)?;
+            if let (Ok(_), Some(xmllint)) = (proved, &mut self.xmllint) {
+                xmllint.add(&input)?;
             }
             let rule = referee.err().map_or(0, |refusal| refusal.rule);
             *verdicts.entry(rule).or_default() += 1;
@@ -112,22 +135,23 @@ impl<P: Fn(&[u8]) -> Verdict<Counts>, J: Fn(&[u8]) -> Verdict<Counts>> Check<P, 
 
     /// The verdicts that were never met.
     fn unmet(&self) -> Vec<u32> {
-        [0, 1, 2]
-            .into_iter()
-            .chain(VALUE_RULES)
-            .filter(|rule| !self.verdicts.contains_key(rule))
-            .collect()
+        let mut unmet = self.wanted.clone();
+        unmet.retain(|rule| !self.verdicts.contains_key(rule));
+        unmet
     }
 
     /// Prints the last lines; true if nothing differs, xmllint refuses nothing, and every verdict was met.
-    fn close(&mut self) -> Result<bool, String> {
+    pub fn close(&mut self) -> Result<bool, String> {
         println!("in all: {}", line(&self.verdicts));
         let unmet = self.unmet();
         if !unmet.is_empty() {
             println!("NEVER THE VERDICT (0: accepted): {unmet:?}");
         }
-        let is_valid = self.xmllint.close()?;
-        Ok(self.comparison.count.close("check") && is_valid && unmet.is_empty())
+        let is_valid = match &mut self.xmllint {
+            Some(xmllint) => xmllint.close()?,
+            None => true,
+        };
+        Ok(self.comparison.count.close(self.name) && is_valid && unmet.is_empty())
     }
 }
 
@@ -151,13 +175,25 @@ mod tests {
     use super::*;
     use referee::Refusal;
 
+    /// The comparison of two checks, with every verdict to be met.
+    fn check<P, J>(proved: P, referee: J) -> Check<P, J>
+    where
+        P: Fn(&[u8]) -> Verdict<Counts>,
+        J: Fn(&[u8]) -> Verdict<Counts>,
+    {
+        let comparison = Comparison::new(proved, referee, None);
+        let verdicts = [0, 1, 2].into_iter().chain(value_rules());
+        let xmllint = Xmllint::new(layout::root()).unwrap();
+        Check::new("test", comparison, verdicts, Some(xmllint))
+    }
+
     /// The comparison of an erring check with the referee.
     fn compared(
         wrong: impl Fn(&[u8], Verdict<Counts>) -> Verdict<Counts>,
         inputs: impl Iterator<Item = Input>,
     ) -> (usize, Vec<u32>) {
         let proved = |input: &[u8]| wrong(input, judged(input));
-        let mut check = Check::new(Comparison::new(proved, judged, None), layout::root()).unwrap();
+        let mut check = check(proved, judged);
         check.kind("test", inputs).unwrap();
         let differ = check.comparison.count.differ;
         let unmet = check.unmet();
@@ -169,14 +205,13 @@ mod tests {
     fn what_is_wrongly_accepted_goes_to_xmllint() {
         let accepts = |_: &[u8]| Ok(Counts::default());
         // Both err in the same way, so that only xmllint can tell.
-        let comparison = Comparison::new(accepts, accepts, None);
-        let mut check = Check::new(comparison, layout::root()).unwrap();
-        check.verdicts.extend((1..30).map(|rule| (rule, 1)));
+        let mut check = check(accepts, accepts);
+        check.wanted.clear();
         let mutants = (0..100).map(|number| mutants::mutant(1, number));
         check.kind("test", mutants).unwrap();
         assert_eq!(check.close(), Ok(false));
         assert_eq!(check.comparison.count.differ, 0);
-        assert!(check.xmllint.opinions.refused > 30);
+        assert!(check.xmllint.unwrap().opinions.refused > 30);
     }
 
     #[test]
@@ -199,7 +234,7 @@ mod tests {
         let accepts = |_: &[u8], _| Ok(Counts::default());
         assert_eq!(compared(accepts, damages(100, 1)).0, 100);
         // Knows all rules but one.
-        for blind in VALUE_RULES {
+        for blind in value_rules() {
             let wrong = |_: &[u8], verdict: Verdict<Counts>| match verdict {
                 Err(refusal) if refusal.rule == blind => Ok(Counts::default()),
                 _ => verdict,
@@ -238,13 +273,13 @@ mod tests {
 
     #[test]
     fn the_proved_check_agrees() {
-        let comparison = Comparison::new(boundary::check, judged, None);
-        let mut check = Check::new(comparison, layout::root()).unwrap();
+        let mut check = check(boundary::check, judged);
         check.kind("generated", layout::generated(400, 1)).unwrap();
         check.kind("one damage", damages(400, 1)).unwrap();
         assert_eq!(check.comparison.count.differ, 0);
-        assert_eq!(check.xmllint.close(), Ok(true));
-        let opinions = check.xmllint.opinions;
+        let mut xmllint = check.xmllint.unwrap();
+        assert_eq!(xmllint.close(), Ok(true));
+        let opinions = xmllint.opinions;
         assert!(
             opinions.whole > 80 && opinions.replaced > 10,
             "{opinions:?}"

@@ -229,7 +229,7 @@ fn first_difference(room: &Room, judge_room: &Room) -> Option<String> {
 /// The number of an answer, with 1 for all of the check's own.
 fn by_the_check(number: u32) -> u32 {
     match number {
-        1..=29 => 1,
+        1..=29 | 40..=42 => 1,
         _ => number,
     }
 }
@@ -437,7 +437,7 @@ mod tests {
     fn a_number_that_is_not_set_is_found() {
         let refused_place: Error = |listing, question, room| {
             let mut answer = judged(listing, question, room);
-            if answer.number >= 30 {
+            if by_the_check(answer.number) >= 30 {
                 answer.place = 7;
             }
             answer

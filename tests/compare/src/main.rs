@@ -11,6 +11,7 @@ mod mutants;
 mod proved;
 mod report;
 mod translation;
+mod vocabulary;
 mod xmllint;
 
 use std::path::Path;
@@ -22,6 +23,7 @@ compare layout COUNT [SEED]      rules 1 and 2 on COUNT generated listings, COUN
 compare location COUNT [SEED]    every short location text, and COUNT generated ones
 compare translation COUNT [SEED] every codon, and COUNT generated coding regions
 compare check COUNT [SEED]       the whole check on COUNT generated listings, COUNT damages, COUNT mutants, and more
+compare vocabulary COUNT [SEED]  the check of every key with every name, of near misses, and of COUNT generated feature tables
 compare lookups COUNT [SEED]     every public call, with any numbers and any room, on COUNT generated listings, and more
 compare make KIND SIZE FILE      writes a listing of this size, or nearly, for measuring";
 
@@ -56,6 +58,7 @@ fn compare(what: &str, count: &str, seed: &str, root: &Path) -> Result<bool, Str
         "location" => location::run(count, seed),
         "translation" => translation::run(count, seed),
         "check" => check::run(count, seed, root),
+        "vocabulary" => vocabulary::run(count, seed, root),
         "lookups" => lookups::run(count, seed, root),
         _ => Err(usage()),
     }?;

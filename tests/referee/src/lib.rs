@@ -1,4 +1,4 @@
-//! The independent referee of Dreichnook, written from document 01 alone.
+//! The independent referee of Dreichnook, written from documents 01 and 02 alone.
 #![forbid(unsafe_code)]
 
 pub mod automaton;
@@ -13,6 +13,7 @@ pub mod regex;
 pub mod text;
 mod tree;
 mod values;
+pub mod vocabulary;
 
 pub use coding::{codon_letter, translate, StopInside};
 pub use layout::layout;
@@ -22,4 +23,4 @@ pub use listing::{
 };
 pub use location::{location, Location, Operator, Span};
 pub use text::Part;
-pub use values::{Broken, Kind};
+pub use values::{value_rules, Broken, Kind};

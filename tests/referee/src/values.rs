@@ -1,11 +1,17 @@
-//! Rules 10 to 29: every broken rule of a listing that is of the layout.
+//! Rules 10 to 29 and 40 to 42: every broken rule of a listing that is of the layout.
 
 use crate::cds;
 use crate::coding::{self, Coding};
 use crate::location::location;
 use crate::text::Text;
-use crate::tree::{Feature, Sequence, Tree};
+use crate::tree::{Feature, Qualifier, Sequence, Tree};
+use crate::vocabulary;
 use std::collections::BTreeSet;
+
+/// The rules on values.
+pub fn value_rules() -> impl Iterator<Item = u32> + Clone {
+    (10..=29).chain(40..=42)
+}
 
 /// A broken rule; in order of place, and at one place of rule number.
 #[derive(Clone, Copy, Debug, PartialEq, Eq, PartialOrd, Ord)]
@@ -37,7 +43,7 @@ pub fn is_skipped(listing: &[u8], sequence: &Sequence) -> bool {
     sequence.residues.is(listing, "000")
 }
 
-/// Collects every broken rule from 10 to 29.
+/// Collects every broken rule on values: 10 to 29 and 40 to 42.
 pub fn broken_values(listing: &[u8], tree: &Tree) -> BTreeSet<Broken> {
     let mut judge = Judge {
         listing,
@@ -118,6 +124,9 @@ impl Judge<'_> {
         let symbols_hold = kind.map_or(false, |kind| self.residues(kind, sequence));
         if let Some(kind) = kind {
             self.source(kind, sequence);
+            for feature in &sequence.features {
+                self.vocabulary(kind, feature);
+            }
         }
         for feature in &sequence.features {
             self.feature(kind, symbols_hold, sequence, feature);
@@ -168,6 +177,26 @@ impl Judge<'_> {
             let whole = format!("1..{}", sequence.residue_count);
             self.rule(22, source.key.place, has_both);
             self.rule(23, source.location.place, self.is(&source.location, whole));
+        }
+    }
+
+    /// Rules 40 to 42.
+    fn vocabulary(&mut self, kind: Kind, feature: &Feature) {
+        let listing = self.listing;
+        let is_named = |text: &Text, name: &str| {
+            vocabulary::spellings(kind, name).any(|spelling| text.is(listing, spelling))
+        };
+        let mut keys = vocabulary::keys(kind).iter();
+        let key = keys.find(|key| is_named(&feature.key, key.name));
+        self.rule(40, feature.key.place, key.is_some());
+        if let Some(key) = key {
+            let qualifiers = &feature.qualifiers;
+            for Qualifier { name: text, .. } in qualifiers {
+                let is_allowed = key.allowed().any(|name| is_named(text, name));
+                self.rule(41, text.place, is_allowed);
+            }
+            let is_there = |name: &str| qualifiers.iter().any(|q| is_named(&q.name, name));
+            self.rule(42, feature.key.place, key.required().all(is_there));
         }
     }
 

@@ -2,7 +2,9 @@
 
 use super::model::{Coding, Feature, Field, Header, Place, Qualifier, Sequence};
 use super::rng::Rng;
-use crate::Operator;
+use super::valid;
+use crate::vocabulary::{self, keys, spellings, Key};
+use crate::{Kind, Operator};
 
 /// The rules that a damage breaks, each with the value whose place counts.
 pub type Breaks = Vec<(u32, Field)>;
@@ -17,7 +19,7 @@ pub enum Damage {
 
 /// Every damage, with the rule that it is meant to break.
 /// They are made for the rich listings, in which everything optional is there.
-pub const DAMAGES: [(u32, Damage); 31] = [
+pub const DAMAGES: [(u32, Damage); 34] = [
     (10, Damage::Header(dtd_version)),
     (11, Damage::Header(production_date)),
     (11, Damage::Header(application_date)),
@@ -49,6 +51,9 @@ pub const DAMAGES: [(u32, Damage); 31] = [
     (28, Damage::Sequence(stop_inside)),
     (29, Damage::Sequence(skipped_text)),
     (29, Damage::Sequence(skipped_element)),
+    (40, Damage::Sequence(unknown_key)),
+    (41, Damage::Sequence(unknown_names)),
+    (42, Damage::Sequence(missing_names)),
 ];
 
 fn exchange(text: &mut String, rng: &mut Rng, wrong: &[&str]) {
@@ -283,42 +288,68 @@ fn source(sequence: &Sequence) -> usize {
 
 fn no_source(sequence: &mut Sequence, k: usize, rng: &mut Rng) -> Option<Breaks> {
     known(sequence)?;
-    let wrong = ["", "Source", "sources", " source", "source ", "'source'"];
+    let other_spelling = if sequence.is_nucleic() {
+        "SOURCE"
+    } else {
+        "source"
+    };
+    let wrong = [
+        "",
+        "Source",
+        "sources",
+        " source",
+        "source ",
+        "'source'",
+        other_spelling,
+    ];
     let source = source(sequence);
-    exchange(&mut sequence.table.as_mut()?[source].key, rng, &wrong);
-    Some(vec![(21, Field::Table(k))])
+    let key = &mut sequence.table.as_mut()?[source].key;
+    exchange(key, rng, &wrong);
+    let mut breaks = vec![(21, Field::Table(k))];
+    // In AA the lower-case name is a known key, though no source.
+    breaks.extend((key != "source").then_some((40, Field::Key(k, source))));
+    Some(breaks)
 }
 
 fn second_source(sequence: &mut Sequence, k: usize, rng: &mut Rng) -> Option<Breaks> {
     known(sequence)?;
     let mut second = sequence.features()[source(sequence)].clone();
+    let at = rng.below(sequence.features().len() + 1);
+    let mut breaks = vec![(21, Field::Table(k))];
     if rng.chance(50) {
-        // Rules 22 and 23 aren't judged where 21 is broken.
+        // Rules 22 and 23 aren't judged where 21 is broken, but 42 is.
         second.location.text = "2".into();
         second.qualifiers = None;
+        breaks.push((42, Field::Key(k, at)));
     }
-    let at = rng.below(sequence.features().len() + 1);
     sequence.table.as_mut()?.insert(at, second);
-    Some(vec![(21, Field::Table(k))])
+    Some(breaks)
 }
 
 fn source_qualifiers(sequence: &mut Sequence, k: usize, rng: &mut Rng) -> Option<Breaks> {
     known(sequence)?;
+    let kind = sequence.kind();
     let [_, organism, mol_type] = sequence.source_names();
     let f = source(sequence);
     let qualifiers = sequence.table.as_mut()?[f].qualifiers.as_mut()?;
     let name = *rng.pick(&[organism, mol_type]);
-    match rng.below(5) {
+    let wrong = match kind {
+        Kind::Aa => [format!("{name} "), name.to_lowercase()],
+        Kind::Dna | Kind::Rna => [format!("{name} "), name.to_uppercase()],
+    };
+    match rng.below(6) {
         0 => qualifiers.retain(|qualifier| qualifier.name != name),
         1 => qualifiers.push(Qualifier::new(name, "another")),
         2 => qualifiers.insert(0, Qualifier::without_value(name)),
         3 => qualifiers.clear(),
         _ => {
             let mut named = qualifiers.iter_mut().filter(|q| q.name == name);
-            named.next()?.name = format!("{name} ");
+            named.next()?.name = rng.pick(&wrong).clone();
         }
     }
-    Some(vec![(22, Field::Key(k, f))])
+    let mut breaks = vec![(22, Field::Key(k, f))];
+    breaks.extend(vocabulary_breaks(sequence, k, f));
+    Some(breaks)
 }
 
 fn source_location(sequence: &mut Sequence, k: usize, rng: &mut Rng) -> Option<Breaks> {
@@ -351,13 +382,18 @@ fn source_location(sequence: &mut Sequence, k: usize, rng: &mut Rng) -> Option<B
     Some(breaks.collect())
 }
 
-/// Gives any feature but the source another location.
-fn exchange_location(sequence: &mut Sequence, rng: &mut Rng, text: &str) -> Option<usize> {
+/// Any feature but the source, by its number.
+fn any_other(sequence: &Sequence, rng: &mut Rng) -> usize {
     let source = source(sequence);
     let others: Vec<usize> = (0..sequence.features().len())
         .filter(|&f| f != source)
         .collect();
-    let f = *rng.pick(&others);
+    *rng.pick(&others)
+}
+
+/// Gives any feature but the source another location.
+fn exchange_location(sequence: &mut Sequence, rng: &mut Rng, text: &str) -> Option<usize> {
+    let f = any_other(sequence, rng);
     sequence.table.as_mut()?[f].location.text = text.into();
     Some(f)
 }
@@ -649,4 +685,146 @@ fn skipped_element(sequence: &mut Sequence, k: usize, rng: &mut Rng) -> Option<B
         }]);
     }
     Some(vec![(29, Field::Residues(k))])
+}
+
+/// What a feature breaks of rules 41 and 42 if its key is known.
+fn vocabulary_breaks(sequence: &Sequence, k: usize, f: usize) -> Breaks {
+    let kind = sequence.kind();
+    let feature = &sequence.features()[f];
+    let key = vocabulary::known(kind, &feature.key).expect("a known key");
+    let names: Vec<&str> = feature
+        .qualifiers()
+        .iter()
+        .map(|q| q.name.as_str())
+        .collect();
+    let allowed: Vec<&str> = key.spelled(kind).collect();
+    let is_missing = |name| !spellings(kind, name).any(|spelling| names.contains(&spelling));
+    let mut breaks: Breaks = (0..names.len())
+        .filter(|&q| !allowed.contains(&names[q]))
+        .map(|q| (41, Field::QualifierName(k, f, q)))
+        .collect();
+    breaks.extend(
+        key.required()
+            .any(is_missing)
+            .then_some((42, Field::Key(k, f))),
+    );
+    breaks
+}
+
+fn other_kind(kind: Kind) -> Kind {
+    match kind {
+        Kind::Aa => Kind::Dna,
+        Kind::Dna | Kind::Rna => Kind::Aa,
+    }
+}
+
+/// Nearly this name.
+fn misspelled(rng: &mut Rng, name: &str) -> String {
+    let last = name.len() - 1;
+    let at = rng.below(name.len());
+    let (before, after) = name.split_at(at);
+    match rng.below(8) {
+        // `exonn`, `exo` and `exom`.
+        0 => format!("{name}{}", &name[last..]),
+        1 => name[..last].into(),
+        2 => format!("{}{}", &name[..last], rng.pick(&["m", "E", "_", "'"])),
+        3 => name.to_uppercase(),
+        4 => name.to_lowercase(),
+        5 if after.starts_with(char::is_lowercase) => {
+            format!("{before}{}{}", after[..1].to_uppercase(), &after[1..])
+        }
+        5 => format!("{before}{}{}", after[..1].to_lowercase(), &after[1..]),
+        // As an entity, or a blank.
+        6 => format!(
+            "{before}{}{after}",
+            rng.pick(&["<", ">", "&", "\"", "'", " "])
+        ),
+        _ => format!(
+            "{}{}",
+            rng.pick(&["", " ", "misc_"]),
+            rng.pick(&["", " ", name])
+        ),
+    }
+}
+
+/// The key of any feature becomes one that its kind doesn't know.
+fn unknown_key(sequence: &mut Sequence, k: usize, rng: &mut Rng) -> Option<Breaks> {
+    known(sequence)?;
+    let kind = sequence.kind();
+    let source = source(sequence);
+    let f = rng.below(sequence.features().len());
+    let key = loop {
+        let key = if rng.chance(20) {
+            rng.pick(keys(other_kind(kind))).name.into()
+        } else {
+            let near = rng.pick(keys(kind)).name;
+            misspelled(rng, near)
+        };
+        if vocabulary::known(kind, &key).is_none() {
+            break key;
+        }
+    };
+    sequence.table.as_mut()?[f].key = key;
+    let mut breaks = vec![(40, Field::Key(k, f))];
+    breaks.extend((f == source).then_some((21, Field::Table(k))));
+    Some(breaks)
+}
+
+/// Any feature gets a name or two that its key doesn't allow.
+fn unknown_names(sequence: &mut Sequence, k: usize, rng: &mut Rng) -> Option<Breaks> {
+    known(sequence)?;
+    let kind = sequence.kind();
+    let f = rng.below(sequence.features().len());
+    let feature = &mut sequence.table.as_mut()?[f];
+    let key = vocabulary::known(kind, &feature.key)?;
+    let allowed: Vec<&str> = key.spelled(kind).collect();
+    let qualifiers = feature.qualifiers.get_or_insert_with(Vec::new);
+    for _ in 0..rng.between(1, 2) {
+        let name = loop {
+            let name = match rng.below(4) {
+                0 => (*rng.pick(vocabulary::qualifiers(kind))).into(),
+                1 => (*rng.pick(vocabulary::qualifiers(other_kind(kind)))).into(),
+                _ => {
+                    let near = *rng.pick(&allowed);
+                    misspelled(rng, near)
+                }
+            };
+            if !allowed.contains(&name.as_str()) {
+                break name;
+            }
+        };
+        let at = rng.below(qualifiers.len() + 1);
+        let value = rng.chance(80).then(|| "1".to_string());
+        qualifiers.insert(at, Qualifier { name, value });
+    }
+    Some(vocabulary_breaks(sequence, k, f))
+}
+
+/// Any feature but the source gets a key that requires something, and not all of that.
+fn missing_names(sequence: &mut Sequence, k: usize, rng: &mut Rng) -> Option<Breaks> {
+    known(sequence)?;
+    let kind = sequence.kind();
+    let f = any_other(sequence, rng);
+    let requiring: Vec<&Key> = keys(kind)
+        .iter()
+        .filter(|key| key.required().next().is_some())
+        // A second source would break rule 21.
+        .filter(|key| kind == Kind::Aa || key.name != "source")
+        .collect();
+    let key = *rng.pick(&requiring);
+    let required: Vec<&str> = key.required().collect();
+    let left_out = if rng.chance(50) {
+        required.clone()
+    } else {
+        vec![*rng.pick(&required)]
+    };
+    let mut qualifiers = valid::qualifiers(rng, kind, key);
+    qualifiers.retain(|qualifier| {
+        let mut left_out = left_out.iter().flat_map(|name| spellings(kind, name));
+        !left_out.any(|name| name == qualifier.name)
+    });
+    let feature = &mut sequence.table.as_mut()?[f];
+    feature.key = key.name.into();
+    feature.qualifiers = Some(qualifiers);
+    Some(vec![(42, Field::Key(k, f))])
 }

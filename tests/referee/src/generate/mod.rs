@@ -3,6 +3,7 @@
 pub mod damage;
 pub mod model;
 mod mutate;
+pub mod plain;
 mod rng;
 mod sentences;
 pub mod sized;

@@ -1,6 +1,6 @@
 //! The generator's own picture of a listing, with what it knows about it.
 
-use crate::{Counts, Operator, Span};
+use crate::{Counts, Kind, Operator, Span};
 
 /// A listing before it is written; all texts are as read.
 #[derive(Clone)]
@@ -122,6 +122,15 @@ impl Sequence {
 
     pub fn is_skipped(&self) -> bool {
         self.residues == "000"
+    }
+
+    /// The kind of one that isn't skipped.
+    pub fn kind(&self) -> Kind {
+        match self.moltype.as_str() {
+            "DNA" => Kind::Dna,
+            "RNA" => Kind::Rna,
+            _ => Kind::Aa,
+        }
     }
 
     pub fn is_nucleic(&self) -> bool {

@@ -1,5 +1,6 @@
 //! Listings of an exact size, and large ones that are traps for a slow reader.
 
+use super::plain::{feature, listing, qualifier, sequence, skipped_sequence, source};
 use super::rng::Rng;
 use super::valid::CODONS;
 use super::{Case, Expectation};
@@ -94,7 +95,7 @@ fn filled(
 }
 
 /// Every trap: valid or invalid listings of nearly the greatest size.
-pub const TRAPS: [fn() -> Case; 17] = [
+pub const TRAPS: [fn() -> Case; 20] = [
     right_translations,
     wrong_translations,
     wide_join,
@@ -107,6 +108,9 @@ pub const TRAPS: [fn() -> Case; 17] = [
     many_features,
     many_sequences,
     many_qualifiers,
+    many_unknown_names,
+    late_required_name,
+    long_key,
     long_length,
     long_total,
     long_position,
@@ -119,7 +123,7 @@ fn right_translations() -> Case {
     let rng = &mut Rng::new(1);
     let (residues, letters) = codons(rng, 1000);
     let location = join((1..=3000).map(|position| position.to_string()));
-    let qualifiers = qualifier("translation", &letters).repeat(14_700);
+    let qualifiers = qualifier("translation", letters.as_str()).repeat(14_700);
     let table = source("DNA", 3000) + &feature("CDS", &location, &qualifiers);
     let text = listing("", &[sequence("DNA", &table, &residues)]);
     case("14,700 right translations", text, one_cds())
@@ -131,7 +135,7 @@ fn wrong_translations() -> Case {
     let (residues, letters) = codons(rng, 1000);
     let location = join((1..=3000).map(|position| position.to_string()));
     let wrong = format!("{}%", &letters[..99]);
-    let qualifiers = qualifier("translation", &wrong).repeat(70_000);
+    let qualifiers = qualifier("translation", wrong.as_str()).repeat(70_000);
     let table = source("DNA", 3000) + &feature("CDS", &location, &qualifiers);
     let text = listing("", &[sequence("DNA", &table, &residues)]);
     let place = text.find(&wrong).unwrap_or(0);
@@ -173,7 +177,7 @@ fn complement_of_long_join() -> Case {
     let members = vec!["1..3,4..6"; 350_000].join(",");
     let location = format!("complement(join({members}))");
     // Backwards and complemented, `4..6` is ttt and `1..3` is atg.
-    let translation = qualifier("translation", &"FM".repeat(350_000));
+    let translation = qualifier("translation", "FM".repeat(350_000).as_str());
     let table = source("DNA", 15) + &feature("CDS", &location, &translation);
     let text = listing("", &[sequence("DNA", &table, residues)]);
     case("complement of a long join", text, one_cds())
@@ -248,10 +252,40 @@ fn many_sequences() -> Case {
 }
 
 fn many_qualifiers() -> Case {
-    let qualifiers = "<INSDQualifier><INSDQualifier_name/></INSDQualifier>".repeat(300_000);
+    let qualifiers = qualifier("map", None).repeat(220_000);
     let table = source("DNA", 12) + &feature("CDS", "1..12", &qualifiers);
     let text = listing("", &[sequence("DNA", &table, "atgaaatgctaa")]);
-    case("300,000 qualifiers", text, one_cds())
+    case("220,000 qualifiers", text, one_cds())
+}
+
+/// Names that share all but their end with an allowed one.
+fn many_unknown_names() -> Case {
+    let qualifiers = qualifier("gene_synonyms", None).repeat(180_000);
+    let table = source("DNA", 12) + &feature("CDS", "1..12", &qualifiers);
+    let text = listing("", &[sequence("DNA", &table, "atgaaatgctaa")]);
+    let place = text.find("gene_synonyms").unwrap_or(0);
+    case("180,000 unknown names", text, refused(41, place))
+}
+
+/// The required name comes after all others.
+fn late_required_name() -> Case {
+    let qualifiers = qualifier("note", None).repeat(210_000) + &qualifier("mod_base", "m5c");
+    let table = source("DNA", 12) + &feature("modified_base", "1", &qualifiers);
+    let counts = Counts {
+        total: 1,
+        features: 2,
+        ..Counts::default()
+    };
+    let text = listing("", &[sequence("DNA", &table, "atgaaatgctaa")]);
+    case("late required name", text, Expectation::Accepted(counts))
+}
+
+fn long_key() -> Case {
+    let key = "CDS".to_string() + &"S".repeat(16_000_000);
+    let table = source("DNA", 12) + &feature(&key, "1..12", "");
+    let text = listing("", &[sequence("DNA", &table, "atgaaatgctaa")]);
+    let place = text.find("CDS").unwrap_or(0);
+    case("key of 16,000,000 letters", text, refused(40, place))
 }
 
 fn long_length() -> Case {
@@ -307,69 +341,6 @@ fn one_cds() -> Expectation {
     })
 }
 
-/// A listing of these sequences, which get their numbers here.
-fn listing(title: &str, sequences: &[String]) -> String {
-    let count = sequences.len();
-    let mut text = format!(
-        "<?xml version=\"1.0\" encoding=\"UTF-8\"?>\n\
-         <!DOCTYPE ST26SequenceListing PUBLIC \"-//WIPO//DTD Sequence Listing 1.2//EN\" \
-         \"ST26SequenceListing_V1_2.dtd\">\n\
-         <ST26SequenceListing dtdVersion=\"1_2\"><ApplicantFileReference/>\
-         <InventionTitle languageCode=\"en\">{title}</InventionTitle>\
-         <SequenceTotalQuantity>{count}</SequenceTotalQuantity>\n"
-    );
-    for (number, sequence) in (1..).zip(sequences) {
-        text += &format!("<SequenceData sequenceIDNumber=\"{number}\">");
-        text += sequence;
-        text += "</SequenceData>\n";
-    }
-    text + "</ST26SequenceListing>\n"
-}
-
-fn sequence(moltype: &str, table: &str, residues: &str) -> String {
-    format!(
-        "<INSDSeq><INSDSeq_length>{}</INSDSeq_length>\
-         <INSDSeq_moltype>{moltype}</INSDSeq_moltype><INSDSeq_division>PAT</INSDSeq_division>\
-         <INSDSeq_feature-table>{table}</INSDSeq_feature-table>\
-         <INSDSeq_sequence>{residues}</INSDSeq_sequence></INSDSeq>",
-        residues.len()
-    )
-}
-
-fn skipped_sequence() -> String {
-    "<INSDSeq><INSDSeq_length/><INSDSeq_moltype/><INSDSeq_division/>\
-     <INSDSeq_sequence>000</INSDSeq_sequence></INSDSeq>"
-        .into()
-}
-
-fn feature(key: &str, location: &str, qualifiers: &str) -> String {
-    let location = location.replace('<', "&lt;").replace('>', "&gt;");
-    let qualifiers = match qualifiers {
-        "" => String::new(),
-        _ => format!("<INSDFeature_quals>{qualifiers}</INSDFeature_quals>"),
-    };
-    format!(
-        "<INSDFeature><INSDFeature_key>{key}</INSDFeature_key>\
-         <INSDFeature_location>{location}</INSDFeature_location>{qualifiers}</INSDFeature>"
-    )
-}
-
-fn qualifier(name: &str, value: &str) -> String {
-    format!(
-        "<INSDQualifier><INSDQualifier_name>{name}</INSDQualifier_name>\
-         <INSDQualifier_value>{value}</INSDQualifier_value></INSDQualifier>"
-    )
-}
-
-fn source(moltype: &str, length: usize) -> String {
-    let [key, organism, mol_type] = match moltype {
-        "AA" => ["SOURCE", "ORGANISM", "MOL_TYPE"],
-        _ => ["source", "organism", "mol_type"],
-    };
-    let qualifiers = qualifier(organism, "synthetic") + &qualifier(mol_type, "other");
-    feature(key, &format!("1..{length}"), &qualifiers)
-}
-
 fn join(members: impl Iterator<Item = String>) -> String {
     let members: Vec<String> = members.collect();
     format!("join({})", members.join(","))
@@ -416,7 +387,7 @@ fn any_feature(rng: &mut Rng, counts: &mut Counts) -> String {
         _ => {
             let first = rng.between(1, 11);
             let location = format!("{first}^{}", first + 1);
-            feature("misc_feature", &location, &qualifier("note", "a &lt; b"))
+            feature("misc_feature", &location, &qualifier("note", "a < b"))
         }
     }
 }

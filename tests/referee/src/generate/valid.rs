@@ -5,7 +5,8 @@ use super::model::{
 };
 use super::rng::Rng;
 use crate::location::{BEFORE, BEYOND, COMPLEMENT, SITE};
-use crate::{Operator, Span};
+use crate::vocabulary::{keys, known, spellings, Key};
+use crate::{Kind, Operator, Span};
 
 /// Each letter with codons that give it, written down by hand.
 pub const CODONS: [(char, &str); 22] = [
@@ -227,14 +228,9 @@ fn amino(rng: &mut Rng, number: usize) -> Sequence {
     let mut features = Vec::new();
     for _ in 0..rng.between(1, 3) {
         let place = location(rng, residues.len(), false);
-        let key = *rng.pick(&["SITE", "REGION", "source", "CDS", "<odd>", ""]);
-        let mut qualifiers = others(rng);
-        if key == "CDS" {
-            // No rule looks at these in AA.
-            qualifiers.push(Qualifier::new("codon_start", "7"));
-            qualifiers.push(Qualifier::new("translation", "no such"));
-        }
-        features.push(feature(rng, key, place, qualifiers, Coding::NotCds));
+        // The lower-case `source` is as ordinary here as any other key.
+        let key = rng.pick(keys(Kind::Aa));
+        features.push(ordinary(rng, Kind::Aa, key, place));
     }
     sequence(rng, number, "AA", features, residues)
 }
@@ -254,11 +250,12 @@ fn nucleic(rng: &mut Rng, number: usize, plan: &[Cds]) -> Sequence {
             features.push(unjudged_feature(rng, length, cds));
         }
     }
+    let is_ordinary = |key: &&Key| !["source", "CDS"].contains(&key.name);
+    let keys: Vec<&Key> = keys(Kind::Dna).iter().filter(is_ordinary).collect();
     for _ in 0..rng.between(1, 3) {
-        let key = *rng.pick(&["misc_feature", "3'UTR", "gene", "SOURCE", "cds", "a b", ""]);
         let place = location(rng, length, true);
-        let qualifiers = others(rng);
-        features.push(feature(rng, key, place, qualifiers, Coding::NotCds));
+        let key = *rng.pick(&keys);
+        features.push(ordinary(rng, Kind::Dna, key, place));
     }
     let moltype = *rng.pick(&["DNA", "RNA"]);
     sequence(rng, number, moltype, features, residues)
@@ -289,7 +286,8 @@ fn sequence(
         spans: vec![span(1, length, 0)],
         is_unclear: false,
     };
-    let mut qualifiers = others(rng);
+    let key = known(sequence.kind(), source).expect("a known key");
+    let mut qualifiers = others(rng, sequence.kind(), key, &[organism, mol_type]);
     qualifiers.push(Qualifier::new(organism, text(rng)));
     qualifiers.push(Qualifier {
         name: mol_type.into(),
@@ -318,24 +316,53 @@ fn feature(
     }
 }
 
-/// Qualifiers that no rule looks at.
-fn others(rng: &mut Rng) -> Vec<Qualifier> {
-    let names = [
-        "note",
-        "gene",
-        "NOTE",
-        "product",
-        "Translation",
-        "'odd' & <name>",
-        "",
-    ];
+/// A feature of this key that is neither a CDS nor the source.
+fn ordinary(rng: &mut Rng, kind: Kind, key: &Key, place: Place) -> Feature {
+    let qualifiers = qualifiers(rng, kind, key);
+    feature(rng, key.name, place, qualifiers, Coding::NotCds)
+}
+
+/// All that the key requires, and some that it allows.
+pub fn qualifiers(rng: &mut Rng, kind: Kind, key: &Key) -> Vec<Qualifier> {
+    let mut qualifiers = others(rng, kind, key, &[]);
+    for name in key.required() {
+        let spellings: Vec<&str> = spellings(kind, name).collect();
+        qualifiers.push(qualifier(rng, &spellings));
+    }
+    qualifiers
+}
+
+/// Up to three qualifiers that the key allows, in any spelling but these.
+fn others(rng: &mut Rng, kind: Kind, key: &Key, left_out: &[&str]) -> Vec<Qualifier> {
+    let mut names: Vec<&str> = key.spelled(kind).collect();
+    names.retain(|name| !left_out.contains(name));
     let count = rng.below(4);
-    (0..count)
-        .map(|_| Qualifier {
-            name: (*rng.pick(&names)).into(),
-            value: optional(rng, 80, text),
-        })
-        .collect()
+    (0..count).map(|_| qualifier(rng, &names)).collect()
+}
+
+/// A qualifier of one of these names, with any value or none.
+fn qualifier(rng: &mut Rng, names: &[&str]) -> Qualifier {
+    Qualifier {
+        name: (*rng.pick(names)).into(),
+        value: optional(rng, 80, text),
+    }
+}
+
+/// What decides whether a CDS is judged, and how.
+const DECIDING: [&str; 7] = [
+    "codon_start",
+    "exception",
+    "pseudo",
+    "pseudogene",
+    "transl_except",
+    "transl_table",
+    "translation",
+];
+
+/// Qualifiers of a CDS that no rule on coding looks at.
+fn idle(rng: &mut Rng) -> Vec<Qualifier> {
+    let cds = known(Kind::Dna, "CDS").expect("a known key");
+    others(rng, Kind::Dna, cds, &DECIDING)
 }
 
 /// A CDS whose translation is known because its codons are laid out here.
@@ -372,7 +399,7 @@ fn coding_feature(rng: &mut Rng, residues: &mut Vec<u8>, cds: Cds) -> Feature {
         coding.resize(rng.between(1, 2), b'a');
     }
     let place = lay_out(rng, residues, &coding);
-    let mut qualifiers = others(rng);
+    let mut qualifiers = idle(rng);
     qualifiers.extend(codon_start.map(|start| Qualifier::new("codon_start", start.to_string())));
     for _ in 0..rng.below(3) {
         qualifiers.push(Qualifier::new("transl_table", "1"));
@@ -511,7 +538,7 @@ fn span(first: usize, last: usize, marks: u32) -> Span {
 }
 
 fn unjudged_feature(rng: &mut Rng, length: usize, cds: Cds) -> Feature {
-    let mut qualifiers = others(rng);
+    let mut qualifiers = idle(rng);
     let place = if let Cds::UnjudgedByLocation = cds {
         unclear_location(rng, length)
     } else {

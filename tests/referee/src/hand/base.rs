@@ -58,7 +58,7 @@ pub const BASE: &str = r#"<?xml version="1.0" encoding="UTF-8"?>
 </INSDFeature_quals>
 </INSDFeature>
 <INSDFeature>
-<INSDFeature_key>SITE</INSDFeature_key><INSDFeature_location>&lt;2..3</INSDFeature_location>
+<INSDFeature_key>TURN</INSDFeature_key><INSDFeature_location>&lt;2..3</INSDFeature_location>
 </INSDFeature>
 </INSDSeq_feature-table>
 <INSDSeq_sequence>MKCWX</INSDSeq_sequence>

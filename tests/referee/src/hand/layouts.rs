@@ -650,15 +650,15 @@ pub const REFUSED: &[Refused] = &[
     refused(
         "feature with nothing in it",
         &[(
-            "<INSDFeature>\n<INSDFeature_key>SITE",
-            "<INSDFeature/>\n<INSDFeature_key>SITE",
+            "<INSDFeature>\n<INSDFeature_key>TURN",
+            "<INSDFeature/>\n<INSDFeature_key>TURN",
         )],
         3061,
         "/>",
     ),
     refused(
         "feature without key",
-        &[("<INSDFeature_key>SITE</INSDFeature_key>", "")],
+        &[("<INSDFeature_key>TURN</INSDFeature_key>", "")],
         3076,
         "location>&lt;2",
     ),
@@ -1016,12 +1016,12 @@ pub const ACCEPTED: &[(&str, &[Edit])] = &[
         )],
     ),
     (
-        "empty name and value",
+        "empty value",
         &[(
             "<INSDQualifier_name>MOL_TYPE</INSDQualifier_name></INSDQualifier>",
             concat!(
                 "<INSDQualifier_name>MOL_TYPE</INSDQualifier_name></INSDQualifier>",
-                "<INSDQualifier ><INSDQualifier_name/><INSDQualifier_value>",
+                "<INSDQualifier ><INSDQualifier_name\n>NOTE</INSDQualifier_name ><INSDQualifier_value>",
                 "</INSDQualifier_value\n></INSDQualifier>"
             ),
         )],

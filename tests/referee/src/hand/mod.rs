@@ -3,10 +3,19 @@
 pub mod base;
 pub mod layouts;
 pub mod values;
+pub mod vocabulary;
 
 use base::{edited, BASE, SHORTEST};
 use layouts::{ACCEPTED, REFUSED};
-use values::{FEATURES, HEADER, SAMPLES, SEQUENCES};
+use values::{Case, FEATURES, HEADER, SAMPLES, SEQUENCES};
+use vocabulary::VOCABULARY;
+
+/// Those about the rules on values, 01's sample sheet first.
+pub fn values() -> impl Iterator<Item = &'static Case> {
+    [SAMPLES, HEADER, SEQUENCES, FEATURES, VOCABULARY]
+        .into_iter()
+        .flatten()
+}
 
 /// Every one of them, with its name.
 pub fn listings() -> Vec<(String, Vec<u8>)> {
@@ -20,7 +29,7 @@ pub fn listings() -> Vec<(String, Vec<u8>)> {
     for (name, edits) in ACCEPTED {
         listings.push((name.to_string(), edited(edits)));
     }
-    for case in [SAMPLES, HEADER, SEQUENCES, FEATURES].into_iter().flatten() {
+    for case in values() {
         for (value, bytes) in case.listings() {
             listings.push((format!("{} {value:?}", case.name), bytes));
         }

@@ -5,12 +5,12 @@ use crate::report::Report;
 use referee::generate::{
     case, one_damage, several_damages, truncation, valid_listing, Case, Damaged, Expectation, Rng,
 };
-use referee::{broken, Broken, Listing, Refusal};
+use referee::{broken, value_rules, Broken, Listing, Refusal};
 
 /// One damage for each rule many times, then several at once.
 pub fn damages(report: &mut Report) {
     let rng = &mut Rng::new(1);
-    for rule in 10..=29 {
+    for rule in value_rules() {
         let mut hits = 0;
         for _ in 0..150 {
             let damaged = one_damage(rng, rule);

@@ -3,7 +3,7 @@
 use crate::report::Report;
 use referee::hand::base::{bytes, edited, BASE, BASE_COUNTS, SHORTEST};
 use referee::hand::layouts::{ACCEPTED, REFUSED};
-use referee::hand::values::{Case, Outcome, FEATURES, HEADER, SAMPLES, SEQUENCES};
+use referee::hand::values::{Case, Outcome};
 use referee::text::characters;
 use referee::{broken, layout, verdict_lines, Broken, Counts, Listing, Refusal};
 
@@ -71,12 +71,12 @@ pub fn lines(report: &mut Report) {
     }
 }
 
-/// Rules 10 to 29.
+/// Rules 10 to 29 and 40 to 42.
 pub fn values(report: &mut Report) {
     let read: Vec<u8> = characters(b"a&lt;&gt;&amp;&quot;&apos;lt; \xff").collect();
     let wanted = b"a<>&\"'lt; \xff".to_vec();
     report.equal(read, wanted, || "entities as read".into());
-    for case in [SAMPLES, HEADER, SEQUENCES, FEATURES].into_iter().flatten() {
+    for case in referee::hand::values() {
         for (value, text) in case.listings() {
             outcome(report, case, value, &text);
         }

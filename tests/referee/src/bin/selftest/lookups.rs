@@ -4,7 +4,7 @@ use crate::report::Report;
 use referee::generate::model::{Coding, Feature, Field, Sequence};
 use referee::generate::{Model, Written};
 use referee::hand::base::{edited, BASE};
-use referee::hand::values::SAMPLES;
+use referee::hand::values::{GENE, SAMPLES};
 use referee::{
     FeatureAnswer, Kind, Listing, Operator, Part, QualifierAnswer, Refusal, SequenceAnswer,
     SpansAnswer,
@@ -250,7 +250,7 @@ fn spans_of_locations(report: &mut Report) {
         ),
     ];
     for (location, operator, numbers) in cases {
-        let text = edited(&[("complement(1..12)", location), (">CDS<", ">gene<")]);
+        let text = edited(&[GENE, ("complement(1..12)", location)]);
         let listing = Listing::new(&text);
         spans_hold(report, &listing, (1, 2), Ok((operator, numbers)));
         translation_holds(report, &listing, (1, 2), Err(refusal(35)));
@@ -292,13 +292,8 @@ fn sequence_holds(
     sequence: &Sequence,
 ) {
     let index = k as usize - 1;
-    let kind = match sequence.moltype.as_str() {
-        "DNA" => Kind::Dna,
-        "RNA" => Kind::Rna,
-        _ => Kind::Aa,
-    };
     let holds = listing.sequence(k).map_or(false, |answer| {
-        answer.kind == kind && is_part(written, answer.residues, Field::Residues(index))
+        answer.kind == sequence.kind() && is_part(written, answer.residues, Field::Residues(index))
     });
     report.check(holds, || format!("sequence {k}"));
     let beyond = sequence.features().len() as u64 + 1;

@@ -8,6 +8,7 @@ mod places;
 mod report;
 mod sizes;
 mod translations;
+mod vocabulary;
 
 use report::Report;
 use std::process::ExitCode;
@@ -21,6 +22,8 @@ fn main() -> ExitCode {
     report.section("lookups by hand", lookups::by_hand);
     report.section("codons and coding texts", translations::all);
     report.section("locations", locations::all);
+    report.section("the vocabulary's tables", vocabulary::tables);
+    report.section("the vocabulary in valid listings", vocabulary::coverage);
     report.section("beginnings", places::beginnings);
     report.section("damages", generated::damages);
     report.section("valid listings", generated::valid);
