@@ -33,7 +33,7 @@ use Rattle.protein_codons.specs.Letters.{lettersOf}
 use Rattle.protein_compare.specs.Comparing.{RightValue, RightIf, Compares}
 use Rattle.judge_faults.specs.Sets.{Earlier, Firsts, Some}
 use Rattle.judge_faults.proofs.Bytes.{part-shows}
-use Rattle.judge_faults.proofs.Faults.{firsts-none, some-none, some-more, some-later}
+use Rattle.judge_faults.proofs.Faults.{earlier-clean, firsts-none, some-none, some-more, some-later}
 use Rattle.judge_faults.proofs.Seen.{seen-none}
 use Rattle.judge_coding.specs.Translations.{Breaks28, RightAt, Settled, SaysRight, CheckedOf, Checks, Rights}
 use Rattle.judge_coding.specs.declared.SoFar.{SoFar}
@@ -74,11 +74,7 @@ module _ {s x : List ℕ} {fault : Fault} {right : Maybe} (l : List (Qualifier �
   -- it breaks nothing
   checked-clean : {k : Maybe} → ((n p : ℕ) → ¬ Breaks28 x (suc (length l)) q n p) → RightAt s x k → CheckedOf s x fault k (l ++ (q ∷ []))
   checked-clean h k =
-      record { first = some-more (Breaks28 x) l q (so .first) (firsts-none (Breaks28 x (suc (length l)) q) h) (with-clean fault); known = k }
-    where
-      with-clean : (a : Fault) → Earlier a Clean a
-      with-clean Clean = refl
-      with-clean (At n p) = refl
+      record { first = some-more (Breaks28 x) l q (so .first) (firsts-none (Breaks28 x (suc (length l)) q) h) (earlier-clean fault); known = k }
 
   -- it breaks rule 28
   checked-broken : {p : ℕ} {r : Fault} → p ≡ valuePlace (q .value) (q .name) → Named "translation" q

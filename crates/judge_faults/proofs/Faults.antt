@@ -25,6 +25,10 @@ pub firsts-none : (S : Faults) → ((n p : ℕ) → ¬ S n p) → Firsts S Clean
 firsts-none S h = record { is = h }
 
 -- a single fault
+pub earlier-clean : (a : Fault) → Earlier a Clean a
+earlier-clean Clean = refl
+earlier-clean (At n p) = refl
+
 pub firsts-one : (m q : ℕ) (A : Type 0) → ¬ A → Firsts (Bad m q A) (At m q)
 firsts-one m q A h =
     record {

@@ -1,72 +1,90 @@
 -- Whether a region is unjudged, after one qualifier more, and by its location.
 use Prim.Native.Nat.{ℕ}
 use Prim.Native.String.{String}
+use native.Mathlib.Omega.{arith}
 use mathlib.Core.Path.{_≡_, refl, sym, ap, _∙_, subst}
 use mathlib.Core.Bool.{Bool, true, false, true≢false, not}
 use mathlib.Core.Logic.{_⊎_, inl, inr}
 use mathlib.Core.List.{List}
-use Rattle.paper.specs.Bytes.{bytes, raw}
+use Rattle.paper.specs.Bytes.{bytes}
 use Rattle.paper.specs.Lists.{_∈_}
 use Rattle.paper.specs.Tree.{Qualifier, Feature, qualifiersOf}
 use Rattle.paper.specs.Locations.{Location, Locates, leavesUnjudged}
 use Rattle.paper.specs.Rules.{Unjudged, excepted, other-code, located}
 use Rattle.paper.proofs.Lists.{every}
 use Rattle.paper.proofs.Locate.{locates-once}
-use Rattle.value_words.specs.Reading.{Tells, OfRead}
+use Rattle.value_words.specs.Reading.{Tells}
 use Rattle.value_words.proofs.Tests.{tells-true, tells-false}
-use Rattle.value_words.proofs.Read.{tells-word, tells-read}
+use Rattle.value_vocabulary.specs.Tables.{PlaceOf, nameTexts}
+use Rattle.value_vocabulary.proofs.Keyed.{number-is, number-not}
 use Rattle.walk_steps.specs.declared.Maybe.{Maybe}
 use Rattle.location_judge.specs.Judging.{JudgedText}
 use Rattle.location_judge.specs.declared.judging.Facts.{Facts}
 use Rattle.location_judge.specs.declared.judging.Judgement.{Judgement}
 use Rattle.location_judge.specs.declared.judging.Judgement.the-variants.{Bad, Is}
-use Rattle.judge_qualifiers.specs.Qualifiers.{ValueIs, Shown, exceptions, Excepted, OtherCode, HasExcepted, Excepts, LeavesOut}
+use Rattle.judge_qualifiers.specs.Qualifiers.{ValueIs, OfName, Shown, exceptions, Excepted, OtherCode, HasExcepted, Excepts, LeavesOut}
 use Rattle.judge_qualifiers.proofs.Lists.{in-last, in-front, in-split}
 
--- ---- the names
+-- ---- the names: 76 is the number of transl_except, 19 of exception, 52 of pseudo, 53 of pseudogene
 
--- the test of a name on its bytes
-pub excepted-read : {w : List ℕ} (r : Bool) → Tells r (Excepted w) → OfRead w Excepted r
-excepted-read r t =
-    tells-read Excepted (λ v x. subst (λ (u : List ℕ). raw u ≡ u) (sym (x .2)) (every (λ (name : String). raw (bytes name) ≡ bytes name) exceptions (refl, (refl, (refl, (refl, tt)))) (x .0) (x .1))) r t
+module _ {number : ℕ} where
+  -- it is this one
+  excepted-is : (name : String) → name ∈ exceptions → ((v : List ℕ) → PlaceOf nameTexts v number → v ≡ bytes name) → OfName number Excepted true
+  excepted-is name i f = record { says = λ v p. (name, i, f v p) }
 
--- none of the first three
-pub excepted-last : {w : List ℕ} (r : Bool) → ¬ (w ≡ bytes "transl_except") → ¬ (w ≡ bytes "exception") → ¬ (w ≡ bytes "pseudo") → Tells r (w ≡ bytes "pseudogene")
-    → Tells r (Excepted w)
-excepted-last true a b c d = ("pseudogene", (3, refl), d)
-excepted-last {w} false a b c d = λ x. every (λ (name : String). ¬ (w ≡ bytes name)) exceptions (a, (b, (c, (d, tt)))) (x .0) (x .1) (x .2)
+  pub excepted-first : number ≡ 76 → OfName number Excepted true
+  excepted-first e = excepted-is "transl_except" (0, refl) (λ v p. number-is p 76 (omega arith) e)
+
+  pub excepted-second : number ≡ 19 → OfName number Excepted true
+  excepted-second e = excepted-is "exception" (1, refl) (λ v p. number-is p 19 (omega arith) e)
+
+  pub excepted-third : number ≡ 52 → OfName number Excepted true
+  excepted-third e = excepted-is "pseudo" (2, refl) (λ v p. number-is p 52 (omega arith) e)
+
+  pub excepted-fourth : number ≡ 53 → OfName number Excepted true
+  excepted-fourth e = excepted-is "pseudogene" (3, refl) (λ v p. number-is p 53 (omega arith) e)
+
+  -- none of them
+  pub excepted-none : ¬ (number ≡ 76) → ¬ (number ≡ 19) → ¬ (number ≡ 52) → ¬ (number ≡ 53) → OfName number Excepted false
+  excepted-none a b c d =
+      record {
+        says =
+            λ v p x.
+            every (λ (name : String). ¬ (v ≡ bytes name)) exceptions
+            (number-not p 76 (omega arith) a, (number-not p 19 (omega arith) b, (number-not p 52 (omega arith) c, (number-not p 53 (omega arith) d, tt)))) (x .0) (x .1) (x .2);
+      }
 
 -- ---- one qualifier more
 
-module _ {s w : List ℕ} {value : Maybe} {e : Bool} where
-  pub excepts-before : e ≡ true → Excepts s e w value true
+module _ {s : List ℕ} {number : ℕ} {value : Maybe} {e : Bool} where
+  pub excepts-before : e ≡ true → Excepts s e number value true
   excepts-before h = record { says = λ q z l t. let x = tells-true e h t in (x .0, in-front l q (x .0) (x .1), x .2) }
 
   -- this one
-  excepts-this : ((q : Qualifier ℕ) → Shown s w value q → Excepted (q .name .read) ⊎ OtherCode q) → Excepts s e w value true
+  excepts-this : ((q : Qualifier ℕ) → Shown s number value q → Excepted (q .name .read) ⊎ OtherCode q) → Excepts s e number value true
   excepts-this h = record { says = λ q z l t. (q, in-last l q, h q z) }
 
-  pub excepts-name : {r : Bool} → r ≡ true → OfRead w Excepted r → Excepts s e w value true
+  pub excepts-name : {r : Bool} → r ≡ true → OfName number Excepted r → Excepts s e number value true
   excepts-name {r} h o = excepts-this (λ q z. inl (tells-true r h (o .says (q .name .read) (z .name))))
 
   -- nor this one
-  module _ {r : Bool} (h : e ≡ false) (k : r ≡ false) (o : OfRead w Excepted r) where
-    excepts-not : ((q : Qualifier ℕ) → Shown s w value q → ¬ OtherCode q) → Excepts s e w value false
+  module _ {r : Bool} (h : e ≡ false) (k : r ≡ false) (o : OfName number Excepted r) where
+    excepts-not : ((q : Qualifier ℕ) → Shown s number value q → ¬ OtherCode q) → Excepts s e number value false
     excepts-not g = record { says = λ q z l t x. cases q z l (tells-false e h t) (x .0) (in-split l q (x .1)) (x .2) }
       where
-        cases : (q : Qualifier ℕ) → Shown s w value q → (l : List (Qualifier ℕ)) → ¬ HasExcepted l → (y : Qualifier ℕ) → (y ∈ l) ⊎ (y ≡ q) → Excepted (y .name .read) ⊎ OtherCode y → ⊥
+        cases : (q : Qualifier ℕ) → Shown s number value q → (l : List (Qualifier ℕ)) → ¬ HasExcepted l → (y : Qualifier ℕ) → (y ∈ l) ⊎ (y ≡ q) → Excepted (y .name .read) ⊎ OtherCode y → ⊥
         cases q z l n y (inl m) x = n (y, m, x)
         cases q z l n y (inr m) (inl x) = tells-false r k (o .says (q .name .read) (z .name)) (subst (λ (u : Qualifier ℕ). Excepted (u .name .read)) m x)
         cases q z l n y (inr m) (inr x) = g q z (subst OtherCode m x)
 
-    pub excepts-other : {t : Bool} → t ≡ false → Tells t (w ≡ bytes "transl_table") → Excepts s e w value false
-    excepts-other {t} j x = excepts-not (λ q z y. tells-word (bytes "transl_table") refl false (tells-false t j x) .says (q .name .read) (z .name) (y .0))
+    -- 77 is the number of transl_table
+    pub excepts-other : ¬ (number ≡ 77) → Excepts s e number value false
+    excepts-other n = excepts-not (λ q z y. number-not (z .name) 77 (omega arith) n (y .0))
 
     -- by its value
-    pub excepts-code : {t : Bool} (v : Bool) → t ≡ true → Tells t (w ≡ bytes "transl_table") → ValueIs s value (bytes "1") v → Excepts s e w value (not v)
-    excepts-code true j x y = excepts-not (λ q z d. d .1 (y .says refl (q .value) (z .valued)))
-    excepts-code {t} false j x y =
-        excepts-this (λ q z. inr (tells-word (bytes "transl_table") refl true (tells-true t j x) .says (q .name .read) (z .name), y .says refl (q .value) (z .valued)))
+    pub excepts-code : (v : Bool) → number ≡ 77 → ValueIs s value (bytes "1") v → Excepts s e number value (not v)
+    excepts-code true i y = excepts-not (λ q z d. d .1 (y .says refl (q .value) (z .valued)))
+    excepts-code false i y = excepts-this (λ q z. inr (number-is (z .name) 77 (omega arith) i, y .says refl (q .value) (z .valued)))
 
 -- ---- the region
 

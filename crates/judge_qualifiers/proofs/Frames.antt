@@ -1,18 +1,14 @@
 -- Rule 27: the frame of a list of qualifiers, after one qualifier more.
 use Prim.Native.Nat.{ℕ}
 use native.Mathlib.Omega.{arith}
-use mathlib.Core.Path.{_≡_, refl, subst}
-use mathlib.Core.Bool.{Bool, true, false}
+use mathlib.Core.Path.{_≡_, subst}
 use mathlib.Core.Logic.{_⊎_, inl, inr}
 use mathlib.Core.List.{List, [], _∷_, _++_}
-use Rattle.paper.specs.Bytes.{bytes}
 use Rattle.paper.specs.Lists.{_∈_, Count}
 use Rattle.paper.specs.Tree.{Qualifier, Feature, qualifiersOf}
 use Rattle.paper.specs.Rules.{Named, valueRead, CodonStart, absent, stated}
 use Rattle.paper.proofs.Lists.{count-once}
-use Rattle.value_words.specs.Reading.{Tells}
-use Rattle.value_words.proofs.Tests.{tells-true, tells-false}
-use Rattle.value_words.proofs.Read.{tells-word}
+use Rattle.value_vocabulary.proofs.Keyed.{number-is, number-not}
 use Rattle.walk_steps.specs.declared.Maybe.{Maybe}
 use Rattle.judge_faults.proofs.Seen.{count-has, count-lacks}
 use Rattle.judge_qualifiers.specs.Qualifiers.{Shown, StatesStart, StateIs, States, OneStart, NoStart, FrameIs, Frames}
@@ -58,22 +54,22 @@ module _ (l : List (Qualifier ℕ)) (q : Qualifier ℕ) where
     frame-more : ¬ NoStart l → FrameIs (l ++ (q ∷ [])) Wrong
     frame-more h = (not-none, λ m o. h (one-last o))
 
-module _ {s w : List ℕ} {value : Maybe} {t : Bool} (tells : Tells t (w ≡ bytes "codon_start")) where
-  name-is : t ≡ true → (q : Qualifier ℕ) → Shown s w value q → Named "codon_start" q
-  name-is e q h = tells-word (bytes "codon_start") refl true (tells-true t e tells) .says (q .name .read) (h .name)
+-- 9 is the number of codon_start
+module _ {s : List ℕ} {number : ℕ} {value : Maybe} where
+  name-is : number ≡ 9 → (q : Qualifier ℕ) → Shown s number value q → Named "codon_start" q
+  name-is e q h = number-is (h .name) 9 (omega arith) e
 
-  pub frames-other : {frame : Frame} → t ≡ false → Frames s frame w value frame
-  frames-other {frame} e =
-      record { says = λ q h l f. frame-lacks l q (tells-word (bytes "codon_start") refl false (tells-false t e tells) .says (q .name .read) (h .name)) frame f }
+  pub frames-other : {frame : Frame} → ¬ (number ≡ 9) → Frames s frame number value frame
+  frames-other {frame} e = record { says = λ q h l f. frame-lacks l q (number-not (h .name) 9 (omega arith) e) frame f }
 
-  pub frames-first : {frame : Frame} (r : Frame) → t ≡ true → frame ≡ Unstated → States s value r → Frames s frame w value r
+  pub frames-first : {frame : Frame} (r : Frame) → number ≡ 9 → frame ≡ Unstated → States s value r → Frames s frame number value r
   frames-first r e u v = record { says = λ q h l f. frame-first l q (name-is e q h) r (subst (FrameIs l) u f) (v .says (q .value) (h .valued)) }
 
-  pub frames-second : {frame : Frame} {n : ℕ} → t ≡ true → frame ≡ Stated n → Frames s frame w value Wrong
+  pub frames-second : {frame : Frame} {n : ℕ} → number ≡ 9 → frame ≡ Stated n → Frames s frame number value Wrong
   frames-second {n = n} e u =
       record { says = λ q h l f. frame-more l q (name-is e q h) (λ c. let z : _≡_ {A = ℕ} 0 1 = count-once c (subst (FrameIs l) u f .one) in omega arith) }
 
-  pub frames-third : {frame : Frame} → t ≡ true → frame ≡ Wrong → Frames s frame w value Wrong
+  pub frames-third : {frame : Frame} → number ≡ 9 → frame ≡ Wrong → Frames s frame number value Wrong
   frames-third e u = record { says = λ q h l f. frame-more l q (name-is e q h) (subst (FrameIs l) u f .0) }
 
 -- ---- of a feature

@@ -5,4 +5,5 @@ pub mod Loops
 pub mod Values
 pub mod Frames
 pub mod Exceptions
+pub mod Words
 pub mod Noting

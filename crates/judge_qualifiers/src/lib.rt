@@ -1,20 +1,46 @@
 // What the qualifiers of a feature say, in one pass for every feature: how many organisms and mol_types there are (rule 22), with which
-// residue its codons start (rule 27), whether it is left unjudged, and from where on its translations stand (rule 28). Relies on the walk
-// along the qualifiers, the values and the judged location; it reads no residue.
+// residue its codons start (rule 27), whether it is left unjudged, from where on its translations stand (rule 28), the first name that the
+// key doesn't allow (rule 41), and whether the names that it requires are there (rule 42). A name is looked up once, and asked for by its
+// number. Relies on the walk along the qualifiers, the values, the vocabulary and the judged location; it reads no residue.
+use judge_faults::Fault;
+use judge_faults::earlier;
 use judge_faults::more_of_two;
 use location_judge::judging::Judgement;
 use read_steps::bytes_of;
+use value_vocabulary::name_of;
+use value_vocabulary::standing;
 use value_words::Molecule;
 use value_words::same;
 use walk_items::FoundQualifier;
 use walk_steps::Maybe;
 ghost use mathlib.Core.Path.{_≡_};
 ghost use mathlib.Core.Bool.{cond};
-ghost use Rattle.paper.specs.Bytes.{bytes};
-ghost use Rattle.paper.specs.Rules.{organismName, molTypeName};
-ghost use Rattle.value_words.specs.Reading.{Tells, OfRead};
-ghost use Rattle.judge_qualifiers.specs.Qualifiers.{inUpper, ValueIs, States, Frames, Excepted, Excepts, Meets, Notes, LeavesOut};
+ghost use Rattle.value_vocabulary.specs.Tables.{VocabularyTable};
+ghost use Rattle.judge_qualifiers.specs.Qualifiers.{inUpper, ValueIs, OfName, States, Frames, Excepted, Excepts, IsOrganism, IsMolType, Meets, WithWord, Notes, LeavesOut};
 ghost use Rattle.judge_qualifiers.specs.Starts.{NamesCoding, StartsAt};
+
+// The numbers of the names that are asked for, in the vocabulary.
+const CODON_START: usize = 9;
+
+const EXCEPTION: usize = 19;
+
+const MOL_TYPE: usize = 38;
+
+const ORGANISM: usize = 44;
+
+const PSEUDO: usize = 52;
+
+const PSEUDOGENE: usize = 53;
+
+const TRANSL_EXCEPT: usize = 76;
+
+const TRANSL_TABLE: usize = 77;
+
+const TRANSLATION: usize = 79;
+
+const UPPER_ORGANISM: usize = 82;
+
+const UPPER_MOL_TYPE: usize = 83;
 
 // Whether a key is that of a coding region, for a kind.
 pub fn is_coding(key: &[u8], kind: Molecule) -> bool
@@ -68,11 +94,11 @@ fn stated(s: &[u8], value: Maybe) -> Frame
     Frame::Wrong
 }
 
-// The frame, after one qualifier more, whose name is w.
-fn frame_with(s: &[u8], frame: Frame, w: &[u8], value: Maybe) -> Frame
-    ensures { λ r. ⌜ Frames (now (s .entry)) frame (now (w .entry)) value r ⌝ }
+// The frame, after one qualifier more, of the name of this number.
+fn frame_with(s: &[u8], frame: Frame, name: usize, value: Maybe) -> Frame
+    ensures { λ r. ⌜ Frames (now (s .entry)) frame name value r ⌝ }
 {
-    if !same(w, b"codon_start") {
+    if name != CODON_START {
         return frame;
     }
     match frame {
@@ -89,32 +115,35 @@ fn frame_with(s: &[u8], frame: Frame, w: &[u8], value: Maybe) -> Frame
 }
 
 // Whether a qualifier of this name leaves its region unjudged, whatever its value.
-fn is_excepted(w: &[u8]) -> bool
-    ensures { λ r. ⌜ OfRead (now (w .entry)) Excepted r ⌝ }
+fn is_excepted(name: usize) -> bool
+    ensures { λ r. ⌜ OfName name Excepted r ⌝ }
 {
-    if same(w, b"transl_except") {
+    if name == TRANSL_EXCEPT {
         return true;
     }
-    if same(w, b"exception") {
+    if name == EXCEPTION {
         return true;
     }
-    if same(w, b"pseudo") {
+    if name == PSEUDO {
         return true;
     }
-    same(w, b"pseudogene")
+    if name == PSEUDOGENE {
+        return true;
+    }
+    false
 }
 
 // Whether some qualifier leaves the region unjudged, after one more.
-fn excepted_with(s: &[u8], excepted: bool, w: &[u8], value: Maybe) -> bool
-    ensures { λ r. ⌜ Excepts (now (s .entry)) excepted (now (w .entry)) value r ⌝ }
+fn excepted_with(s: &[u8], excepted: bool, name: usize, value: Maybe) -> bool
+    ensures { λ r. ⌜ Excepts (now (s .entry)) excepted name value r ⌝ }
 {
     if excepted {
         return true;
     }
-    if is_excepted(w) {
+    if is_excepted(name) {
         return true;
     }
-    if !same(w, b"transl_table") {
+    if name != TRANSL_TABLE {
         return false;
     }
     !value_is(s, value, b"1")
@@ -134,34 +163,37 @@ pub fn in_upper(kind: Molecule) -> bool
     }
 }
 
-fn is_organism(w: &[u8], upper: bool) -> bool
-    ensures { λ r. ⌜ Tells r (now (w .entry) ≡ bytes (organismName upper)) ⌝ }
+fn is_organism(name: usize, upper: bool) -> bool
+    ensures { λ r. ⌜ OfName name (IsOrganism upper) r ⌝ }
 {
     if upper {
-        return same(w, b"ORGANISM");
+        return name == UPPER_ORGANISM;
     }
-    same(w, b"organism")
+    name == ORGANISM
 }
 
-fn is_moltype(w: &[u8], upper: bool) -> bool
-    ensures { λ r. ⌜ Tells r (now (w .entry) ≡ bytes (molTypeName upper)) ⌝ }
+fn is_moltype(name: usize, upper: bool) -> bool
+    ensures { λ r. ⌜ OfName name (IsMolType upper) r ⌝ }
 {
     if upper {
-        return same(w, b"MOL_TYPE");
+        return name == UPPER_MOL_TYPE;
     }
-    same(w, b"mol_type")
+    name == MOL_TYPE
 }
 
 // ---- rule 28
 
 // Whether a translation was met, after one qualifier more.
-fn met_with(met: bool, w: &[u8]) -> bool
-    ensures { λ r. ⌜ Meets met (now (w .entry)) r ⌝ }
+fn met_with(met: bool, name: usize) -> bool
+    ensures { λ r. ⌜ Meets met name r ⌝ }
 {
     if met {
         return true;
     }
-    same(w, b"translation")
+    if name == TRANSLATION {
+        return true;
+    }
+    false
 }
 
 // The place kept once a translation was met, and the next one before.
@@ -174,6 +206,52 @@ fn kept(met: bool, rest: usize, next: usize) -> usize
     next
 }
 
+// ---- rules 41 and 42
+
+// The first fault of a name that the key doesn't allow, and whether the first and the second name that it requires were met.
+pub struct Worded {
+    pub foreign: Fault,
+    pub first: bool,
+    pub second: bool,
+}
+
+// The same, after one name more, which stands so in the key's row.
+fn with_word(a: Worded, how: usize, place: usize) -> Worded
+    ensures { λ r. ⌜ WithWord how place a r ⌝ }
+{
+    let Worded {
+        foreign,
+        first,
+        second,
+    } = a;
+    if how == 0 {
+        return Worded {
+            foreign: earlier(foreign, Fault::At { rule: 41, place }),
+            first,
+            second,
+        };
+    }
+    if how == 2 {
+        return Worded {
+            foreign,
+            first: true,
+            second,
+        };
+    }
+    if how == 3 {
+        return Worded {
+            foreign,
+            first,
+            second: true,
+        };
+    }
+    Worded {
+        foreign,
+        first,
+        second,
+    }
+}
+
 // ---- all of them
 
 // What all qualifiers say. Of organisms and mol_types 2 stands for more. No translation stands before `rest`; they end at `next`.
@@ -182,18 +260,26 @@ pub struct Noted {
     pub excepted: bool,
     pub organisms: usize,
     pub moltypes: usize,
+    pub words: Worded,
     pub rest: usize,
     pub next: usize,
 }
 
-pub fn note(s: &[u8], first: usize, upper: bool) -> Noted
-    ensures { λ r. ⌜ Notes (now (s .entry)) first upper r ⌝ }
+// `row` is the place of the key's row in the vocabulary, `upper` whether the names of a source are in upper case.
+pub fn note(s: &[u8], first: usize, upper: bool, row: usize, vocabulary: &[u8; 3498]) -> Noted
+    requires { ⌜ VocabularyTable (now vocabulary) ⌝ }
+    ensures { λ r. ⌜ Notes (now (s .entry)) first upper row (now (vocabulary .entry)) r ⌝ }
 {
     let mut at = first;
     let mut frame = Frame::Unstated;
     let mut excepted = false;
     let mut organisms: usize = 0;
     let mut moltypes: usize = 0;
+    let mut words = Worded {
+        foreign: Fault::Clean,
+        first: false,
+        second: false,
+    };
     let mut met = false;
     let mut rest = first;
     loop {
@@ -205,16 +291,18 @@ pub fn note(s: &[u8], first: usize, upper: bool) -> Noted
                     excepted,
                     organisms,
                     moltypes,
+                    words,
                     rest,
                     next: at,
                 };
             }
-            let w = bytes_of(s, name.from, name.to);
-            organisms = more_of_two(organisms, is_organism(w, upper));
-            moltypes = more_of_two(moltypes, is_moltype(w, upper));
-            frame = frame_with(s, frame, w, value);
-            excepted = excepted_with(s, excepted, w, value);
-            met = met_with(met, w);
+            let number = name_of(bytes_of(s, name.from, name.to), vocabulary);
+            organisms = more_of_two(organisms, is_organism(number, upper));
+            moltypes = more_of_two(moltypes, is_moltype(number, upper));
+            frame = frame_with(s, frame, number, value);
+            excepted = excepted_with(s, excepted, number, value);
+            words = with_word(words, standing(row, number, vocabulary), name.from);
+            met = met_with(met, number);
             rest = kept(met, rest, next);
             at = next;
         } else {
@@ -223,6 +311,7 @@ pub fn note(s: &[u8], first: usize, upper: bool) -> Noted
                 excepted,
                 organisms,
                 moltypes,
+                words,
                 rest,
                 next: at,
             };
@@ -254,7 +343,13 @@ pub enum Start {
 }
 
 // Of a region that keeps rule 27.
-pub fn start_of(s: &[u8], first: usize, verdict: Judgement) -> Start
+pub fn start_of(
+    s: &[u8],
+    first: usize,
+    verdict: Judgement,
+    vocabulary: &[u8; 3498],
+) -> Start
+    requires { ⌜ VocabularyTable (now vocabulary) ⌝ }
     ensures { λ r. ⌜ StartsAt (now (s .entry)) first verdict r ⌝ }
 {
     let Noted {
@@ -262,9 +357,10 @@ pub fn start_of(s: &[u8], first: usize, verdict: Judgement) -> Start
         excepted,
         organisms: _,
         moltypes: _,
+        words: _,
         rest: _,
         next: _,
-    } = note(s, first, false);
+    } = note(s, first, false, 0, vocabulary);
     if is_unjudged(excepted, verdict) {
         return Start::Unjudged;
     }

@@ -31,8 +31,16 @@ place-read l v r p =
       found = λ k h e. p .found k (subst (λ (n : ℕ). k < n) (sym (length-map l raw)) h) (ap raw e ∙ sym (List·getD-map raw l k []));
     }
 
+-- a number tells the name that has it, and no other
+module _ {v : List ℕ} {j : ℕ} (p : PlaceOf nameTexts v j) (n : ℕ) (h : n < length nameTexts) where
+  pub number-is : j ≡ n → v ≡ getD nameTexts n []
+  number-is e = p .is (omega (arith, e, h)) ∙ ap (λ (i : ℕ). getD nameTexts i []) e
+
+  pub number-not : ¬ (j ≡ n) → ¬ (v ≡ getD nameTexts n [])
+  number-not f e = f (p .found n h e)
+
 -- an element by its place
-pub at-place : (l : List (List ℕ)) (v : List ℕ) (m : v ∈ l) → (m .0 < length l) × (v ≡ getD l (m .0) [])
+at-place : (l : List (List ℕ)) (v : List ℕ) (m : v ∈ l) → (m .0 < length l) × (v ≡ getD l (m .0) [])
 at-place [] v m = absurd (m .1)
 at-place (x ∷ l) v (zero, e) = (omega arith, e)
 at-place (x ∷ l) v (suc i, e) = let y = at-place l v (i, e) in (omega (arith, y .0), y .1)

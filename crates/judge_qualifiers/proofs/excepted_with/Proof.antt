@@ -1,5 +1,4 @@
 -- `judge_qualifiers::excepted_with` meets its contract.
-use borrow.Author.Tests.{not-true, not-false}
 use Rattle.judge_qualifiers.proofs.Exceptions.{excepts-before, excepts-name, excepts-other, excepts-code}
 use borrow.Author.Needs.{needs}
 use Rattle.judge_qualifiers.proofs.excepted_with.Statement.{statement}
@@ -14,17 +13,8 @@ is-excepted-requires c κs = search needs
 returns-2 : tie.Need-returns-2
 returns-2 c = excepts-name (c .if2 .taken) (c .before .is-excepted .ensures)
 
-slice-aggregate-same : tie.Need-slice-aggregate-same
-slice-aggregate-same c = search needs
-
-same-requires : tie.Need-same-requires
-same-requires c κs = search needs
-
 returns-3 : tie.Need-returns-3
-returns-3 c =
-    let if1 = c .before .before .before .before .before .if1 in
-    excepts-other (if1 .left) (c .before .before .before .if2 .left) (c .before .before .before .before .is-excepted .ensures)
-    (not-true (c .before .same .result) (c .if3 .taken)) (c .before .same .ensures)
+returns-3 c = excepts-other (c .before .before .before .if1 .left) (c .before .if2 .left) (c .before .before .is-excepted .ensures) (c .if3 .taken)
 
 slice-aggregate-value-is : tie.Need-slice-aggregate-value-is
 slice-aggregate-value-is c = search needs
@@ -34,12 +24,9 @@ value-is-requires c κs = search needs
 
 returns-4 : tie.Need-returns-4
 returns-4 c =
-    let if1 = c .before .before .before .before .before .before .before .if1 in
-    let is-excepted = c .before .before .before .before .before .before .is-excepted in
-    let if2 = c .before .before .before .before .before .if2 in
-    excepts-code (if1 .left) (if2 .left) (is-excepted .ensures) (c .value-is .result)
-    (not-false (c .before .before .before .same .result) (c .before .before .if3 .left)) (c .before .before .before .same .ensures)
-    (c .value-is .ensures)
+    let if1 = c .before .before .before .before .before .if1 in
+    excepts-code (if1 .left) (c .before .before .before .if2 .left) (c .before .before .before .before .is-excepted .ensures)
+    (c .value-is .result) (c .before .before .if3 .left) (c .value-is .ensures)
 
 pub excepted-with-spec : {M : Type 1} → statement M
 excepted-with-spec =
@@ -48,8 +35,6 @@ excepted-with-spec =
     returns
     is-excepted-requires
     returns-2
-    slice-aggregate-same
-    same-requires
     returns-3
     slice-aggregate-value-is
     value-is-requires

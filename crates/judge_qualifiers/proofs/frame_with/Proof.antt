@@ -1,18 +1,11 @@
 -- `judge_qualifiers::frame_with` meets its contract.
-use borrow.Author.Tests.{not-true, not-false}
 use Rattle.judge_qualifiers.proofs.Frames.{frames-other, frames-first, frames-second, frames-third}
 use borrow.Author.Needs.{needs}
 use Rattle.judge_qualifiers.proofs.frame_with.Statement.{statement}
 use Rattle.judge_qualifiers.proofs.frame_with.Tie as tie
 
-slice-aggregate-same : tie.Need-slice-aggregate-same
-slice-aggregate-same c = search needs
-
-same-requires : tie.Need-same-requires
-same-requires c κs = search needs
-
 returns : tie.Need-returns
-returns c = frames-other (c .before .same .ensures) (not-true (c .before .same .result) (c .if1 .taken))
+returns c = frames-other (c .if1 .taken)
 
 enum-told : tie.Need-enum-told
 enum-told c = search needs
@@ -21,33 +14,24 @@ stated-requires : tie.Need-stated-requires
 stated-requires c κs = search needs
 
 returns-2 : tie.Need-returns-2
-returns-2 c =
-    frames-first (c .before .before .before .before .same .ensures) (c .stated .result)
-    (not-false (c .before .before .before .before .same .result) (c .before .before .before .if1 .left)) (c .before .enum-told .given .1)
-    (c .stated .ensures)
+returns-2 c = frames-first (c .stated .result) (c .before .before .before .if1 .left) (c .before .enum-told .given .1) (c .stated .ensures)
 
 enum-told-2 : tie.Need-enum-told-2
 enum-told-2 c = search needs
 
 returns-3 : tie.Need-returns-3
-returns-3 c =
-    frames-second (c .before .before .before .same .ensures)
-    (not-false (c .before .before .before .same .result) (c .before .before .if1 .left)) (c .enum-told2 .given .1)
+returns-3 c = frames-second (c .before .before .if1 .left) (c .enum-told2 .given .1)
 
 enum-told-3 : tie.Need-enum-told-3
 enum-told-3 c = search needs
 
 returns-4 : tie.Need-returns-4
-returns-4 c =
-    frames-third (c .before .before .before .same .ensures)
-    (not-false (c .before .before .before .same .result) (c .before .before .if1 .left)) (c .enum-told3 .given .1)
+returns-4 c = frames-third (c .before .before .if1 .left) (c .enum-told3 .given .1)
 
 pub frame-with-spec : {M : Type 1} → statement M
 frame-with-spec =
     tie.close
     (tie.spec
-    slice-aggregate-same
-    same-requires
     returns
     enum-told
     stated-requires

@@ -1,25 +1,28 @@
 -- `judge_qualifiers::note` meets its contract. The loop's invariant: what the qualifiers passed say. The measure is what is left of the
 -- text.
-use Prim.Native.Nat.{_-_}
+use Prim.Native.Nat.{ℕ, _-_}
 use native.Mathlib.Omega.{arith}
+use mathlib.Core.Path.{subst}
 use denote.Ref.{now}
 use lib.ListN.{length}
 use Rattle.paper.specs.Bytes.{bytes}
 use Rattle.walk_steps.proofs.Loops.{there-inside}
+use Rattle.judge_qualifiers.specs.Qualifiers.{WithWord}
 use Rattle.judge_qualifiers.proofs.Noting.{Noting, noting-none, noting-next, noting-stuck, noting-done}
 use borrow.Author.Needs.{needs}
 use Rattle.judge_qualifiers.proofs.note.Statement.{statement}
 use Rattle.judge_qualifiers.proofs.note.Tie as tie
 
 abbrev Inv-loop : tie.InvT-loop
-Inv-loop s first upper at₀ frame₀ excepted₀ organisms₀ moltypes₀ met₀ rest₀ at frame excepted organisms moltypes met rest =
-    Noting s first upper at frame excepted organisms moltypes met rest
+Inv-loop s first upper row vocabulary at₀ frame₀ excepted₀ organisms₀ moltypes₀ words₀ met₀ rest₀ at frame excepted organisms moltypes words met rest =
+    Noting s first upper row vocabulary at frame excepted organisms moltypes words met rest
 
 abbrev μ-loop : tie.MeasureT-loop
-μ-loop s first upper at₀ frame₀ excepted₀ organisms₀ moltypes₀ met₀ rest₀ at frame excepted organisms moltypes met rest = length s - at
+μ-loop s first upper row vocabulary at₀ frame₀ excepted₀ organisms₀ moltypes₀ words₀ met₀ rest₀ at frame excepted organisms moltypes words met rest =
+    length s - at
 
 loop-holds : tie.Need-loop-holds Inv-loop μ-loop
-loop-holds c = noting-none (c .before .args .first) (c .before .args .upper)
+loop-holds c = noting-none (c .before .args .first) (c .before .args .upper) (c .before .args .row) (now (c .before .args .vocabulary))
 
 qualifier-here-requires : tie.Need-qualifier-here-requires Inv-loop μ-loop
 qualifier-here-requires c κs = search needs
@@ -35,6 +38,9 @@ returns c =
 
 bytes-of-requires : tie.Need-bytes-of-requires Inv-loop μ-loop
 bytes-of-requires c κs = search needs
+
+name-of-requires : tie.Need-name-of-requires Inv-loop μ-loop
+name-of-requires c κs = search needs
 
 is-organism-requires : tie.Need-is-organism-requires Inv-loop μ-loop
 is-organism-requires c κs = search needs
@@ -54,6 +60,12 @@ frame-with-requires c κs = search needs
 excepted-with-requires : tie.Need-excepted-with-requires Inv-loop μ-loop
 excepted-with-requires c κs = search needs
 
+standing-requires : tie.Need-standing-requires Inv-loop μ-loop
+standing-requires c κs = search needs
+
+with-word-requires : tie.Need-with-word-requires Inv-loop μ-loop
+with-word-requires c κs = search needs
+
 met-with-requires : tie.Need-met-with-requires Inv-loop μ-loop
 met-with-requires c κs = search needs
 
@@ -62,26 +74,29 @@ kept-requires c κs = search needs
 
 loop-less : tie.Need-loop-less Inv-loop μ-loop
 loop-less c =
-    let args = c .before .before .before .before .before .before .before .before .before .before .before .before .before .before .before .before .args in
-    let loop' = c .before .before .before .before .before .before .before .before .before .before .before .before .before .before .loop in
-    let qualifier-here = c .before .before .before .before .before .before .before .before .before .before .before .before .before .qualifier-here in
-    let if1 = c .before .before .before .before .before .before .before .before .before .before .before .before .if1 in
+    let args = c .before .before .before .before .before .before .before .before .before .before .before .before .before .before .before .before .before .before .before .args in
+    let loop' = c .before .before .before .before .before .before .before .before .before .before .before .before .before .before .before .before .before .loop in
+    let qualifier-here = c .before .before .before .before .before .before .before .before .before .before .before .before .before .before .before .before .qualifier-here in
+    let if1 = c .before .before .before .before .before .before .before .before .before .before .before .before .before .before .before .if1 in
     omega (arith, there-inside 60 (bytes "INSDQualifier") (now (args .s)) (loop' .at) (if1 .taken) (qualifier-here .ensures))
 
 loop-again : tie.Need-loop-again Inv-loop μ-loop
 loop-again c =
-    let loop' = c .before .before .before .before .before .before .before .before .before .before .before .before .before .before .loop in
-    let qualifier-here = c .before .before .before .before .before .before .before .before .before .before .before .before .before .qualifier-here in
-    let if1 = c .before .before .before .before .before .before .before .before .before .before .before .before .if1 in
-    let qualifier = c .before .before .before .before .before .before .before .before .before .before .before .qualifier in
-    let bytes-of = c .before .before .before .before .before .before .before .before .bytes-of in
-    let is-organism = c .before .before .before .before .before .before .before .is-organism in
-    let more-of-two = c .before .before .before .before .before .before .more-of-two in
-    let is-moltype = c .before .before .before .before .before .is-moltype in
-    noting-next (qualifier-here .ensures) (loop' .inv) (if1 .taken) (qualifier .ensures) (bytes-of .ensures) (is-organism .result)
-    (is-moltype .result) (c .before .before .before .frame-with .ensures) (c .before .before .excepted-with .ensures)
-    (is-organism .ensures) (more-of-two .ensures) (is-moltype .ensures) (c .before .before .before .before .more-of-two2 .ensures)
-    (c .before .met-with .ensures) (c .kept .ensures)
+    let loop' = c .before .before .before .before .before .before .before .before .before .before .before .before .before .before .before .before .before .loop in
+    let qualifier-here = c .before .before .before .before .before .before .before .before .before .before .before .before .before .before .before .before .qualifier-here in
+    let if1 = c .before .before .before .before .before .before .before .before .before .before .before .before .before .before .before .if1 in
+    let qualifier = c .before .before .before .before .before .before .before .before .before .before .before .before .before .before .qualifier in
+    let bytes-of = c .before .before .before .before .before .before .before .before .before .before .before .bytes-of in
+    let name-of = c .before .before .before .before .before .before .before .before .before .before .name-of in
+    let is-organism = c .before .before .before .before .before .before .before .before .before .is-organism in
+    let more-of-two = c .before .before .before .before .before .before .before .before .more-of-two in
+    let is-moltype = c .before .before .before .before .before .before .before .is-moltype in
+    let more-of-two2 = c .before .before .before .before .before .before .more-of-two2 in
+    let frame-with = c .before .before .before .before .before .frame-with in
+    let how = subst (λ (n : ℕ). WithWord n (qualifier .result .name .from) (loop' .words) (c .before .before .with-word .result)) (c .before .before .before .standing .ensures) (c .before .before .with-word .ensures) in
+    noting-next (qualifier-here .ensures) (loop' .inv) (if1 .taken) (qualifier .ensures) (bytes-of .ensures) (name-of .ensures) (is-organism .result)
+    (is-moltype .result) (frame-with .ensures) (c .before .before .before .before .excepted-with .ensures) (is-organism .ensures) (more-of-two .ensures) (is-moltype .ensures)
+    (more-of-two2 .ensures) how (c .before .met-with .ensures) (c .kept .ensures)
 
 returns-2 : tie.Need-returns-2 Inv-loop μ-loop
 returns-2 c = noting-done (c .before .qualifier-here .ensures) (c .before .before .loop .inv) (c .if1 .left)
@@ -97,12 +112,15 @@ note-spec =
     qualifier-requires
     returns
     bytes-of-requires
+    name-of-requires
     is-organism-requires
     more-of-two-requires
     is-moltype-requires
     more-of-two-requires-2
     frame-with-requires
     excepted-with-requires
+    standing-requires
+    with-word-requires
     met-with-requires
     kept-requires
     loop-less
