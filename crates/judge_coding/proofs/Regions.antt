@@ -154,7 +154,7 @@ module _ {s : List ℕ} {key : ℕ} {location : Range} {known : Known} {verdict 
   coding-framed g r =
       record {
         says =
-            λ upper q f stop a n.
+            λ upper row t q f stop a n.
             let t = leaves .says (L q) f (n .says .left) (a .judged) in
             record { fault = r .says key q f stop a (n .rest) (g f (n .says .framed)) t; unjudged = t };
       }
@@ -163,7 +163,7 @@ module _ {s : List ℕ} {key : ℕ} {location : Range} {known : Known} {verdict 
   coding-wrong e =
       record {
         says =
-            λ upper q f stop a n.
+            λ upper row t q f stop a n.
             let z = start-wrong f (subst (FrameIs (qualifiersOf f)) e (n .says .framed)) in
             record {
               fault = record { is = record { broken = subst (InCoding q f 27) (sym (a .at)) (rule-27 (a .coding) z); least = least q f a z } };

@@ -33,10 +33,10 @@ pub record IsRegion (q : Sequence ℕ) (f : Feature ℕ) (r : Region) : Type 0 w
   pub fault : Firsts (InCoding q f) (r .fault)
   pub unjudged : Tells (r .unjudged) (Unjudged f)
 
--- whichever names of a source were counted
+-- whichever names of a source were counted, and whatever the key's row is
 pub record JudgesCoding (s : List ℕ) (key : ℕ) (location : Range) (noted : Noted) (known : Known) (verdict : Judgement) (r : Region) : Type 0 where
-  pub says : (upper : Bool) (q : Sequence ℕ) (f : Feature ℕ) (stop : ℕ) → Asked s key location known verdict q f stop
-      → IsNoted s upper (qualifiersOf f) stop noted → IsRegion q f r
+  pub says : (upper : Bool) (row : ℕ) (t : List ℕ) (q : Sequence ℕ) (f : Feature ℕ) (stop : ℕ) → Asked s key location known verdict q f stop
+      → IsNoted s upper row t (qualifiersOf f) stop noted → IsRegion q f r
 
 -- where rule 27 holds, translation starts with residue `start`, and no translation stands before `rest`
 pub record JudgesRegion (s : List ℕ) (location : Range) (rest : ℕ) (known : Known) (verdict : Judgement) (start : ℕ) (unjudged : Bool) (r : Fault) : Type 0 where

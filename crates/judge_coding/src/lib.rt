@@ -219,6 +219,7 @@ pub fn judge_coding(
         excepted,
         organisms: _,
         moltypes: _,
+        words: _,
         rest,
         next: _,
     } = noted;

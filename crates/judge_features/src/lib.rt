@@ -1,5 +1,5 @@
-// The features of a sequence: rules 21 to 28, and the counts of features and coding regions.
-// Relies on the walk along the table, the judged location, one pass over the qualifiers, and the crates for a source and a coding region.
+// The features of a sequence: rules 21 to 28 and 40 to 42, and the counts of features and coding regions. Relies on the walk along the
+// table, the judged location, the row of a key, one pass over the qualifiers, and the crates for words, a source and a coding region.
 use judge_coding::Region;
 use judge_faults::Fault;
 use judge_faults::Known;
@@ -11,6 +11,7 @@ use walk_items::FoundTable;
 ghost use mathlib.Core.Path.{_≡_};
 ghost use Rattle.paper.specs.Translation.{code1};
 ghost use Rattle.protein_code.specs.Tables.{CodeTable};
+ghost use Rattle.value_vocabulary.specs.Tables.{VocabularyTable};
 ghost use Rattle.judge_features.specs.Featured.{placeFault, NamesSource, roleOf, nothingYet, Adds, Finishes, WithSource, Tables, JudgesFeature, JudgesFeatures, JudgesTable};
 
 // What a feature is, for a count.
@@ -204,8 +205,15 @@ fn sum_up(a: Tally, kind: Molecule, place: usize) -> Tabled
 }
 
 // A feature, judged.
-fn judge_feature(s: &[u8], at: usize, known: Known, code: &[u8; 5128]) -> Featured
+fn judge_feature(
+    s: &[u8],
+    at: usize,
+    known: Known,
+    code: &[u8; 5128],
+    vocabulary: &[u8; 3498],
+) -> Featured
     requires { ⌜ CodeTable code1 (now code) ⌝ }
+    requires { ⌜ VocabularyTable (now vocabulary) ⌝ }
     ensures { λ r. ⌜ JudgesFeature (now (s .entry)) at known r ⌝ }
 {
     let FoundFeature {
@@ -216,9 +224,14 @@ fn judge_feature(s: &[u8], at: usize, known: Known, code: &[u8; 5128]) -> Featur
     } = walk_items::feature(s, at);
     let kind = known.kind;
     let verdict = location_judge::judging::judge_location(s, location.from, location.to, known.top);
-    let place = judge_place(verdict, kind, location.from);
     let name = read_steps::bytes_of(s, key.from, key.to);
-    let noted = judge_qualifiers::note(s, quals, judge_qualifiers::in_upper(kind));
+    let row = value_vocabulary::row_of(name, kind, vocabulary);
+    let upper = judge_qualifiers::in_upper(kind);
+    let noted = judge_qualifiers::note(s, quals, upper, row, vocabulary);
+    let place = judge_faults::earlier(
+        judge_place(verdict, kind, location.from),
+        judge_vocabulary::judge_words(key.from, kind, row, noted.words, vocabulary),
+    );
     let next = walk_items::feature_end(s, noted.next, long);
     if is_source(name, kind) {
         return Featured {
@@ -254,15 +267,22 @@ fn judge_feature(s: &[u8], at: usize, known: Known, code: &[u8; 5128]) -> Featur
 }
 
 // The features that stand here.
-fn judge_features(s: &[u8], first: usize, known: Known, code: &[u8; 5128]) -> Tally
+fn judge_features(
+    s: &[u8],
+    first: usize,
+    known: Known,
+    code: &[u8; 5128],
+    vocabulary: &[u8; 3498],
+) -> Tally
     requires { ⌜ CodeTable code1 (now code) ⌝ }
+    requires { ⌜ VocabularyTable (now vocabulary) ⌝ }
     ensures { λ r. ⌜ JudgesFeatures (now (s .entry)) first known r ⌝ }
 {
     let mut at = first;
     let mut tally = no_features();
     loop {
         if walk_items::feature_here(s, at) {
-            let x = judge_feature(s, at, known, code);
+            let x = judge_feature(s, at, known, code, vocabulary);
             let next = x.next;
             if next <= at {
                 return tally;
@@ -275,14 +295,21 @@ fn judge_features(s: &[u8], first: usize, known: Known, code: &[u8; 5128]) -> Ta
     }
 }
 
-// Rules 21 to 28.
-pub fn judge_table(s: &[u8], found: FoundTable, known: Known, code: &[u8; 5128]) -> Tabled
+// Rules 21 to 28, 40 to 42.
+pub fn judge_table(
+    s: &[u8],
+    found: FoundTable,
+    known: Known,
+    code: &[u8; 5128],
+    vocabulary: &[u8; 3498],
+) -> Tabled
     requires { ⌜ CodeTable code1 (now code) ⌝ }
+    requires { ⌜ VocabularyTable (now vocabulary) ⌝ }
     ensures { λ r. ⌜ JudgesTable (now (s .entry)) found known r ⌝ }
 {
     let kind = known.kind;
     if found.present {
-        let a = judge_features(s, found.first, known, code);
+        let a = judge_features(s, found.first, known, code, vocabulary);
         return sum_up(a, kind, found.place);
     }
     let residues = known.residues;

@@ -61,7 +61,7 @@ pub source-judged : {s w : List ℕ} {key : ℕ} {location : Range} {noted : Not
 source-judged {known = known} {once} {whole} a b to' e22 sh ow e23 el =
     record {
       says =
-          λ upper q f stop g.
+          λ upper row t q f stop g.
           let n = g .quals .says in
           let fa : Firsts (In22 upper f) a =
           firsts-unless once 22 (f .key .place) (once-tells upper f once (to' .says) (n .organisms-are) (n .mol-types-are)) (e22 ∙ ap (unlessOf once 22) (g .at)) in

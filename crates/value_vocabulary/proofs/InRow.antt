@@ -86,3 +86,36 @@ pub row-few : (k : Kind) (r : Row) → r ∈ vocabulary k → Few (r .required)
 row-few dna r m = few-in nucleotideRows refl r m
 row-few rna r m = few-in nucleotideRows refl r m
 row-few aa r m = few-in aminoRows refl r m
+
+-- a name by how it stands: the first that is required, or the second
+module _ (o : ℕ) (below : o < 2) (u w : List ℕ) where
+  pub first-stands : (l : List (List ℕ)) → w ≡ u → standingIn 2 (u ∷ l) o w ≡ 2
+  first-stands l e = rw (ap (same w) (sym e) ∙ same-self w)
+
+  pub stands-first : (l : List (List ℕ)) → Few (u ∷ l) → standingIn 2 (u ∷ l) o w ≡ 2 → w ≡ u
+  stands-first l f e = go (same w u) refl l f e
+    where
+      go : (b : Bool) → same w u ≡ b → (l : List (List ℕ)) → Few (u ∷ l) → cond b 2 (standingIn 3 l o w) ≡ 2 → w ≡ u
+      go true p l f e = same-is w u p
+      go false p [] f e = absurd (omega (arith, e, below))
+      go false p (v ∷ []) f e = absurd (by (same w v) e)
+        where
+          by : (b : Bool) → cond b 3 o ≡ 2 → ⊥
+          by true e = omega (arith, e)
+          by false e = omega (arith, e, below)
+      go false p (v ∷ x ∷ l) f e = absurd f
+
+  pub second-stands : (v : List ℕ) → ¬ (v ≡ u) → w ≡ v → standingIn 2 (u ∷ v ∷ []) o w ≡ 3
+  second-stands v n e = go (same w u) refl
+    where
+      go : (b : Bool) → same w u ≡ b → cond b 2 (standingIn 3 (v ∷ []) o w) ≡ 3
+      go true p = absurd (n (sym e ∙ same-is w u p))
+      go false p = rw (ap (same w) (sym e) ∙ same-self w)
+
+  pub stands-second : (v : List ℕ) → standingIn 2 (u ∷ v ∷ []) o w ≡ 3 → w ≡ v
+  stands-second v e = go (same w u) (same w v) refl e
+    where
+      go : (b c : Bool) → same w v ≡ c → cond b 2 (cond c 3 o) ≡ 3 → w ≡ v
+      go true c p e = absurd (omega (arith, e))
+      go false true p e = same-is w v p
+      go false false p e = absurd (omega (arith, e, below))

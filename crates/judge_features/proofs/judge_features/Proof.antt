@@ -12,10 +12,10 @@ use Rattle.judge_features.proofs.judge_features.Statement.{statement}
 use Rattle.judge_features.proofs.judge_features.Tie as tie
 
 abbrev Inv-loop : tie.InvT-loop
-Inv-loop s first known code at₀ tally₀ at tally = Adding s first at known tally
+Inv-loop s first known code vocabulary at₀ tally₀ at tally = Adding s first at known tally
 
 abbrev μ-loop : tie.MeasureT-loop
-μ-loop s first known code at₀ tally₀ at tally = length s - at
+μ-loop s first known code vocabulary at₀ tally₀ at tally = length s - at
 
 no-features-requires : tie.Need-no-features-requires Inv-loop μ-loop
 no-features-requires c κs = search needs

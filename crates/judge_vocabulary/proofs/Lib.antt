@@ -1,0 +1,2 @@
+-- Laws that no one function owns.
+pub mod Rows
