@@ -1,4 +1,4 @@
-// The check: rules 1, 2 and 10 to 29, and the counts. Relies on the layout, and on the parts of the judge.
+// The check: rules 1, 2, 10 to 29 and 40 to 42, and the counts. Relies on the layout, and on the parts of the judge.
 use judge_faults::Fault;
 use judge_header::Headed;
 use judge_sequences::Total;
@@ -7,12 +7,13 @@ use read_layout::Shape;
 ghost use Rattle.paper.specs.Answers.{CheckSays};
 ghost use Rattle.ask_check.specs.Checks.{JudgesListing};
 
-// The first broken rule of a text that is laid out, of rules 10 to 29, and its counts.
+// The first broken rule of a text that is laid out, of the rules on values, and its counts.
 fn judge(listing: &[u8]) -> Total
     ensures { λ r. ⌜ JudgesListing (now (listing .entry)) r ⌝ }
 {
     let symbols = value_residues::symbol_table();
     let code = protein_code::code_table();
+    let vocabulary = value_vocabulary::vocabulary_table();
     let Headed {
         fault: a,
         total: part,
@@ -25,7 +26,7 @@ fn judge(listing: &[u8]) -> Total
         features,
         judged,
         unjudged,
-    } = judge_sequences::judge_sequences(listing, first, &symbols, &code);
+    } = judge_sequences::judge_sequences(listing, first, &symbols, &code, &vocabulary);
     let ok = value_words::is_number(read_steps::bytes_of(listing, part.from, part.to), total);
     let c = judge_faults::unless(ok, 14, part.from);
     let d = judge_faults::earlier(c, b);

@@ -228,11 +228,13 @@ pub fn translation(listing: &[u8], k: usize, j: usize, out: &mut [u8]) -> Transl
         FeatureAt::Found { sequence, feature } => {
             let known = known_of(listing, sequence);
             let code = protein_code::code_table();
+            let vocabulary = value_vocabulary::vocabulary_table();
             let Written { number, size } = ask_translation::translate(
                 listing,
                 known,
                 feature,
                 &code,
+                &vocabulary,
                 out,
             );
             TranslationAnswer {
@@ -258,11 +260,13 @@ pub fn translations(listing: &[u8], k: usize, out: &mut [u8]) -> TranslationAnsw
             let known = known_of(listing, sequence);
             let table = sequence.table;
             let code = protein_code::code_table();
+            let vocabulary = value_vocabulary::vocabulary_table();
             let Written { number, size } = ask_translations::translate_all(
                 listing,
                 known,
                 table,
                 &code,
+                &vocabulary,
                 out,
             );
             TranslationAnswer {

@@ -12,6 +12,7 @@ use walk_items::FoundFeature;
 ghost use mathlib.Core.Path.{_≡_};
 ghost use Rattle.paper.specs.Translation.{code1};
 ghost use Rattle.protein_code.specs.Tables.{CodeTable};
+ghost use Rattle.value_vocabulary.specs.Tables.{VocabularyTable};
 ghost use Rattle.ask_translation.specs.Plans.{Plans};
 ghost use Rattle.ask_translation.specs.Ones.{refusal, TranslatesOne};
 
@@ -25,7 +26,8 @@ pub enum Plan {
     From(usize),
 }
 
-pub fn plan_of(s: &[u8], known: Known, feature: FoundFeature) -> Plan
+pub fn plan_of(s: &[u8], known: Known, feature: FoundFeature, vocabulary: &[u8; 3498]) -> Plan
+    requires { ⌜ VocabularyTable (now vocabulary) ⌝ }
     ensures { λ r. ⌜ Plans (now (s .entry)) known feature r ⌝ }
 {
     let name = bytes_of(s, feature.key.from, feature.key.to);
@@ -34,7 +36,7 @@ pub fn plan_of(s: &[u8], known: Known, feature: FoundFeature) -> Plan
         return Plan::NoCds;
     }
     let verdict = judge_location(s, feature.location.from, feature.location.to, known.top);
-    match start_of(s, feature.quals, verdict) {
+    match start_of(s, feature.quals, verdict, vocabulary) {
         Start::Unjudged => Plan::Unjudged,
         Start::At(n) => Plan::From(n),
     }
@@ -59,12 +61,14 @@ pub fn translate(
     known: Known,
     feature: FoundFeature,
     code: &[u8; 5128],
+    vocabulary: &[u8; 3498],
     out: &mut [u8],
 ) -> Written
     requires { ⌜ CodeTable code1 (now code) ⌝ }
+    requires { ⌜ VocabularyTable (now vocabulary) ⌝ }
     ensures { λ r. ⌜ TranslatesOne (now (s .entry)) known feature (now (out .entry)) r (now (out .exit)) ⌝ }
 {
-    match plan_of(s, known, feature) {
+    match plan_of(s, known, feature, vocabulary) {
         Plan::NoCds => refused(35),
         Plan::Unjudged => refused(36),
         Plan::From(start) => {

@@ -15,6 +15,7 @@ use walk_items::FoundFeature;
 use walk_items::FoundTable;
 ghost use Rattle.paper.specs.Translation.{code1};
 ghost use Rattle.protein_code.specs.Tables.{CodeTable};
+ghost use Rattle.value_vocabulary.specs.Tables.{VocabularyTable};
 ghost use Rattle.ask_translations.specs.Lines.{Dashes, MeasuresLine, PassesFeature, Adds, MeasuresLines, PutsLine, PutsLines, TranslatesAll};
 
 // The length of some lines, or that they are longer than the room.
@@ -34,11 +35,19 @@ fn dash_size(room: usize) -> Lined
 }
 
 // The length of a feature's line.
-fn line_size(s: &[u8], known: Known, feature: FoundFeature, room: usize, code: &[u8; 5128]) -> Lined
+fn line_size(
+    s: &[u8],
+    known: Known,
+    feature: FoundFeature,
+    room: usize,
+    code: &[u8; 5128],
+    vocabulary: &[u8; 3498],
+) -> Lined
     requires { ⌜ CodeTable code1 (now code) ⌝ }
+    requires { ⌜ VocabularyTable (now vocabulary) ⌝ }
     ensures { λ r. ⌜ MeasuresLine (now (s .entry)) known feature room r ⌝ }
 {
-    match plan_of(s, known, feature) {
+    match plan_of(s, known, feature, vocabulary) {
         Plan::NoCds => Lined::Is(0),
         Plan::Unjudged => dash_size(room),
         Plan::From(start) => {
@@ -86,8 +95,16 @@ fn both(a: Lined, b: Lined, room: usize) -> Lined
 }
 
 // The length of the lines of all features that stand from here on.
-fn lines_size(s: &[u8], first: usize, known: Known, room: usize, code: &[u8; 5128]) -> Lined
+fn lines_size(
+    s: &[u8],
+    first: usize,
+    known: Known,
+    room: usize,
+    code: &[u8; 5128],
+    vocabulary: &[u8; 3498],
+) -> Lined
     requires { ⌜ CodeTable code1 (now code) ⌝ }
+    requires { ⌜ VocabularyTable (now vocabulary) ⌝ }
     ensures { λ r. ⌜ MeasuresLines (now (s .entry)) first known room r ⌝ }
 {
     let mut at = first;
@@ -99,7 +116,7 @@ fn lines_size(s: &[u8], first: usize, known: Known, room: usize, code: &[u8; 512
             if next <= at {
                 return Lined::Short;
             }
-            let line = line_size(s, known, feature, room, code);
+            let line = line_size(s, known, feature, room, code, vocabulary);
             size = both(size, line, room);
             at = next;
         } else {
@@ -114,12 +131,14 @@ fn put_line(
     known: Known,
     feature: FoundFeature,
     code: &[u8; 5128],
+    vocabulary: &[u8; 3498],
     out: &mut [u8],
 ) -> usize
     requires { ⌜ CodeTable code1 (now code) ⌝ }
+    requires { ⌜ VocabularyTable (now vocabulary) ⌝ }
     ensures { λ r. ⌜ PutsLine (now (s .entry)) known feature (now (out .entry)) r (now (out .exit)) ⌝ }
 {
-    let text = translate(s, known, feature, code, out);
+    let text = translate(s, known, feature, code, vocabulary, out);
     if text.number == 35 {
         return 0;
     }
@@ -130,8 +149,16 @@ fn put_line(
 }
 
 // The lines of all features that stand from here on.
-fn put_lines(s: &[u8], first: usize, known: Known, code: &[u8; 5128], out: &mut [u8])
+fn put_lines(
+    s: &[u8],
+    first: usize,
+    known: Known,
+    code: &[u8; 5128],
+    vocabulary: &[u8; 3498],
+    out: &mut [u8],
+)
     requires { ⌜ CodeTable code1 (now code) ⌝ }
+    requires { ⌜ VocabularyTable (now vocabulary) ⌝ }
     ensures { λ _. ⌜ PutsLines (now (s .entry)) first known (now (out .entry)) (now (out .exit)) ⌝ }
 {
     let mut at = first;
@@ -143,7 +170,7 @@ fn put_lines(s: &[u8], first: usize, known: Known, code: &[u8; 5128], out: &mut 
             if next <= at {
                 return;
             }
-            let n = put_line(s, known, feature, code, &mut out[end..]);
+            let n = put_line(s, known, feature, code, vocabulary, &mut out[end..]);
             end += n;
             at = next;
         } else {
@@ -158,18 +185,20 @@ pub fn translate_all(
     known: Known,
     found: FoundTable,
     code: &[u8; 5128],
+    vocabulary: &[u8; 3498],
     out: &mut [u8],
 ) -> Written
     requires { ⌜ CodeTable code1 (now code) ⌝ }
+    requires { ⌜ VocabularyTable (now vocabulary) ⌝ }
     ensures { λ r. ⌜ TranslatesAll (now (s .entry)) known found (now (out .entry)) r (now (out .exit)) ⌝ }
 {
     if !found.present {
         return Written { number: 0, size: 0 };
     }
-    match lines_size(s, found.first, known, out.len(), code) {
+    match lines_size(s, found.first, known, out.len(), code, vocabulary) {
         Lined::Short => refused(34),
         Lined::Is(size) => {
-            put_lines(s, found.first, known, code, out);
+            put_lines(s, found.first, known, code, vocabulary, out);
             Written { number: 0, size }
         }
     }

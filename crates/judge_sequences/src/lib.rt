@@ -6,6 +6,7 @@ use walk_items::FoundSequence;
 ghost use mathlib.Core.Path.{_≡_};
 ghost use Rattle.paper.specs.Translation.{code1};
 ghost use Rattle.protein_code.specs.Tables.{CodeTable};
+ghost use Rattle.value_vocabulary.specs.Tables.{VocabularyTable};
 ghost use Rattle.value_residues.specs.Residues.{SymbolTable};
 ghost use Rattle.judge_sequences.specs.Sequences.{nothingYet, Plus, oneIf, Adds, JudgesSequence, JudgesSequences};
 
@@ -92,9 +93,17 @@ fn add(a: Total, x: One) -> Total
 }
 
 // The sequence number k.
-fn judge_sequence(s: &[u8], at: usize, k: usize, symbols: &[u8; 256], code: &[u8; 5128]) -> One
+fn judge_sequence(
+    s: &[u8],
+    at: usize,
+    k: usize,
+    symbols: &[u8; 256],
+    code: &[u8; 5128],
+    vocabulary: &[u8; 3498],
+) -> One
     requires { ⌜ SymbolTable (now symbols) ⌝ }
     requires { ⌜ CodeTable code1 (now code) ⌝ }
+    requires { ⌜ VocabularyTable (now vocabulary) ⌝ }
     ensures { λ r. ⌜ JudgesSequence (now (s .entry)) at k r ⌝ }
 {
     let FoundSequence {
@@ -127,7 +136,7 @@ fn judge_sequence(s: &[u8], at: usize, k: usize, symbols: &[u8; 256], code: &[u8
         features,
         judged,
         unjudged,
-    } = judge_features::judge_table(s, found, known, code);
+    } = judge_features::judge_table(s, found, known, code, vocabulary);
     let d = judge_faults::earlier(a, b);
     One {
         fault: judge_faults::earlier(d, c),
@@ -140,9 +149,16 @@ fn judge_sequence(s: &[u8], at: usize, k: usize, symbols: &[u8; 256], code: &[u8
 }
 
 // All that stand from here on.
-pub fn judge_sequences(s: &[u8], first: usize, symbols: &[u8; 256], code: &[u8; 5128]) -> Total
+pub fn judge_sequences(
+    s: &[u8],
+    first: usize,
+    symbols: &[u8; 256],
+    code: &[u8; 5128],
+    vocabulary: &[u8; 3498],
+) -> Total
     requires { ⌜ SymbolTable (now symbols) ⌝ }
     requires { ⌜ CodeTable code1 (now code) ⌝ }
+    requires { ⌜ VocabularyTable (now vocabulary) ⌝ }
     ensures { λ r. ⌜ JudgesSequences (now (s .entry)) first r ⌝ }
 {
     let mut at = first;
@@ -150,7 +166,7 @@ pub fn judge_sequences(s: &[u8], first: usize, symbols: &[u8; 256], code: &[u8; 
     loop {
         if walk_items::sequence_here(s, at) {
             let k = plus(total.total, 1);
-            let x = judge_sequence(s, at, k, symbols, code);
+            let x = judge_sequence(s, at, k, symbols, code, vocabulary);
             let next = x.next;
             if next <= at {
                 return total;

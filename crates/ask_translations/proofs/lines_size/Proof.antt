@@ -12,10 +12,10 @@ use Rattle.ask_translations.proofs.lines_size.Statement.{statement}
 use Rattle.ask_translations.proofs.lines_size.Tie as tie
 
 abbrev Inv-loop : tie.InvT-loop
-Inv-loop s first known room code at₀ size₀ at size = Sizing s first at known room size
+Inv-loop s first known room code vocabulary at₀ size₀ at size = Sizing s first at known room size
 
 abbrev μ-loop : tie.MeasureT-loop
-μ-loop s first known room code at₀ size₀ at size = length s - at
+μ-loop s first known room code vocabulary at₀ size₀ at size = length s - at
 
 loop-holds : tie.Need-loop-holds Inv-loop μ-loop
 loop-holds c = sizing-none

@@ -12,10 +12,10 @@ use Rattle.ask_translations.proofs.put_lines.Statement.{statement}
 use Rattle.ask_translations.proofs.put_lines.Tie as tie
 
 abbrev Inv-loop : tie.InvT-loop
-Inv-loop s first known code out₀ at₀ end₀ out at end = Putting s first at known out₀ out end
+Inv-loop s first known code vocabulary out₀ at₀ end₀ out at end = Putting s first at known out₀ out end
 
 abbrev μ-loop : tie.MeasureT-loop
-μ-loop s first known code out₀ at₀ end₀ out at end = length s - at
+μ-loop s first known code vocabulary out₀ at₀ end₀ out at end = length s - at
 
 loop-holds : tie.Need-loop-holds Inv-loop μ-loop
 loop-holds c = putting-none _

@@ -12,10 +12,10 @@ use Rattle.judge_sequences.proofs.judge_sequences.Statement.{statement}
 use Rattle.judge_sequences.proofs.judge_sequences.Tie as tie
 
 abbrev Inv-loop : tie.InvT-loop
-Inv-loop s first symbols code at₀ total₀ at total = Adding s first at total
+Inv-loop s first symbols code vocabulary at₀ total₀ at total = Adding s first at total
 
 abbrev μ-loop : tie.MeasureT-loop
-μ-loop s first symbols code at₀ total₀ at total = length s - at
+μ-loop s first symbols code vocabulary at₀ total₀ at total = length s - at
 
 no-sequences-requires : tie.Need-no-sequences-requires Inv-loop μ-loop
 no-sequences-requires c κs = search needs
