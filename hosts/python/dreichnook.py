@@ -29,38 +29,15 @@ COMPLEMENT, BEFORE, AFTER, SITE = 1, 2, 4, 8
 
 NO_SEQUENCE, SKIPPED, NO_FEATURE, NO_QUALIFIER, NO_ROOM, NOT_A_CDS, UNJUDGED, STOP_INSIDE = range(30, 38)
 
-WORDS = {
-    1: "more than 16,777,216 bytes",
-    2: "not of the layout",
-    10: "dtdVersion isn't `1_2`",
-    11: "a FilingDate or productionDate isn't a real Gregorian CCYY-MM-DD, years 0001 to 9999",
-    12: "an IPOfficeCode isn't two letters A to Z",
-    13: "a languageCode isn't two letters a to z",
-    14: "SequenceTotalQuantity isn't a number equal to the count of SequenceData",
-    15: "sequenceIDNumber of the k-th SequenceData isn't the number k",
-    16: "moltype isn't DNA, RNA or AA",
-    17: "division isn't PAT",
-    18: "a residue is outside the kind's symbols",
-    19: "DNA or RNA: fewer than 10 residues other than `n`; AA: fewer than 4 other than `X`",
-    20: "INSDSeq_length isn't the number L, the count of residues",
-    21: "no feature table; or not exactly one source key in it",
-    22: "source has not exactly one organism and exactly one mol_type",
-    23: "source's location isn't `1..` and L, the count of residues",
-    24: "location not of the grammar",
-    25: "position above L, the count of residues, x above y in a range, or a false site",
-    26: "complement in AA",
-    27: "CDS has two or more codon_start, or one whose value is absent or isn't `1`, `2`, `3`",
-    28: "a translation qualifier of a judged CDS has its value absent or different from the translation, or a stop stands inside",
-    29: "skipped, but length, moltype or division isn't empty, or other-seqids or a table is present",
-    NO_SEQUENCE: "no such sequence",
-    SKIPPED: "the sequence is skipped",
-    NO_FEATURE: "no such feature",
-    NO_QUALIFIER: "no such qualifier",
-    NO_ROOM: "the lent output is shorter than the answer",
-    NOT_A_CDS: "not a CDS of DNA or RNA",
-    UNJUDGED: "the CDS is unjudged",
-    STOP_INSIDE: "a stop stands inside the CDS",
-}
+
+def _table(name):
+    """The lines of a file of hosts/words, split at their tabs."""
+    file = pathlib.Path(__file__).resolve().parent.parent / "words" / name
+    lines = file.read_text(encoding="utf-8").splitlines()
+    return [line.split("\t") for line in lines if not line.startswith("#")]
+
+
+WORDS = {int(number): words for number, words in _table("refusals.txt")}
 
 
 class Refusal(Exception):
