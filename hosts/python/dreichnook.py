@@ -28,6 +28,7 @@ COMPLEMENT, BEFORE, AFTER, SITE = 1, 2, 4, 8
 """The marks of a span: complemented; `<` is written; `>` is written; a site."""
 
 NO_SEQUENCE, SKIPPED, NO_FEATURE, NO_QUALIFIER, NO_ROOM, NOT_A_CDS, UNJUDGED, STOP_INSIDE = range(30, 38)
+UNKNOWN_KEY, NOT_ALLOWED, REQUIRED_MISSING = range(40, 43)
 
 
 def _table(name):
@@ -41,10 +42,10 @@ WORDS = {int(number): words for number, words in _table("refusals.txt")}
 
 
 class Refusal(Exception):
-    """Why a question wasn't answered: 1 to 29, the broken rule with its place; 30 to 37, the listing has no such answer."""
+    """Why a question wasn't answered: 1, 2, 10 to 29, 40 to 42, the broken rule with its place; 30 to 37, no such answer."""
 
     def __init__(self, number: int, place: int):
-        where = f"by rule {number} at byte {place}" if number < NO_SEQUENCE else f"with {number}"
+        where = f"with {number}" if NO_SEQUENCE <= number <= STOP_INSIDE else f"by rule {number} at byte {place}"
         self.number, self.place = number, place
         self.words = WORDS.get(number, "a rule that this version doesn't know")
         super().__init__(f"refused {where}: {self.words}")

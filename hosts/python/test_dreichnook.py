@@ -105,6 +105,7 @@ class Answers(unittest.TestCase):
     def test_words(self):
         self.assertEqual(str(Refusal(17, 603)), "refused by rule 17 at byte 603: division isn't PAT")
         self.assertEqual(str(Refusal(32, 0)), "refused with 32: no such feature")
+        self.assertEqual(str(Refusal(40, 2120)), "refused by rule 40 at byte 2120: unknown feature key")
         self.assertEqual(sorted(dreichnook.WORDS), [1, 2, *range(10, 38), 40, 41, 42])
 
 

@@ -8,7 +8,7 @@ const WORDS: &str = include_str!("../../words/refusals.txt");
 /// Why a question wasn't answered.
 #[derive(Clone, Copy, Debug, PartialEq, Eq)]
 pub struct Refusal {
-    /// 1, 2, 10 to 29: the broken rule. 30 to 37: the listing is accepted, but has no such answer.
+    /// 1, 2, 10 to 29, 40 to 42: the broken rule. 30 to 37: the listing is accepted, but has no such answer.
     pub number: u32,
     /// The place of the fault in the listing, from 0; 0 for 30 to 37.
     pub place: u64,
@@ -25,10 +25,13 @@ impl Refusal {
     pub const NOT_A_CDS: u32 = 35;
     pub const UNJUDGED: u32 = 36;
     pub const STOP_INSIDE: u32 = 37;
+    pub const UNKNOWN_KEY: u32 = 40;
+    pub const NOT_ALLOWED: u32 = 41;
+    pub const REQUIRED_MISSING: u32 = 42;
 
     /// Whether the listing itself is refused, not only this question.
     pub fn is_of_listing(&self) -> bool {
-        self.number < Refusal::NO_SEQUENCE
+        !(Refusal::NO_SEQUENCE..=Refusal::STOP_INSIDE).contains(&self.number)
     }
 
     /// When the rule is broken, in the words of documents 01 and 02.

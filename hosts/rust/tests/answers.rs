@@ -284,4 +284,12 @@ fn each_refusal_has_its_words() {
     words.dedup();
     assert_eq!(words.len(), 34);
     assert_eq!(question(32).to_string(), "refused with 32: no such feature");
+    let unknown = Refusal {
+        number: Refusal::UNKNOWN_KEY,
+        place: 2120,
+    };
+    assert_eq!(
+        unknown.to_string(),
+        "refused by rule 40 at byte 2120: unknown feature key"
+    );
 }
