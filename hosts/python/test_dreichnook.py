@@ -109,6 +109,47 @@ class Answers(unittest.TestCase):
         self.assertEqual(sorted(dreichnook.WORDS), [1, 2, *range(10, 38), 40, 41, 42])
 
 
+class Explanations(unittest.TestCase):
+    """Of rules 40 to 42, on the examples that Rust's test reads too."""
+
+    def refused(self, number, listing):
+        """The refusal of a specimen, or of a piece of a listing."""
+        before, mark, after = listing.encode().partition(b"^")
+        if mark:
+            return Refusal(number, len(before), before + after)
+        with self.assertRaises(Refusal) as caught:
+            Listing(specimen(listing)).check()
+        return caught.exception
+
+    def test_every_example(self):
+        examples = (HERE.parent / "words" / "examples.txt").read_text(encoding="utf-8").splitlines()
+        rows = [row.split("\t") for row in examples if not row.startswith("#")]
+        self.assertEqual(len(rows), 26)
+        for number, listing, explanation in rows:
+            with self.subTest(listing):
+                refusal = self.refused(int(number), listing)
+                self.assertEqual((refusal.number, refusal.explanation), (int(number), explanation))
+
+    def test_it_ends_the_message(self):
+        says = "refused by rule 42 at byte 1327: required qualifier missing: `modified_base` lacks: mod_base"
+        self.assertEqual(str(self.refused(42, "02-1-modified-base-unnamed.xml")), says)
+
+    def test_none(self):
+        listing = specimen("02-1-exonn.xml")
+        for number in (*range(1, 40), *range(43, 51)):
+            self.assertIsNone(Refusal(number, 2120, listing).explanation)
+        for number in (40, 41, 42):
+            for other, place in ((b"", 0), (b"<INSDFeature_key", 1 << 64), (listing, 0), (listing[:2120], 2120)):
+                self.assertIsNone(Refusal(number, place, other).explanation)
+        self.assertIsNone(Refusal(40, 2120, listing.replace(b"exonn", b"exon")).explanation)
+
+    def test_a_key_as_long_as_a_listing(self):
+        piece = "<INSDSeq_moltype>DNA</INSDSeq_moltype><INSDFeature_key>^KEY</INSDFeature_key>"
+        says = self.refused(40, piece.replace("KEY", "exon" * (LIMIT // 4))).explanation
+        end = ".. (16777216 bytes)` isn't a key of nucleotides; none of the 49 keys is near"
+        self.assertEqual(says, "`" + "exon" * 30 + end)
+
+
 class Example(unittest.TestCase):
     def run_on(self, name):
         words = [sys.executable, HERE / "example.py", SPECIMENS / name]
