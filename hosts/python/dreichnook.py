@@ -275,7 +275,7 @@ def _required_missing(row, key, listing, feature):
 
 
 def _distance(key, known):
-    """How many letters must be changed, dropped or added, upper or lower case; None if more than half of what the key has."""
+    """How many letters must be changed, dropped or added, upper and lower case being the same; None if more than half of the key's."""
     # Of a long text the length tells it.
     if abs(len(key) - len(known)) > len(key) // 2:
         return None

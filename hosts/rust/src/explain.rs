@@ -138,8 +138,8 @@ fn counted(kind: &str, name: &[u8]) -> Vec<u8> {
     }
 }
 
-/// How many letters must be changed, dropped or added to turn the one into the other, upper or lower case; none if that
-/// is more than half of what the key has.
+/// How many letters must be changed, dropped or added to turn the one into the other, upper and lower case being the
+/// same; none if more than half of the key's.
 fn distance(key: &[u8], known: &str) -> Option<usize> {
     let (known, half) = (known.as_bytes(), key.len() / 2);
     // Of a long text the length tells it.
