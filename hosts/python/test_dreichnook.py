@@ -124,7 +124,7 @@ class Explanations(unittest.TestCase):
     def test_every_example(self):
         examples = (HERE.parent / "words" / "examples.txt").read_text(encoding="utf-8").splitlines()
         rows = [row.split("\t") for row in examples if not row.startswith("#")]
-        self.assertEqual(len(rows), 26)
+        self.assertEqual(len(rows), 29)
         for number, listing, explanation in rows:
             with self.subTest(listing):
                 refusal = self.refused(int(number), listing)
@@ -139,7 +139,8 @@ class Explanations(unittest.TestCase):
         for number in (*range(1, 40), *range(43, 51)):
             self.assertIsNone(Refusal(number, 2120, listing).explanation)
         for number in (40, 41, 42):
-            for other, place in ((b"", 0), (b"<INSDFeature_key", 1 << 64), (listing, 0), (listing[:2120], 2120)):
+            no_moltype = b"<x>DNA</x><INSDFeature_key>y</x>"
+            for other, place in ((b"", 0), (no_moltype, (1 << 64) - 1), (listing, 0), (listing[:2120], 2120)):
                 self.assertIsNone(Refusal(number, place, other).explanation)
         self.assertIsNone(Refusal(40, 2120, listing.replace(b"exonn", b"exon")).explanation)
 

@@ -36,7 +36,7 @@ fn every_example() {
         assert_eq!(said.as_deref(), Some(cells[2]), "{line}");
         tried += 1;
     }
-    assert_eq!(tried, 26);
+    assert_eq!(tried, 29);
 }
 
 #[test]
@@ -54,7 +54,7 @@ fn bytes_that_were_not_refused_so_have_none() {
     for number in 40..=42 {
         for (bytes, place) in [
             (&b""[..], 0),
-            (b"<INSDFeature_key", u64::MAX),
+            (b"<x>DNA</x><INSDFeature_key>y</x>", u64::MAX),
             (&bytes, 0),
             (&bytes[..2120], 2120),
         ] {
