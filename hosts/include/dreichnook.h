@@ -30,8 +30,8 @@
  *
  *    1          more than DREICHNOOK_LIMIT bytes; place 0
  *    2          not of the layout; place: the length of the longest beginning that also begins some layout text
- *   10 to 29    a rule on values is broken; of all that are, the one with the smallest place, at one place the smallest
- *               number; place: that of the value at fault
+ *   10 to 29,   a rule on values is broken; of all that are, the one with the smallest place, at one place the smallest
+ *   40 to 42    number; place: that of the value at fault
  *   30          no such sequence
  *   31          the sequence is skipped
  *   32          no such feature
@@ -41,7 +41,8 @@
  *   37          a stop inside the CDS
  *   34          the lent output is shorter than the answer
  *
- * Refusals from 30 on have place 0. DREICHNOOK_... below names them.
+ * The value at fault is of 40 the unknown feature key, of 41 the name of the qualifier that its key doesn't allow, of 42
+ * the key whose required qualifier is missing. Refusals 30 to 37 have place 0. DREICHNOOK_... below names them.
  */
 #ifndef DREICHNOOK_H
 #define DREICHNOOK_H
@@ -56,7 +57,7 @@ extern "C" {
 /* The longest listing, in bytes. */
 #define DREICHNOOK_LIMIT 16777216
 
-/* What a call returns. The others, 10 to 29, are the rules on values. */
+/* What a call returns. The others, 10 to 29, are rules on values, as 40 to 42 are. */
 enum {
     DREICHNOOK_ANSWERED = 0,
     DREICHNOOK_TOO_LONG = 1,
@@ -68,7 +69,10 @@ enum {
     DREICHNOOK_NO_ROOM = 34,
     DREICHNOOK_NOT_A_CDS = 35,
     DREICHNOOK_UNJUDGED = 36,
-    DREICHNOOK_STOP_INSIDE = 37
+    DREICHNOOK_STOP_INSIDE = 37,
+    DREICHNOOK_UNKNOWN_KEY = 40,
+    DREICHNOOK_NOT_ALLOWED = 41,
+    DREICHNOOK_REQUIRED_MISSING = 42
 };
 
 /* The kinds of sequences; none only on refusal. */
@@ -84,7 +88,7 @@ enum { DREICHNOOK_COMPLEMENT = 1, DREICHNOOK_BEFORE = 2, DREICHNOOK_AFTER = 4, D
  * The verdict, and what an accepted listing holds: its sequences, how many of them are skipped, the features of all, the
  * CDS features of DNA and RNA that are judged, and those that aren't.
  *
- * Returns 0: accepted. Refusals: 1, 2, 10 to 29.
+ * Returns 0: accepted. Refusals: 1, 2, 10 to 29, 40 to 42.
  */
 uint32_t dreichnook_check(const uint8_t *listing, size_t length, uint64_t *place, uint64_t *total, uint64_t *skipped,
                           uint64_t *features, uint64_t *judged, uint64_t *unjudged);

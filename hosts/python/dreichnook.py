@@ -16,6 +16,7 @@ import functools
 import operator
 import os
 import pathlib
+import re
 from ctypes import POINTER, byref, c_char_p, c_size_t, c_uint8, c_uint32, c_uint64, c_void_p
 from typing import List, NamedTuple, Optional, Tuple
 
@@ -28,49 +29,32 @@ COMPLEMENT, BEFORE, AFTER, SITE = 1, 2, 4, 8
 """The marks of a span: complemented; `<` is written; `>` is written; a site."""
 
 NO_SEQUENCE, SKIPPED, NO_FEATURE, NO_QUALIFIER, NO_ROOM, NOT_A_CDS, UNJUDGED, STOP_INSIDE = range(30, 38)
+UNKNOWN_KEY, NOT_ALLOWED, REQUIRED_MISSING = range(40, 43)
 
-WORDS = {
-    1: "more than 16,777,216 bytes",
-    2: "not of the layout",
-    10: "dtdVersion isn't `1_2`",
-    11: "a FilingDate or productionDate isn't a real Gregorian CCYY-MM-DD, years 0001 to 9999",
-    12: "an IPOfficeCode isn't two letters A to Z",
-    13: "a languageCode isn't two letters a to z",
-    14: "SequenceTotalQuantity isn't a number equal to the count of SequenceData",
-    15: "sequenceIDNumber of the k-th SequenceData isn't the number k",
-    16: "moltype isn't DNA, RNA or AA",
-    17: "division isn't PAT",
-    18: "a residue is outside the kind's symbols",
-    19: "DNA or RNA: fewer than 10 residues other than `n`; AA: fewer than 4 other than `X`",
-    20: "INSDSeq_length isn't the number L, the count of residues",
-    21: "no feature table; or not exactly one source key in it",
-    22: "source has not exactly one organism and exactly one mol_type",
-    23: "source's location isn't `1..` and L, the count of residues",
-    24: "location not of the grammar",
-    25: "position above L, the count of residues, x above y in a range, or a false site",
-    26: "complement in AA",
-    27: "CDS has two or more codon_start, or one whose value is absent or isn't `1`, `2`, `3`",
-    28: "a translation qualifier of a judged CDS has its value absent or different from the translation, or a stop stands inside",
-    29: "skipped, but length, moltype or division isn't empty, or other-seqids or a table is present",
-    NO_SEQUENCE: "no such sequence",
-    SKIPPED: "the sequence is skipped",
-    NO_FEATURE: "no such feature",
-    NO_QUALIFIER: "no such qualifier",
-    NO_ROOM: "the lent output is shorter than the answer",
-    NOT_A_CDS: "not a CDS of DNA or RNA",
-    UNJUDGED: "the CDS is unjudged",
-    STOP_INSIDE: "a stop stands inside the CDS",
-}
+
+def _table(name):
+    """The lines of a file of hosts/words, split at their tabs."""
+    file = pathlib.Path(__file__).resolve().parent.parent / "words" / name
+    lines = file.read_text(encoding="utf-8").splitlines()
+    return [line.split("\t") for line in lines if not line.startswith("#")]
+
+
+WORDS = {int(number): words for number, words in _table("refusals.txt")}
 
 
 class Refusal(Exception):
-    """Why a question wasn't answered: 1 to 29, the broken rule with its place; 30 to 37, the listing has no such answer."""
+    """Why a question wasn't answered: 1, 2, 10 to 29, 40 to 42, the broken rule with its place; 30 to 37, no such answer.
 
-    def __init__(self, number: int, place: int):
-        where = f"by rule {number} at byte {place}" if number < NO_SEQUENCE else f"with {number}"
+    For rules 40 to 42 the explanation says what exactly is wrong in the listing, which is the refused one; else it is None.
+    """
+
+    def __init__(self, number: int, place: int, listing: bytes = b""):
+        where = f"with {number}" if NO_SEQUENCE <= number <= STOP_INSIDE else f"by rule {number} at byte {place}"
         self.number, self.place = number, place
         self.words = WORDS.get(number, "a rule that this version doesn't know")
-        super().__init__(f"refused {where}: {self.words}")
+        self.explanation = _explanation(number, place, listing)
+        said = f"refused {where}: {self.words}"
+        super().__init__(f"{said}: {self.explanation}" if self.explanation else said)
 
 
 class Counts(NamedTuple):
@@ -161,7 +145,7 @@ class Listing:
         function = getattr(_library(), "dreichnook_" + name)
         number = function(self._bytes, len(self._bytes), *numbers, *lent, byref(place), *map(byref, cells))
         if number:
-            raise Refusal(number, place.value)
+            raise Refusal(number, place.value, self._bytes)
         return [cell.value for cell in cells]
 
     def _lend(self, name, numbers, element, width, cells):
@@ -202,3 +186,123 @@ def _library():
         function = getattr(library, "dreichnook_" + name)
         function.argtypes, function.restype = listing + types, c_uint32
     return library
+
+
+# The explanations of rules 40 to 42, as in hosts/rust/src/explain.rs; the tests of both read hosts/words/examples.txt.
+
+_MOLTYPES = {b"DNA": "nucleotides", b"RNA": "nucleotides", b"AA": "AA"}
+
+# The older names, which in AA count as their lower-case ones.
+_OLDER = (b"SOURCE", b"ORGANISM", b"MOL_TYPE", b"NOTE")
+
+# No text of a listing has `<`, so these stand at start tags only. A qualifier belongs to the last key before it.
+_MOLTYPE, _KEY, _NAME = b"<INSDSeq_moltype", b"<INSDFeature_key", b"<INSDQualifier_name"
+_ELEMENT = re.compile(rb"<[^>]*?(?:/>[^<]*|>([^<]*))<")
+
+_ENTITIES = {b"&lt;": b"<", b"&gt;": b">", b"&amp;": b"&", b"&quot;": b'"', b"&apos;": b"'"}
+_ENTITY = re.compile(b"|".join(_ENTITIES))
+
+# What print can't show, by its code: a tab becomes a blank.
+_SHOWN = {**dict.fromkeys([*range(32), *range(127, 160)], "\ufffd"), 9: " "}
+
+
+class _Row(NamedTuple):
+    kind: str
+    key: str
+    required: List[str]
+    others: List[str]
+
+
+@functools.lru_cache(maxsize=None)
+def _rows():
+    rows = _table("vocabulary.txt")
+    return [_Row(kind, key, required.split(), others.split()) for kind, key, required, others in rows]
+
+
+def _row(kind, key):
+    key = _counted(kind, key)
+    return next((row for row in _rows() if row.kind == kind and row.key.encode() == key), None)
+
+
+def _counted(kind, name):
+    """The name that it counts as."""
+    return name.lower() if kind == "AA" and name in _OLDER else name
+
+
+def _explanation(number, place, listing):
+    if not UNKNOWN_KEY <= number <= REQUIRED_MISSING:
+        return None
+    kind = _MOLTYPES.get(_text(listing, _last(listing, place, _MOLTYPE)))
+    feature = _last(listing, place, _KEY)
+    key = _text(listing, feature)
+    if kind is None or key is None:
+        return None
+    row = _row(kind, key)
+    if number == UNKNOWN_KEY and row is None:
+        return _unknown_key(kind, key)
+    if number == NOT_ALLOWED and row is not None:
+        name = _text(listing, _last(listing, place, _NAME))
+        return None if name is None else _not_allowed(row, key, name)
+    if number == REQUIRED_MISSING and row is not None:
+        return _required_missing(row, key, listing, feature)
+    return None
+
+
+def _unknown_key(kind, key):
+    known = [row.key for row in _rows() if row.kind == kind]
+    near = [(_distance(key, name), name) for name in known]
+    # Stable: at one distance they stay in the vocabulary's order.
+    near = sorted((pair for pair in near if pair[0] is not None), key=operator.itemgetter(0))[:3]
+    nearest = ", ".join(name for _, name in near)
+    other = "nucleotides" if kind == "AA" else "AA"
+    but = f", but of {other}" if _row(other, key) else ""
+    says = f"nearest: {nearest}" if near else f"none of the {len(known)} keys is near"
+    return f"{_quoted(key)} isn't a key of {kind}{but}; {says}"
+
+
+def _not_allowed(row, key, name):
+    allowed = [f"{required} (required)" for required in row.required] + row.others
+    return f"{_quoted(key)} doesn't allow {_quoted(name)}; allowed: {', '.join(allowed)}"
+
+
+def _required_missing(row, key, listing, feature):
+    end = listing.find(_KEY, feature + len(_KEY))
+    own = listing[feature : end if end >= 0 else None]
+    names = (_text(own, tag.start()) for tag in re.finditer(_NAME, own))
+    there = {_counted(row.kind, name) for name in names if name is not None}
+    missing = [name for name in row.required if name.encode() not in there]
+    return f"{_quoted(key)} lacks: {', '.join(missing)}"
+
+
+def _distance(key, known):
+    """How many letters must be changed, dropped or added, upper and lower case being the same; None if more than half of the key's."""
+    # Of a long text the length tells it.
+    if abs(len(key) - len(known)) > len(key) // 2:
+        return None
+    # To the beginnings of `known`, from the beginning of `key` that is read so far.
+    distances = list(range(len(known) + 1))
+    for letter in key.lower():
+        before, distances[0] = distances[0], distances[0] + 1
+        for at, other in enumerate(known.lower().encode(), 1):
+            changed = before + (letter != other)
+            before = distances[at]
+            distances[at] = min(changed, before + 1, distances[at - 1] + 1)
+    return distances[-1] if distances[-1] <= len(key) // 2 else None
+
+
+def _last(listing, place, tag):
+    """Where the last such tag starts, at the place or before; -1 if none does."""
+    return listing.rfind(tag, 0, place + len(tag))
+
+
+def _text(listing, at):
+    """The text, as read, of the element there."""
+    element = _ELEMENT.match(listing, at) if at >= 0 else None
+    return element and _ENTITY.sub(lambda entity: _ENTITIES[entity[0]], element[1] or b"")
+
+
+def _quoted(text):
+    """As far as it fits on a line, and safe to print."""
+    shown = text[:120].decode("utf-8", "replace").translate(_SHOWN)
+    cut = f".. ({len(text)} bytes)" if len(text) > 120 else ""
+    return f"`{shown}{cut}`" if text else "an empty text"

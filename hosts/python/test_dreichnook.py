@@ -32,7 +32,7 @@ class Answers(unittest.TestCase):
 
     def test_every_specimen(self):
         rows = [row.split() for row in specimen("expected.txt").decode().splitlines() if not row.startswith("#")]
-        self.assertEqual(len(rows), 45)
+        self.assertEqual(len(rows), 52)
         for file, verdict, *figures in rows:
             with self.subTest(file):
                 figures = tuple(map(int, figures))
@@ -105,7 +105,50 @@ class Answers(unittest.TestCase):
     def test_words(self):
         self.assertEqual(str(Refusal(17, 603)), "refused by rule 17 at byte 603: division isn't PAT")
         self.assertEqual(str(Refusal(32, 0)), "refused with 32: no such feature")
-        self.assertEqual(sorted(dreichnook.WORDS), [1, 2, *range(10, 38)])
+        self.assertEqual(str(Refusal(40, 2120)), "refused by rule 40 at byte 2120: unknown feature key")
+        self.assertEqual(sorted(dreichnook.WORDS), [1, 2, *range(10, 38), 40, 41, 42])
+
+
+class Explanations(unittest.TestCase):
+    """Of rules 40 to 42, on the examples that Rust's test reads too."""
+
+    def refused(self, number, listing):
+        """The refusal of a specimen, or of a piece of a listing."""
+        before, mark, after = listing.encode().partition(b"^")
+        if mark:
+            return Refusal(number, len(before), before + after)
+        with self.assertRaises(Refusal) as caught:
+            Listing(specimen(listing)).check()
+        return caught.exception
+
+    def test_every_example(self):
+        examples = (HERE.parent / "words" / "examples.txt").read_text(encoding="utf-8").splitlines()
+        rows = [row.split("\t") for row in examples if not row.startswith("#")]
+        self.assertEqual(len(rows), 29)
+        for number, listing, explanation in rows:
+            with self.subTest(listing):
+                refusal = self.refused(int(number), listing)
+                self.assertEqual((refusal.number, refusal.explanation), (int(number), explanation))
+
+    def test_it_ends_the_message(self):
+        says = "refused by rule 42 at byte 1327: required qualifier missing: `modified_base` lacks: mod_base"
+        self.assertEqual(str(self.refused(42, "02-1-modified-base-unnamed.xml")), says)
+
+    def test_none(self):
+        listing = specimen("02-1-exonn.xml")
+        for number in (*range(1, 40), *range(43, 51)):
+            self.assertIsNone(Refusal(number, 2120, listing).explanation)
+        for number in (40, 41, 42):
+            no_moltype = b"<x>DNA</x><INSDFeature_key>y</x>"
+            for other, place in ((b"", 0), (no_moltype, (1 << 64) - 1), (listing, 0), (listing[:2120], 2120)):
+                self.assertIsNone(Refusal(number, place, other).explanation)
+        self.assertIsNone(Refusal(40, 2120, listing.replace(b"exonn", b"exon")).explanation)
+
+    def test_a_key_as_long_as_a_listing(self):
+        piece = "<INSDSeq_moltype>DNA</INSDSeq_moltype><INSDFeature_key>^KEY</INSDFeature_key>"
+        says = self.refused(40, piece.replace("KEY", "exon" * (LIMIT // 4))).explanation
+        end = ".. (16777216 bytes)` isn't a key of nucleotides; none of the 49 keys is near"
+        self.assertEqual(says, "`" + "exon" * 30 + end)
 
 
 class Example(unittest.TestCase):

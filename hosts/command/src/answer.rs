@@ -2,8 +2,9 @@
 
 use crate::arguments::Question;
 use crate::json::{Fields, Json};
-use crate::place::visible;
-use dreichnook::{Counts, Feature, Listing, Operator, Part, Qualifier, Refusal, Sequence, Span};
+use dreichnook::{
+    visible, Counts, Feature, Listing, Operator, Part, Qualifier, Refusal, Sequence, Span,
+};
 use std::io::{self, Write};
 
 pub enum Answer<'a> {

@@ -1,13 +1,11 @@
 //! The page of `show` for an accepted listing.
 
 use crate::answer::mark_words;
-use crate::place::visible;
 use crate::show::{ShownFeature, ShownSequence, Walk};
-use dreichnook::{Counts, Operator, Span};
+use dreichnook::{short, visible, Counts, Operator, Span};
 use std::io::{self, Write};
 
-/// A page stays readable: of a long text, of residues and of spans the first ones are shown.
-const LETTERS: usize = 120;
+/// A page stays readable: of residues and of spans the first ones are shown.
 const LINES: usize = 5;
 const SPANS: usize = 8;
 
@@ -114,14 +112,4 @@ fn span(span: &Span) -> String {
         text.push_str(word);
     }
     text
-}
-
-/// A text as far as it fits on the page.
-fn short(text: &[u8]) -> String {
-    match text.get(..LETTERS) {
-        Some(front) if text.len() > LETTERS => {
-            format!("{}.. ({} bytes)", visible(front), text.len())
-        }
-        _ => visible(text),
-    }
 }

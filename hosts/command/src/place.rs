@@ -1,5 +1,7 @@
 //! Where a byte stands, for people.
 
+use dreichnook::visible;
+
 /// A line and a column, from 1. Lines end with byte 10; columns count bytes.
 #[derive(Debug, PartialEq, Eq)]
 pub struct Position {
@@ -42,17 +44,6 @@ fn line_end(listing: &[u8], place: usize) -> usize {
     let rest = &listing[place..];
     let ends = |&byte: &u8| byte == b'\n' || byte == b'\r';
     place + rest.iter().position(ends).unwrap_or(rest.len()).min(BESIDE)
-}
-
-/// Any bytes as text that is safe to print: a byte that can't be shown becomes one mark.
-pub fn visible(bytes: &[u8]) -> String {
-    let text = String::from_utf8_lossy(bytes);
-    let safe = |letter: char| match letter {
-        '\t' => ' ',
-        letter if letter.is_control() => char::REPLACEMENT_CHARACTER,
-        letter => letter,
-    };
-    text.chars().map(safe).collect()
 }
 
 #[cfg(test)]

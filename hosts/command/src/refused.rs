@@ -20,17 +20,19 @@ impl Refused<'_> {
 
     /// One line in words, in the way of compilers, which editors can follow.
     pub fn write_words(&self, name: &str, out: &mut impl Write) -> io::Result<()> {
-        let Refusal { number, .. } = self.refusal;
-        let words = self.refusal.words();
-        match self.position() {
-            Some(Position { line, column }) => {
-                writeln!(out, "{name}:{line}:{column}: rule {number}: {words}")
-            }
-            None => writeln!(out, "{name}: rule {number}: {words}"),
+        write!(out, "{name}")?;
+        if let Some(Position { line, column }) = self.position() {
+            write!(out, ":{line}:{column}")?;
         }
+        let Refusal { number, .. } = self.refusal;
+        write!(out, ": rule {number}: {}", self.refusal.words())?;
+        if let Some(explanation) = self.explanation() {
+            write!(out, ": {explanation}")?;
+        }
+        writeln!(out)
     }
 
-    /// The page of `show` for a refused listing: the rule in words, and the line with a mark.
+    /// The page of `show` for a refused listing: the rule in words, the line with a mark, and what can be said of it.
     pub fn write_page(&self, name: &str, out: &mut impl Write) -> io::Result<()> {
         let Refusal { number, place } = self.refusal;
         writeln!(out, "{name}: refused")?;
@@ -46,6 +48,8 @@ impl Refused<'_> {
                     out,
                     "\nAll before that byte begins a listing; with it, nothing does."
                 )?;
+            } else if let Some(explanation) = self.explanation() {
+                writeln!(out, "\n{explanation}")?;
             }
         }
         Ok(())
@@ -65,6 +69,9 @@ impl Refused<'_> {
             let stretch = stretch(self.listing, place as usize);
             fields.push(("stretch", Json::Text(stretch)));
         }
+        if let Some(explanation) = self.explanation() {
+            fields.push(("explanation", Json::Text(explanation)));
+        }
         fields
     }
 
@@ -74,6 +81,10 @@ impl Refused<'_> {
         } else {
             "answer"
         }
+    }
+
+    fn explanation(&self) -> Option<String> {
+        self.refusal.explanation(self.listing)
     }
 
     /// Where the fault stands; a listing that is too long has it nowhere, and neither has a question.

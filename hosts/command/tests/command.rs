@@ -55,7 +55,7 @@ fn specimens() -> Vec<String> {
     let files = fs::read_dir(SPECIMENS).unwrap();
     let names = files.map(|file| file.unwrap().file_name().into_string().unwrap());
     let names: Vec<_> = names.filter(|name| name.ends_with(".xml")).collect();
-    assert_eq!(names.len(), 45);
+    assert_eq!(names.len(), 52);
     names
 }
 
@@ -323,6 +323,31 @@ fn a_refusal_is_told_in_words_and_with_its_line() {
         "{out}"
     );
     assert_eq!(code, 1);
+}
+
+#[test]
+fn a_refusal_by_the_vocabulary_is_explained() {
+    let (out, error, code) = said(run("show 02-1-exonn.xml"));
+    let page = "02-1-exonn.xml: refused
+rule 40: unknown feature key
+byte 2120, line 49, column 28:
+
+              <INSDFeature_key>exonn</INSDFeature_key>
+                               ^
+
+`exonn` isn't a key of nucleotides; nearest: exon
+";
+    assert_eq!((out.as_str(), error.as_str(), code), (page, "", 1));
+
+    let file = "02-1-amino-gene.xml";
+    let (_, error, _) = said(run(&format!("check {file}")));
+    let words = "rule 41: qualifier not allowed at its feature key";
+    let explanation = "`CHAIN` doesn't allow `gene`; allowed: note";
+    assert_eq!(error, format!("{file}:37:35: {words}: {explanation}\n"));
+
+    let (out, _, _) = said(run("check 02-1-modified-base-unnamed.xml --json"));
+    let end = r#","explanation":"`modified_base` lacks: mod_base"}"#;
+    assert!(out.ends_with(&format!("{end}\n")), "{out}");
 }
 
 #[test]

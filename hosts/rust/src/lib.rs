@@ -10,11 +10,14 @@
 //! ```
 
 mod c;
+mod explain;
 mod listing;
 mod refusal;
+mod text;
 
 pub use listing::Listing;
 pub use refusal::Refusal;
+pub use text::{short, visible};
 
 use std::fmt;
 

@@ -53,7 +53,7 @@ fn every_specimen_is_judged_as_expected() {
         assert_eq!(said, figures, "{file}");
         judged += 1;
     }
-    assert_eq!(judged, 45);
+    assert_eq!(judged, 52);
 }
 
 #[test]
@@ -277,11 +277,19 @@ fn a_refused_listing_refuses_every_question() {
 
 #[test]
 fn each_refusal_has_its_words() {
-    let numbers = (1..=2).chain(10..=37);
+    let numbers = (1..=2).chain(10..=37).chain(40..=42);
     let mut words: Vec<_> = numbers.map(|number| question(number).words()).collect();
     words.push(question(99).words());
     words.sort_unstable();
     words.dedup();
-    assert_eq!(words.len(), 31);
+    assert_eq!(words.len(), 34);
     assert_eq!(question(32).to_string(), "refused with 32: no such feature");
+    let unknown = Refusal {
+        number: Refusal::UNKNOWN_KEY,
+        place: 2120,
+    };
+    assert_eq!(
+        unknown.to_string(),
+        "refused by rule 40 at byte 2120: unknown feature key"
+    );
 }
