@@ -61,7 +61,7 @@ module _ {s wk : List ℕ} {known : Known} {g : FoundFeature} {named : Bool} (sk
     planned q f e k i keeps =
         let c = tells-true named h (nc .says q f (k .kind) (part-shows (i .key) sk)) in
         let j = subst (λ (n : ℕ). Placed n (f .location .read) v) (k .size) (judged-by (known .top) v (jl .is (raw (f .location .read)) (text-shown (i .location))) (f .location .read) refl) in
-        (c, j, st .says (L q) f (i .stop) (i .quals) (i .closes) j (λ n. keeps .feature 27 (f .key .place) (inr (rule-27 c n))))
+        (c, j, st .says (L q) f (i .stop) (i .quals) (i .closes) j (λ n. keeps .feature 27 (f .key .place) (inr (inl (rule-27 c n)))))
 
     pub plan-unjudged : r ≡ start.Unjudged → Plans s known g plan.Unjudged
     plan-unjudged z = record { says = λ q f e k i keeps. let x = planned q f e k i keeps in (x .0, subst (StartIs f) z (x .2)) }

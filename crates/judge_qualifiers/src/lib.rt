@@ -343,12 +343,7 @@ pub enum Start {
 }
 
 // Of a region that keeps rule 27.
-pub fn start_of(
-    s: &[u8],
-    first: usize,
-    verdict: Judgement,
-    vocabulary: &[u8; 3498],
-) -> Start
+pub fn start_of(s: &[u8], first: usize, verdict: Judgement, vocabulary: &[u8; 3498]) -> Start
     requires { ⌜ VocabularyTable (now vocabulary) ⌝ }
     ensures { λ r. ⌜ StartsAt (now (s .entry)) first verdict r ⌝ }
 {

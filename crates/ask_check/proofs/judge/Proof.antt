@@ -10,6 +10,9 @@ symbol-table-requires c κs = search needs
 code-table-requires : tie.Need-code-table-requires
 code-table-requires c κs = search needs
 
+vocabulary-table-requires : tie.Need-vocabulary-table-requires
+vocabulary-table-requires c κs = search needs
+
 judge-header-requires : tie.Need-judge-header-requires
 judge-header-requires c κs = search needs
 
@@ -33,7 +36,7 @@ earlier-requires-2 c κs = search needs
 
 returns : tie.Need-returns
 returns c =
-    let judge-header = c .before .before .before .before .before .before .before .before .before .judge-header in
+    let judge-header = c .before .before .before .before .before .before .before .before .before .before .judge-header in
     let judge-sequences = c .before .before .before .before .before .judge-sequences in
     listing-judged (c .before .earlier .result) (c .earlier2 .result) (judge-header .ensures) (judge-sequences .ensures)
     (c .before .before .before .before .bytes-of .ensures) (c .before .before .before .is-number .ensures)
@@ -45,6 +48,7 @@ judge-spec =
     (tie.spec
     symbol-table-requires
     code-table-requires
+    vocabulary-table-requires
     judge-header-requires
     judge-sequences-requires
     bytes-of-requires

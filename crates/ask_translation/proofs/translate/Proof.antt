@@ -30,7 +30,7 @@ bytes-of-requires-2 : tie.Need-bytes-of-requires-2
 bytes-of-requires-2 c κs = search needs
 
 write-requires : tie.Need-write-requires
-write-requires c κs = coded-1 (c .before .before .before .before .before .before .before .before .before .pre)
+write-requires c κs = coded-1 (c .before .before .before .before .before .before .before .before .before .pre .0)
 
 enum-known-n : tie.Need-enum-known-n
 enum-known-n c = search needs
@@ -63,7 +63,7 @@ returns-3 c =
     let bytes-of = c .before .before .before .before .before .before .before .before .bytes-of in
     let bytes-of2 = c .before .before .before .before .before .before .before .bytes-of2 in
     let write = c .before .before .before .before .before .write in
-    let pre' = c .before .before .before .before .before .before .before .before .before .before .before .before .before .before .before .pre in
+    let pre' = c .before .before .before .before .before .before .before .before .before .before .before .before .before .before .before .pre .0 in
     one-is (plan-of .ensures) (code-1 pre') (start .given .1) (bytes-of .ensures) (bytes-of2 .ensures) (write .ensures) (c .before .n .given .1)
 
 same-length-2 : tie.Need-same-length-2
@@ -76,7 +76,7 @@ returns-4 c =
     let bytes-of = c .before .before .before .before .before .before .before .before .bytes-of in
     let bytes-of2 = c .before .before .before .before .before .before .before .bytes-of2 in
     let write = c .before .before .before .before .before .write in
-    let pre' = c .before .before .before .before .before .before .before .before .before .before .before .before .before .before .before .pre in
+    let pre' = c .before .before .before .before .before .before .before .before .before .before .before .before .before .before .before .pre .0 in
     answered (c .refused3 .ensures)
     (one-short (plan-of .ensures) (code-1 pre') (start .given .1) (bytes-of .ensures) (bytes-of2 .ensures) (write .ensures) (c .before .enum-told3 .given .1))
 
@@ -90,7 +90,7 @@ returns-5 c =
     let bytes-of = c .before .before .before .before .before .before .before .before .bytes-of in
     let bytes-of2 = c .before .before .before .before .before .before .before .bytes-of2 in
     let write = c .before .before .before .before .before .write in
-    let pre' = c .before .before .before .before .before .before .before .before .before .before .before .before .before .before .before .pre in
+    let pre' = c .before .before .before .before .before .before .before .before .before .before .before .before .before .before .before .pre .0 in
     answered (c .refused4 .ensures)
     (one-stop (plan-of .ensures) (code-1 pre') (start .given .1) (bytes-of .ensures) (bytes-of2 .ensures) (write .ensures) (c .before .enum-told4 .given .1))
 

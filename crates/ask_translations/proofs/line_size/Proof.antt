@@ -27,18 +27,18 @@ bytes-of-requires-2 : tie.Need-bytes-of-requires-2
 bytes-of-requires-2 c κs = search needs
 
 measure-requires : tie.Need-measure-requires
-measure-requires c κs = coded-1 (c .before .before .before .before .before .before .before .pre)
+measure-requires c κs = coded-1 (c .before .before .before .before .before .before .before .pre .0)
 
 enum-known-n : tie.Need-enum-known-n
 enum-known-n c = search needs
 
-add-t15 : tie.Need-add-t15
-add-t15 c = search needs
+add-t16 : tie.Need-add-t16
+add-t16 c = search needs
 
 returns : tie.Need-returns
 returns c =
     let plan-of = c .before .before .before .before .before .before .before .before .before .before .plan-of in
-    let pre' = c .before .before .before .before .before .before .before .before .before .before .before .before .pre in
+    let pre' = c .before .before .before .before .before .before .before .before .before .before .before .before .pre .0 in
     let start = c .before .before .before .before .before .before .before .before .start in
     let bytes-of = c .before .before .before .before .before .before .bytes-of in
     let bytes-of2 = c .before .before .before .before .before .bytes-of2 in
@@ -63,7 +63,7 @@ returns-3 c = size-unjudged (c .before .before .before .plan-of .ensures) (c .be
 returns-4 : tie.Need-returns-4
 returns-4 c =
     let plan-of = c .before .before .before .before .before .before .before .before .before .before .plan-of in
-    let pre' = c .before .before .before .before .before .before .before .before .before .before .before .before .pre in
+    let pre' = c .before .before .before .before .before .before .before .before .before .before .before .before .pre .0 in
     let start = c .before .before .before .before .before .before .before .before .start in
     let bytes-of = c .before .before .before .before .before .before .bytes-of in
     let bytes-of2 = c .before .before .before .before .before .bytes-of2 in
@@ -73,7 +73,7 @@ returns-4 c =
 returns-5 : tie.Need-returns-5
 returns-5 c =
     let plan-of = c .before .before .before .before .before .before .before .before .plan-of in
-    let pre' = c .before .before .before .before .before .before .before .before .before .before .pre in
+    let pre' = c .before .before .before .before .before .before .before .before .before .before .pre .0 in
     let start = c .before .before .before .before .before .before .start in
     size-short (plan-of .ensures) (code-1 pre') (start .given .1) (c .before .before .before .before .bytes-of .ensures)
     (c .before .before .before .bytes-of2 .ensures) (c .before .before .measure .ensures) (c .enum-told3 .given .1)
@@ -81,7 +81,7 @@ returns-5 c =
 returns-6 : tie.Need-returns-6
 returns-6 c =
     let plan-of = c .before .before .before .before .before .before .before .before .before .plan-of in
-    let pre' = c .before .before .before .before .before .before .before .before .before .before .before .pre in
+    let pre' = c .before .before .before .before .before .before .before .before .before .before .before .pre .0 in
     let start = c .before .before .before .before .before .before .before .start in
     let bytes-of = c .before .before .before .before .before .bytes-of in
     size-stop (plan-of .ensures) (code-1 pre') (start .given .1) (bytes-of .ensures) (c .before .before .before .before .bytes-of2 .ensures)
@@ -100,7 +100,7 @@ line-size-spec =
     bytes-of-requires-2
     measure-requires
     enum-known-n
-    add-t15
+    add-t16
     returns
     enum-told-3
     enum-told-4

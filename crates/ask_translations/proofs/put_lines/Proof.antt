@@ -62,7 +62,7 @@ add-end : tie.Need-add-end Inv-loop μ-loop
 add-end c =
     let good = c .before .before .before .before .before .before .before .before .before .before .before .before .good in
     let loop' = c .before .before .before .before .before .before .before .before .before .loop in
-    omega (arith, putting-within (loop' .inv) (c .before .before .put-line .ensures), good .1 .1 .1 .1 .0 .0)
+    omega (arith, putting-within (loop' .inv) (c .before .before .put-line .ensures), good .1 .1 .1 .1 .1 .0 .0)
 
 loop-less : tie.Need-loop-less Inv-loop μ-loop
 loop-less c =
