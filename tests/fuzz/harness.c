@@ -209,7 +209,8 @@ static uint64_t ask_check(void)
         saw(46, features);
         saw(47, judged * 256 + unjudged);
     } else {
-        REQUIRE(verdict == DREICHNOOK_NOT_THE_LAYOUT || (verdict >= 10 && verdict <= 29));
+        REQUIRE(verdict == DREICHNOOK_NOT_THE_LAYOUT || (verdict >= 10 && verdict <= 29) ||
+                (verdict >= DREICHNOOK_UNKNOWN_KEY && verdict <= DREICHNOOK_REQUIRED_MISSING));
         REQUIRE(place <= length && (verdict == DREICHNOOK_NOT_THE_LAYOUT || place < length));
         REQUIRE(total == 0 && skipped == 0 && features == 0 && judged == 0 && unjudged == 0);
     }
