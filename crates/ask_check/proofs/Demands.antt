@@ -39,7 +39,7 @@ not-refused {n = n} {p} g (paper.breaks l h laid f) =
     let e : forget l ≡ g .bare = ap (λ (m : Listing ℕ). forget m) (laid-once l (g .writes .listing) laid (g .writes .laid)) ∙ g .writes .same in
     g .keeps n (subst (λ (b : Bare). Breaks b n) e (bare-exactly _+_ l n .0 (p, f .broken)))
 
--- demand 3: accepted exactly when some bare listing is written by the bytes and breaks none of rules 10 to 29
+-- demand 3: accepted exactly when some bare listing is written by the bytes and breaks none of the rules on values
 pub exactly : (w : List ℕ) (r : Verdict) → CheckSays w r → IsAccepted r ↔ Good w
 exactly w (Accepted t s f j u) c =
     let g = given (c .1) in (

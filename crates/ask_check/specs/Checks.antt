@@ -9,7 +9,7 @@ use Rattle.paper.specs.Answers.{limit, Counts}
 use Rattle.judge_faults.specs.Sets.{Firsts}
 use Rattle.judge_sequences.specs.declared.Total.{Total}
 
--- the first of rules 10 to 29 that is broken; and the counts, where none is
+-- the first of the rules on values that is broken; and the counts, where none is
 pub record IsJudged (l : Listing ℕ) (r : Total) : Type 0 where
   pub fault : Firsts (Broken l) (r .fault)
   pub counted : ((n p : ℕ) → ¬ Broken l n p) → Counts l (r .total) (r .skipped) (r .features) (r .judged) (r .unjudged)

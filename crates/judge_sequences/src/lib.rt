@@ -1,4 +1,4 @@
-// The sequences of a listing: rules 15 to 29, and the counts. Relies on the walk along them, and on the judges of their texts and
+// The sequences of a listing: rules 15 to 29 and 40 to 42, and the counts. Relies on the walk along them, and on the judges of their texts and
 // features.
 use judge_faults::Fault;
 use judge_features::Tabled;

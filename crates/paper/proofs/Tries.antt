@@ -1,19 +1,22 @@
 -- The definitions tried where a slip would be likely: small theorems that they mean what document 01 says.
 use Prim.Native.Nat.{ℕ, _+_, _≤_, _<_}
+use Prim.Native.String.{String}
 use native.Mathlib.Omega.{arith}
 use mathlib.Core.Path.{_≡_, refl, sym, ap, _∙_, subst}
-use mathlib.Core.Bool.{true, false}
+use mathlib.Core.Bool.{Bool, true, false, _&&_}
 use mathlib.Core.Logic.{inl, inr}
-use mathlib.Core.List.{List, [], _∷_, _++_, append-nil}
+use mathlib.Core.List.{List, [], _∷_, _++_, map, append-nil}
 use mathlib.Core.Option.{none, some}
 use lib.ListN.{length}
+use lib.Dec.{leb}
 use Rattle.paper.specs.Bytes.{bytes, isBlank}
 use Rattle.paper.specs.Lists.{Count, end, has, lacks}
 use Rattle.paper.specs.Tree.{Text, Sequence, Listing, markText}
 use Rattle.paper.specs.Form.{Form, lit, _·_}
 use Rattle.paper.specs.Layout.{blanks, leaf, root, doctype, LaidOut}
 use Rattle.paper.specs.Locations.{Member, Operator, Location, many, Locates, spans, spanOf, breaks25}
-use Rattle.paper.specs.Rules.{L, Skipped, dna, rna, aa, valueRead}
+use Rattle.paper.specs.Vocabulary.{Row, nucleotideRows, nucleotideNames, aminoRows, aminoNames, isOneOf, counted}
+use Rattle.paper.specs.Rules.{L, Skipped, Kind, dna, rna, aa, upperIn, valueRead, vocabulary}
 use Rattle.paper.specs.Answers.{limit, Checked, Counts, CheckSays, kindNumber, page, Prints}
 use Rattle.paper.specs.declared.Verdict.the-variants.{Accepted, Refused}
 use Rattle.paper.proofs.Accepted.{listing, tree, laid}
@@ -114,3 +117,33 @@ empty-refused =
 
 empty-printed : Prints [] (bytes "verdict refused\nrule 2\nplace 0\n")
 empty-printed = Prints.verdict (Refused 2 0) (omega arith) empty-refused
+
+-- ---- the vocabulary of request 1 of document 02
+
+-- 003's numbers: 5.1 to 5.49, 6.1 to 6.81, 7.1 to 7.39, 8.1 to 8.3
+rows-counted : (length nucleotideRows ≡ 49) × (length nucleotideNames ≡ 81) × (length aminoRows ≡ 39) × (length aminoNames ≡ 3)
+rows-counted = (refl, refl, refl, refl)
+
+abbrev keysOf : Kind → List (List ℕ)
+keysOf k = map (λ (r : Row). r .key) (vocabulary k)
+
+-- what a key of a kind counts as is known, or isn't
+abbrev known : Kind → String → Bool
+known k key = isOneOf (keysOf k) (counted (upperIn k) (bytes key))
+
+keys-known :
+    (known dna "exonn" ≡ false) × (known dna "exon" ≡ true) × (known rna "3'UTR" ≡ true) × (known dna "SITE" ≡ false) × (known aa "SITE" ≡ true)
+    × (known aa "SOURCE" ≡ true) × (known aa "source" ≡ true) × (known dna "SOURCE" ≡ false) × (known aa "NOTE" ≡ false)
+keys-known = (refl, refl, refl, refl, refl, refl, refl, refl, refl)
+
+-- the older names are others in AA alone
+older-counted : (counted true (bytes "NOTE") ≡ bytes "note") × (counted false (bytes "NOTE") ≡ bytes "NOTE") × (counted true (bytes "Note") ≡ bytes "Note")
+older-counted = (refl, refl, refl)
+
+-- no known key has more than fifteen characters
+abbrev short : List (List ℕ) → Bool
+short [] = true
+short (w ∷ l) = leb (length w) 15 && short l
+
+keys-short : (short (keysOf dna) ≡ true) × (short (keysOf aa) ≡ true)
+keys-short = (refl, refl)

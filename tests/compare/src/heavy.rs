@@ -3,7 +3,7 @@
 use crate::large::Make;
 
 /// The kinds, and how each is made.
-pub const HEAVY: [(&str, Make); 11] = [
+pub const HEAVY: [(&str, Make); 17] = [
     // Right translations, all of one join of 3,000 members of one residue each.
     ("right-translations", |size| {
         let value = "A".repeat(1_000);
@@ -61,6 +61,34 @@ pub const HEAVY: [(&str, Make); 11] = [
                 "1..3000",
                 &(translations("A", n) + &qualifier("pseudo", None)),
             )
+        })
+    }),
+    // Words that the vocabulary hasn't: some 140,000 keys, some 210,000 names, such as differ from a known one in the last letter only,
+    // and one that fills the listing.
+    ("unknown-keys", |size| {
+        filled(size, |n| one(&feature("exonn", "1..9", "").repeat(n)))
+    }),
+    ("near-keys", |size| {
+        filled(size, |n| {
+            one(&feature("misc_differencf", "1..9", "").repeat(n))
+        })
+    }),
+    ("unknown-names", |size| {
+        filled(size, |n| {
+            one(&feature("gene", "1..9", &qualifier("nota", None).repeat(n)))
+        })
+    }),
+    ("near-names", |size| {
+        let names = ["standard_namf", "gene_synonyn", "translatioo", "organisn"];
+        let all: String = names.map(|name| qualifier(name, None)).concat();
+        filled(size, |n| one(&feature("gene", "1..9", &all.repeat(n))))
+    }),
+    ("long-key", |size| {
+        filled(size, |n| one(&feature(&"e".repeat(n), "1..9", "")))
+    }),
+    ("long-name", |size| {
+        filled(size, |n| {
+            one(&feature("gene", "1..9", &qualifier(&"e".repeat(n), None)))
         })
     }),
     // Long numbers, as the total and as a position.
@@ -164,6 +192,8 @@ mod tests {
                 "wrong-translations" | "one-letter" | "late-codon-start" => 28,
                 "digits-in-total" => 14,
                 "digits-in-location" => 25,
+                "unknown-keys" | "near-keys" | "long-key" => 40,
+                "unknown-names" | "near-names" | "long-name" => 41,
                 _ => 0,
             };
             assert_eq!(rule_of(&bytes), rule, "{name}");
