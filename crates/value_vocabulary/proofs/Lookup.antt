@@ -4,6 +4,8 @@ use native.Mathlib.Omega.{arith}
 use mathlib.Core.Path.{_≡_, refl, sym, ap, _∙_, subst}
 use mathlib.Core.List.{List, []}
 use lib.ListN.{length, getD, take, drop, length-take, length-drop}
+use lib.Seq.{take-append-seam}
+use Rattle.read_bytes.specs.Words.{StandsAt}
 use Rattle.value_vocabulary.specs.Tables.{byteOf, pairOf, slotOf, startOf, Dictionary, Finds, RowIn}
 
 -- what is known of w where it is text k of a dictionary
@@ -92,6 +94,11 @@ module _ {factor mask : ℕ} {t w : List ℕ} {k from to : ℕ} (at : Looked fac
             };
         below = λ l d x. subst (λ (n : ℕ). n < length l) (sym (at .is)) (d .full (slotOf factor mask w) (at .under));
       }
+
+  -- the same, of a word that stands there
+  pub stands-text : StandsAt w t from → to - from ≡ length w → Finds factor mask t w k
+  stands-text s n =
+      same-text (sym (ap (λ (i : ℕ). take i (drop from t)) n ∙ ap (take (length w)) (s .here) ∙ take-append-seam w (drop (from + length w) t)))
 
 -- ---- the row of a key, by its number among the keys
 

@@ -1,6 +1,5 @@
 -- The table's rule, from a few equations that antt computes over the whole table: one for each dictionary, one for the rows of each kind.
 use Prim.Native.Nat.{ℕ, zero, suc, _+_, _*_, _-_, _/_, _%_, _^_, _≤_, _<_}
-use native.Mathlib.Nat.{zero-div}
 use native.Mathlib.Omega.{arith}
 use mathlib.Core.Path.{_≡_, refl, sym, ap, _∙_, subst}
 use mathlib.Core.Bool.{Bool, true, false, true≢false, cond}
@@ -8,7 +7,7 @@ use mathlib.Core.List.{List, [], _∷_, _++_, map, cons≢nil}
 use mathlib.Core.Option.{Option, none, some, Option·none-ne-some, Option·some-injective}
 use lib.ListN.{length, getD, take, drop, length-map, List·getD-map, List·getD-append}
 use lib.Seq.{getD-take, getD-drop}
-use lib.Dec.{eqb}
+use lib.Dec.{eqb, ltb}
 use borrow.Author.Tests.{eqb-true, eqb-false}
 use Rattle.paper.specs.Bytes.{raw, same}
 use Rattle.paper.specs.Lists.{_∈_}
@@ -76,27 +75,56 @@ first-none (x ∷ l) v e r m h = go (same v (x .key)) refl e m (λ q n. first-no
     go false p q (zero, n) f = true≢false (sym (ap (same v) (sym (h ∙ ap (λ (r : Row). r .key) n)) ∙ same-self v) ∙ p)
     go false p q (suc i, n) f = f q (i, n)
 
--- four names for each byte
+-- four names for each byte, and those of every other byte turned round
 abbrev pub crumbsOf : List ℕ → List ℕ
 crumbsOf [] = []
-crumbsOf (b ∷ l) = b % 4 ∷ b / 4 % 4 ∷ b / 16 % 4 ∷ b / 64 % 4 ∷ crumbsOf l
+crumbsOf (a ∷ []) = a % 4 ∷ a / 4 % 4 ∷ a / 16 % 4 ∷ a / 64 % 4 ∷ []
+crumbsOf (a ∷ b ∷ l) =
+    a % 4 ∷ a / 4 % 4 ∷ a / 16 % 4 ∷ a / 64 % 4 ∷ (3 - b % 4) ∷ (3 - b / 4 % 4) ∷ (3 - b / 16 % 4) ∷ (3 - b / 64 % 4) ∷ crumbsOf l
 
-crumbs-at : (l : List ℕ) (j : ℕ) → getD (crumbsOf l) j 0 ≡ getD l (j / 4) 0 / 2 ^ (2 * (j % 4)) % 4
-crumbs-at [] j = ap (λ (n : ℕ). n % 4) (sym (zero-div (2 ^ (2 * (j % 4)))))
-crumbs-at (b ∷ l) zero = ap (λ (n : ℕ). n % 4) (omega arith)
-crumbs-at (b ∷ l) (suc zero) = refl
-crumbs-at (b ∷ l) (suc (suc zero)) = refl
-crumbs-at (b ∷ l) (suc (suc (suc zero))) = refl
-crumbs-at (b ∷ l) (suc (suc (suc (suc j)))) =
-    let h : suc (suc (suc (suc j))) / 4 ≡ suc (j / 4) = omega arith in
-    let k : suc (suc (suc (suc j))) % 4 ≡ j % 4 = omega arith in
-    crumbs-at l j ∙ (λ i. getD (b ∷ l) (sym h i) 0 / 2 ^ (2 * sym k i) % 4)
+length-crumbs : (l : List ℕ) → length (crumbsOf l) ≡ 4 * length l
+length-crumbs [] = refl
+length-crumbs (a ∷ []) = refl
+length-crumbs (a ∷ b ∷ l) = omega (arith, length-crumbs l)
 
-crumb-here : (t : List ℕ) (row j : ℕ) → j < 85 → crumbAt t row j ≡ getD (crumbsOf (take 22 (drop (row + 1) t))) j 0
-crumb-here t row j h =
+abbrev turned : ℕ → ℕ → ℕ
+turned j n = cond (ltb (j % 8) 4) n (3 - n)
+
+abbrev crumbIn : List ℕ → ℕ → ℕ
+crumbIn l j = turned j (getD l (j / 4) 0 / 2 ^ (2 * (j % 4)) % 4)
+
+first-crumb : (a : ℕ) → a % 4 ≡ a / 1 % 4
+first-crumb a = ap (λ (n : ℕ). n % 4) (omega arith)
+
+crumbs-at : (l : List ℕ) (j : ℕ) → j / 4 < length l → getD (crumbsOf l) j 0 ≡ crumbIn l j
+crumbs-at [] j h = absurd (omega (arith, h))
+crumbs-at (a ∷ []) zero h = first-crumb a
+crumbs-at (a ∷ []) (suc zero) h = refl
+crumbs-at (a ∷ []) (suc (suc zero)) h = refl
+crumbs-at (a ∷ []) (suc (suc (suc zero))) h = refl
+crumbs-at (a ∷ []) (suc (suc (suc (suc j)))) h = absurd (omega (arith, h))
+crumbs-at (a ∷ b ∷ l) zero h = first-crumb a
+crumbs-at (a ∷ b ∷ l) (suc zero) h = refl
+crumbs-at (a ∷ b ∷ l) (suc (suc zero)) h = refl
+crumbs-at (a ∷ b ∷ l) (suc (suc (suc zero))) h = refl
+crumbs-at (a ∷ b ∷ l) (suc (suc (suc (suc zero)))) h = ap (λ (n : ℕ). 3 - n) (first-crumb b)
+crumbs-at (a ∷ b ∷ l) (suc (suc (suc (suc (suc zero))))) h = refl
+crumbs-at (a ∷ b ∷ l) (suc (suc (suc (suc (suc (suc zero)))))) h = refl
+crumbs-at (a ∷ b ∷ l) (suc (suc (suc (suc (suc (suc (suc zero))))))) h = refl
+crumbs-at (a ∷ b ∷ l) (suc (suc (suc (suc (suc (suc (suc (suc j)))))))) h =
+    let n : ℕ = suc (suc (suc (suc (suc (suc (suc (suc j))))))) in
+    let d : n / 4 ≡ suc (suc (j / 4)) = omega arith in
+    let m : n % 4 ≡ j % 4 = omega arith in
+    let e : n % 8 ≡ j % 8 = omega arith in
+    crumbs-at l j (omega (arith, h, d))
+    ∙ (λ i. cond (ltb (sym e i) 4) (getD (a ∷ b ∷ l) (sym d i) 0 / 2 ^ (2 * sym m i) % 4) (3 - getD (a ∷ b ∷ l) (sym d i) 0 / 2 ^ (2 * sym m i) % 4))
+
+crumb-here : (t : List ℕ) (row j : ℕ) → j < 85 → length (crumbsOf (take 22 (drop (row + 1) t))) ≡ 88
+    → crumbAt t row j ≡ getD (crumbsOf (take 22 (drop (row + 1) t))) j 0
+crumb-here t row j h n =
     sym
-    (crumbs-at (take 22 (drop (row + 1) t)) j
-    ∙ ap (λ (n : ℕ). n / 2 ^ (2 * (j % 4)) % 4) (getD-take 22 (drop (row + 1) t) (j / 4) 0 (omega (arith, h)) ∙ getD-drop (row + 1) t (j / 4) 0))
+    (crumbs-at (take 22 (drop (row + 1) t)) j (omega (arith, h, n, length-crumbs (take 22 (drop (row + 1) t))))
+    ∙ ap (λ (x : ℕ). turned j (x / 2 ^ (2 * (j % 4)) % 4)) (getD-take 22 (drop (row + 1) t) (j / 4) 0 (omega (arith, h)) ∙ getD-drop (row + 1) t (j / 4) 0))
 
 mapped : {A : Type 0} (f : A → ℕ) (l : List A) (j : ℕ) (d : A) → j < length l → getD (map f l) j 0 ≡ f (getD l j d)
 mapped f [] j d h = absurd (omega (arith, h))
@@ -111,6 +139,9 @@ name-here r upper j h =
     List·getD-append (map (standingOf r) (map (counted upper) nameTexts)) (0 ∷ 0 ∷ 0 ∷ []) 0 j (subst (λ (k : ℕ). j < k) (sym (m ∙ n)) h)
     ∙ mapped (standingOf r) (map (counted upper) nameTexts) j (counted upper []) (subst (λ (k : ℕ). j < k) (sym n) h)
     ∙ ap (standingOf r) (List·getD-map (counted upper) nameTexts j [])
+
+wanted-length : (r : Row) (upper : Bool) → length (map (standingOf r) (map (counted upper) nameTexts) ++ (0 ∷ 0 ∷ 0 ∷ [])) ≡ 88
+wanted-length r upper = refl
 
 -- what stands at the place of a row, nothing at 0; and what should stand there: the names, and three that are none
 abbrev pub rowShown : List ℕ → ℕ → List ℕ
@@ -145,7 +176,11 @@ module _ (upper : Bool) (rows : List Row) (places : ℕ) (part t : List ℕ) whe
                   record {
                     near = let z : row - 65535 ≡ 0 = ap (λ (x : List ℕ). getD x 0 0) h in omega (arith, z);
                     needs = ap (λ (x : List ℕ). getD x 1 0) h;
-                    stands = λ j i. crumb-here t row j i ∙ ap (λ (x : List ℕ). getD x (suc (suc j)) 0) h ∙ name-here r upper j i;
+                    stands =
+                        λ j i.
+                        let n : length (crumbsOf (take 22 (drop (row + 1) t))) ≡ 88 =
+                        ap (λ (x : List ℕ). length (drop 2 x)) h ∙ wanted-length r upper in
+                        crumb-here t row j i n ∙ ap (λ (x : List ℕ). getD x (suc (suc j)) 0) h ∙ name-here r upper j i;
                   },
                 );
             unknown = λ z. absurd (eqb-false row 0 q z);

@@ -51,7 +51,7 @@ pub record RowIn (factor rows : ℕ) (t w : List ℕ) (r : ℕ) : Type 0 where
   pub is : (l : List (List ℕ)) → Dictionary factor 127 l t → (k : ℕ) → k < length l → w ≡ getD l k [] → r ≡ pairOf t (rows + 2 * k)
   pub none : (l : List (List ℕ)) → Dictionary factor 127 l t → ((k : ℕ) → k < length l → ¬ (w ≡ getD l k [])) → r ≡ 0
 
--- ---- the rows: how many names are required; then two bits for each name
+-- ---- the rows: how many names are required; then two bits for each name, of every other four names turned round
 
 -- what a qualifier's name may be: those of section 6 by their number there, then the older names
 abbrev pub nameTexts : List (List ℕ)
@@ -69,8 +69,11 @@ standingOf r w = standingIn 2 (r .required) (cond (isOneOf (r .optional) w) 1 0)
 abbrev pub needsAt : List ℕ → ℕ → ℕ
 needsAt t row = byteOf t row
 
+abbrev pub bitsAt : List ℕ → ℕ → ℕ → ℕ
+bitsAt t row name = byteOf t (row + 1 + name / 4) / 2 ^ (2 * (name % 4)) % 4
+
 abbrev pub crumbAt : List ℕ → ℕ → ℕ → ℕ
-crumbAt t row name = byteOf t (row + 1 + name / 4) / 2 ^ (2 * (name % 4)) % 4
+crumbAt t row name = cond (ltb (name % 8) 4) (bitsAt t row name) (3 - bitsAt t row name)
 
 -- how the name of a number stands
 abbrev pub standingAt : List ℕ → ℕ → ℕ → ℕ

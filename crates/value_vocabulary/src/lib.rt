@@ -1,9 +1,10 @@
 // The vocabulary: the number of a qualifier's name, the row of a feature's key, and how a name stands in a row. All of it that is looked
 // up is one lent table (tables.rt): dictionaries, each with a slot for a text's hash, and the rows, two bits for each name. A text is
-// found by one slot and one comparison. Relies on the paper and the values. The table is named once, in the function that hands it out;
+// found by one slot and one comparison, eight bytes at a time where it is long. Relies on the paper and the values. The table is named once, in the function that hands it out;
 // a public call takes it there and lends it on.
 mod tables;
 
+use read_steps::stands;
 use tables::AMINO_KEYS_END;
 use tables::AMINO_KEYS_FACTOR;
 use tables::AMINO_KEYS_ROWS;
@@ -80,6 +81,9 @@ fn find(w: &[u8], t: &[u8], factor: usize, mask: usize) -> usize
     if t.len() < to {
         return 255;
     }
+    if stands(t, from, w) {
+        return k;
+    }
     if same(w, &t[from..to]) {
         return k;
     }
@@ -150,13 +154,18 @@ pub fn needs(row: usize, words: &[u8; 3498]) -> usize
     byte_at(words, row)
 }
 
-// How a name stands in the row at a place: 0 not allowed, 1 allowed, 2 the first that is required, 3 the second.
+// How a name stands in the row at a place: 0 not allowed, 1 allowed, 2 the first that is required, 3 the second. Every other byte of a
+// row is turned round: else the rows had long runs of 0, and LLVM would store those twice.
 pub fn standing(row: usize, name: usize, words: &[u8; 3498]) -> usize
     ensures { λ r. ⌜ r ≡ standingAt (now (words .entry)) row name ⌝ }
 {
     if name < 85 {
         if row < 65_536 {
-            return (byte_at(words, row + 1 + name / 4) >> (2 * (name % 4))) % 4;
+            let bits = (byte_at(words, row + 1 + name / 4) >> (2 * (name % 4))) % 4;
+            if name % 8 < 4 {
+                return bits;
+            }
+            return 3 - bits;
         }
     }
     0

@@ -13,20 +13,26 @@ add-byte-at-2 c = search needs
 byte-at-requires : tie.Need-byte-at-requires
 byte-at-requires c κs = search needs
 
-mul-result : tie.Need-mul-result
-mul-result c = search needs
+mul-bits : tie.Need-mul-bits
+mul-bits c = search needs
 
-shr-result : tie.Need-shr-result
-shr-result c = search needs
+shr-bits : tie.Need-shr-bits
+shr-bits c = search needs
 
 returns : tie.Need-returns
-returns c = rw (lt-ltb _ _ (c .before .before .before .if1 .taken), lt-ltb _ _ (c .before .before .if2 .taken), c .byte-at .ensures .0)
+returns c = rw (lt-ltb _ _ (c .before .before .before .before .if1 .taken), lt-ltb _ _ (c .before .before .before .if2 .taken), c .before .byte-at .ensures .0, lt-ltb _ _ (c .if3 .taken))
+
+sub-result : tie.Need-sub-result
+sub-result c = search needs
 
 returns-2 : tie.Need-returns-2
-returns-2 c = rw (lt-ltb _ _ (c .before .if1 .taken), le-ltb _ _ (c .if2 .left))
+returns-2 c = rw (lt-ltb _ _ (c .before .before .before .before .if1 .taken), lt-ltb _ _ (c .before .before .before .if2 .taken), c .before .byte-at .ensures .0, le-ltb _ _ (c .if3 .left))
 
 returns-3 : tie.Need-returns-3
-returns-3 c = rw (le-ltb _ _ (c .if1 .left))
+returns-3 c = rw (lt-ltb _ _ (c .before .if1 .taken), le-ltb _ _ (c .if2 .left))
+
+returns-4 : tie.Need-returns-4
+returns-4 c = rw (le-ltb _ _ (c .if1 .left))
 
 pub standing-spec : {M : Type 1} → statement M
 standing-spec =
@@ -35,8 +41,10 @@ standing-spec =
     add-byte-at
     add-byte-at-2
     byte-at-requires
-    mul-result
-    shr-result
+    mul-bits
+    shr-bits
     returns
+    sub-result
     returns-2
-    returns-3)
+    returns-3
+    returns-4)
