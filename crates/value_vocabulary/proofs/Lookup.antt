@@ -6,7 +6,7 @@ use mathlib.Core.List.{List, []}
 use lib.ListN.{length, getD, take, drop, length-take, length-drop}
 use lib.Seq.{take-append-seam}
 use Rattle.read_bytes.specs.Words.{StandsAt}
-use Rattle.value_vocabulary.specs.Tables.{byteOf, pairOf, slotOf, startOf, Dictionary, Finds, RowIn}
+use Rattle.value_vocabulary.specs.Tables.{byteOf, pairOf, slotOf, startOf, Dictionary, FindsText, RowIn}
 
 -- what is known of w where it is text k of a dictionary
 record Stands (factor mask : ℕ) (t w : List ℕ) (k : ℕ) : Type 0 where
@@ -26,7 +26,7 @@ stands {factor} {mask} {t} {w} {l} d k h e =
     }
 
 -- a text that is none of any dictionary's
-none : {factor mask : ℕ} {t w : List ℕ} → ((k : ℕ) → ¬ Stands factor mask t w k) → Finds factor mask t w 255
+none : {factor mask : ℕ} {t w : List ℕ} → ((k : ℕ) → ¬ Stands factor mask t w k) → FindsText factor mask t w 255
 none n =
     record {
       looks = λ l d.
@@ -37,7 +37,7 @@ none n =
       below = λ l d x. absurd (x refl);
     }
 
-pub short : {factor mask : ℕ} {t w : List ℕ} → length w < 2 → Finds factor mask t w 255
+pub short : {factor mask : ℕ} {t w : List ℕ} → length w < 2 → FindsText factor mask t w 255
 short h = none (λ k x. omega (arith, x .long))
 
 -- the number in w's slot, and where the text of that number stands
@@ -60,13 +60,13 @@ looked factor mask t w (e, h) is starts ends =
 
 module _ {factor mask : ℕ} {t w : List ℕ} {k from to : ℕ} (at : Looked factor mask t w k from to) where
   -- no other can be its own
-  only : (Stands factor mask t w k → ⊥) → Finds factor mask t w 255
+  only : (Stands factor mask t w k → ⊥) → FindsText factor mask t w 255
   only n = none (λ j x. n (subst (Stands factor mask t w) (sym (x .slot) ∙ sym (at .is)) x))
 
-  pub other-size : ¬ (to ≡ from + length w) → Finds factor mask t w 255
+  pub other-size : ¬ (to ≡ from + length w) → FindsText factor mask t w 255
   other-size n = only (λ x. n (omega (arith, at .starts, at .ends, x .size)))
 
-  pub no-room : length t < to → Finds factor mask t w 255
+  pub no-room : length t < to → FindsText factor mask t w 255
   no-room h = only room
     where
       room : Stands factor mask t w k → ⊥
@@ -74,14 +74,14 @@ module _ {factor mask : ℕ} {t w : List ℕ} {k from to : ℕ} (at : Looked fac
           let e = simp (length-take, length-drop) at (ap length (x .text)) in
           omega (arith, e, x .long, at .ends, x .size)
 
-  pub differs : ¬ (w ≡ take (to - from) (drop from t)) → Finds factor mask t w 255
+  pub differs : ¬ (w ≡ take (to - from) (drop from t)) → FindsText factor mask t w 255
   differs n =
       only (λ x.
       let i : length w ≡ to - from = omega (arith, at .starts, at .ends, x .size) in
       let e = subst (λ (n : ℕ). take n (drop (startOf mask t k) t) ≡ w) i (x .text) in
       n (sym (subst (λ (n : ℕ). take (to - from) (drop n t) ≡ w) (sym (at .starts)) e)))
 
-  pub same-text : w ≡ take (to - from) (drop from t) → Finds factor mask t w k
+  pub same-text : w ≡ take (to - from) (drop from t) → FindsText factor mask t w k
   same-text e =
       record {
         looks = λ l d.
@@ -96,13 +96,13 @@ module _ {factor mask : ℕ} {t w : List ℕ} {k from to : ℕ} (at : Looked fac
       }
 
   -- the same, of a word that stands there
-  pub stands-text : StandsAt w t from → to - from ≡ length w → Finds factor mask t w k
+  pub stands-text : StandsAt w t from → to - from ≡ length w → FindsText factor mask t w k
   stands-text s n =
       same-text (sym (ap (λ (i : ℕ). take i (drop from t)) n ∙ ap (take (length w)) (s .here) ∙ take-append-seam w (drop (from + length w) t)))
 
 -- ---- the row of a key, by its number among the keys
 
-module _ {factor : ℕ} (rows : ℕ) {t w : List ℕ} {k : ℕ} (f : Finds factor 127 t w k) where
+module _ {factor : ℕ} (rows : ℕ) {t w : List ℕ} {k : ℕ} (f : FindsText factor 127 t w k) where
   -- every text's number is below 255
   pub no-row : k ≡ 255 → RowIn factor rows t w 0
   no-row x =

@@ -11,7 +11,7 @@ use Rattle.value_words.specs.declared.Molecule.{Molecule}
 use Rattle.value_vocabulary.specs.Tables.{PlaceOf, nameTexts, standingOf, needsAt, standingAt, Few}
 
 -- the number of a qualifier's name
-pub record Numbers (w : List ℕ) (r : ℕ) : Type 0 where
+pub record NameNumber (w : List ℕ) (r : ℕ) : Type 0 where
   pub says : (v : List ℕ) → w ≡ raw v → PlaceOf nameTexts v r
 
 -- ---- the row of a key

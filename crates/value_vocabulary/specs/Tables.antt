@@ -42,7 +42,7 @@ pub record PlaceOf (l : List (List ℕ)) (v : List ℕ) (r : ℕ) : Type 0 where
   pub found : (k : ℕ) → k < length l → v ≡ getD l k [] → r ≡ k
 
 -- whatever texts t is a dictionary of, r is 255 where w is none of them
-pub record Finds (factor mask : ℕ) (t w : List ℕ) (r : ℕ) : Type 0 where
+pub record FindsText (factor mask : ℕ) (t w : List ℕ) (r : ℕ) : Type 0 where
   pub looks : (l : List (List ℕ)) → Dictionary factor mask l t → PlaceOf l w r
   pub below : (l : List (List ℕ)) → Dictionary factor mask l t → ¬ (r ≡ 255) → r < length l
 
@@ -109,11 +109,11 @@ pub record Keys (upper : Bool) (rows : List Row) (factor places : ℕ) (part t :
 -- ---- the table
 
 -- the part of a table between two places
-abbrev pub partOf : ℕ → ℕ → List ℕ → List ℕ
-partOf from to t = take (to - from) (drop from t)
+abbrev pub sliceOf : ℕ → ℕ → List ℕ → List ℕ
+sliceOf from to t = take (to - from) (drop from t)
 
 -- the places and factors are those of src/tables.rt
 pub record VocabularyTable (t : List ℕ) : Type 0 where
-  pub names : Dictionary 13895407 255 (map raw nameTexts) (partOf 0 1236 t)
-  pub nucleotides : Keys false nucleotideRows 4094411 657 (partOf 1236 1991 t) t
-  pub acids : Keys true aminoRows 4266913 501 (partOf 1991 2578 t) t
+  pub names : Dictionary 13895407 255 (map raw nameTexts) (sliceOf 0 1236 t)
+  pub nucleotides : Keys false nucleotideRows 4094411 657 (sliceOf 1236 1991 t) t
+  pub acids : Keys true aminoRows 4266913 501 (sliceOf 1991 2578 t) t

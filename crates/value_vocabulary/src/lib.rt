@@ -18,8 +18,8 @@ use value_words::same;
 ghost use mathlib.Core.Path.{_≡_};
 ghost use Prim.Native.Nat.{_<_, _≤_};
 ghost use lib.ListN.{length};
-ghost use Rattle.value_vocabulary.specs.Tables.{byteOf, pairOf, slotOf, Finds, RowIn, VocabularyTable, needsAt, standingAt};
-ghost use Rattle.value_vocabulary.specs.Lookups.{Numbers, FindsRow};
+ghost use Rattle.value_vocabulary.specs.Tables.{byteOf, pairOf, slotOf, FindsText, RowIn, VocabularyTable, needsAt, standingAt};
+ghost use Rattle.value_vocabulary.specs.Lookups.{NameNumber, FindsRow};
 
 // The table of the vocabulary.
 pub fn vocabulary_table() -> [u8; 3498]
@@ -63,7 +63,7 @@ fn slot_of(w: &[u8], factor: usize, mask: usize) -> usize
 fn find(w: &[u8], t: &[u8], factor: usize, mask: usize) -> usize
     requires { ⌜ factor < 16_777_216 ⌝ }
     requires { ⌜ mask < 256 ⌝ }
-    ensures { λ r. ⌜ (Finds factor mask (now (t .entry)) (now (w .entry)) r) × (r < 256) ⌝ }
+    ensures { λ r. ⌜ (FindsText factor mask (now (t .entry)) (now (w .entry)) r) × (r < 256) ⌝ }
 {
     let n = w.len();
     if n < 2 {
@@ -95,7 +95,7 @@ fn find(w: &[u8], t: &[u8], factor: usize, mask: usize) -> usize
 // The number of a qualifier's name: that of its row in section 6, then the older names; 255 where it is none of them.
 pub fn name_of(w: &[u8], words: &[u8; 3498]) -> usize
     requires { ⌜ VocabularyTable (now words) ⌝ }
-    ensures { λ r. ⌜ Numbers (now (w .entry)) r ⌝ }
+    ensures { λ r. ⌜ NameNumber (now (w .entry)) r ⌝ }
 {
     let t = &words[..];
     find(w, &t[0..NAMES_END], NAMES_FACTOR, 255)
