@@ -2,10 +2,12 @@
 use Prim.Native.Nat.{ℕ, suc}
 use native.Mathlib.Omega.{arith}
 use mathlib.Core.Path.{_≡_, refl, sym, ap, _∙_, subst}
-use mathlib.Core.Bool.{Bool, true, false}
+use mathlib.Core.Bool.{Bool, true, false, _||_}
 use mathlib.Core.Logic.{_⊎_, inl, inr}
 use mathlib.Core.List.{List, [], _∷_, _++_}
 use lib.ListN.{length}
+use lib.Dec.{eqb}
+use borrow.Author.Tests.{eqb-true, eqb-false}
 use Rattle.paper.specs.Lists.{_∈_}
 use Rattle.paper.specs.Tree.{Qualifier}
 use Rattle.value_words.specs.Reading.{Tells}
@@ -30,6 +32,15 @@ module _ (st : List ℕ → ℕ) (l : List (Qualifier ℕ)) (q : Qualifier ℕ) 
       go y (inl m) e = t (y, m, e)
       go y (inr i) e = n (subst (λ (z : Qualifier ℕ). st (z .name .read) ≡ how) i e)
 
+  -- a name that may stand so
+  has-more : (n how : ℕ) (b : Bool) → st (q .name .read) ≡ how → Tells b (HasStanding st n l) → Tells (b || eqb how n) (HasStanding st n (l ++ (q ∷ [])))
+  has-more n how true e t = (t .0, in-front l q (t .0) (t .1), t .2)
+  has-more n how false e t = go (eqb how n) refl
+    where
+      go : (b : Bool) → eqb how n ≡ b → Tells b (HasStanding st n (l ++ (q ∷ [])))
+      go true p = (q, in-last l q, e ∙ eqb-true how n p)
+      go false p = has-other false (λ y. eqb-false how n p (sym e ∙ y)) t
+
   foreign-other : {a : Fault} → ¬ (st (q .name .read) ≡ 0) → Firsts (Some (Foreign st) l) a → Firsts (Some (Foreign st) (l ++ (q ∷ []))) a
   foreign-other {a} n f = some-more (Foreign st) l q f (firsts-none (Foreign st (suc (length l)) q) (λ m p b. n (b .2))) (earlier-clean a)
 
@@ -52,40 +63,15 @@ module _ {how place : ℕ} {a : Worded} where
             };
       }
 
-  pub word-first : how ≡ 2 → WithWord how place a (record { foreign = a .foreign; first = true; second = a .second })
-  word-first h =
-      record {
-        says =
-            λ st q e p l w.
-            let z = e ∙ h in
-            record {
-              foreign = foreign-other st l q (λ y. omega (arith, y, z)) (w .foreign);
-              first = (q, in-last l q, z);
-              second = has-other st l q (a .second) (λ y. omega (arith, y, z)) (w .second);
-            };
-      }
-
-  pub word-second : how ≡ 3 → WithWord how place a (record { foreign = a .foreign; first = a .first; second = true })
-  word-second h =
-      record {
-        says =
-            λ st q e p l w.
-            let z = e ∙ h in
-            record {
-              foreign = foreign-other st l q (λ y. omega (arith, y, z)) (w .foreign);
-              first = has-other st l q (a .first) (λ y. omega (arith, y, z)) (w .first);
-              second = (q, in-last l q, z);
-            };
-      }
-
-  pub word-other : ¬ (how ≡ 0) → ¬ (how ≡ 2) → ¬ (how ≡ 3) → WithWord how place a (record { foreign = a .foreign; first = a .first; second = a .second })
-  word-other f g h =
+  -- a name that is allowed
+  pub word-passed : ¬ (how ≡ 0) → WithWord how place a (record { foreign = a .foreign; first = a .first || eqb how 2; second = a .second || eqb how 3 })
+  word-passed f =
       record {
         says =
             λ st q e p l w.
             record {
               foreign = foreign-other st l q (λ y. f (sym e ∙ y)) (w .foreign);
-              first = has-other st l q (a .first) (λ y. g (sym e ∙ y)) (w .first);
-              second = has-other st l q (a .second) (λ y. h (sym e ∙ y)) (w .second);
+              first = has-more st l q 2 how (a .first) e (w .first);
+              second = has-more st l q 3 how (a .second) e (w .second);
             };
       }

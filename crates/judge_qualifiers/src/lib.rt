@@ -14,7 +14,7 @@ use value_words::same;
 use walk_items::FoundQualifier;
 use walk_steps::Maybe;
 ghost use mathlib.Core.Path.{_≡_};
-ghost use mathlib.Core.Bool.{cond};
+ghost use mathlib.Core.Bool.{_||_, cond};
 ghost use Rattle.value_vocabulary.specs.Tables.{VocabularyTable};
 ghost use Rattle.judge_qualifiers.specs.Qualifiers.{inUpper, ValueIs, OfName, States, Frames, Excepted, Excepts, IsOrganism, IsMolType, Meets, WithWord, Notes, LeavesOut};
 ghost use Rattle.judge_qualifiers.specs.Starts.{NamesCoding, StartsAt};
@@ -215,7 +215,16 @@ pub struct Worded {
     pub second: bool,
 }
 
-// The same, after one name more, which stands so in the key's row.
+fn either(a: bool, b: bool) -> bool
+    ensures { λ r. ⌜ r ≡ (a || b) ⌝ }
+{
+    if a {
+        return true;
+    }
+    b
+}
+
+// The same, after one name more, which stands so in the key's row. The one branch is seldom taken.
 fn with_word(a: Worded, how: usize, place: usize) -> Worded
     ensures { λ r. ⌜ WithWord how place a r ⌝ }
 {
@@ -231,24 +240,10 @@ fn with_word(a: Worded, how: usize, place: usize) -> Worded
             second,
         };
     }
-    if how == 2 {
-        return Worded {
-            foreign,
-            first: true,
-            second,
-        };
-    }
-    if how == 3 {
-        return Worded {
-            foreign,
-            first,
-            second: true,
-        };
-    }
     Worded {
         foreign,
-        first,
-        second,
+        first: either(first, how == 2),
+        second: either(second, how == 3),
     }
 }
 

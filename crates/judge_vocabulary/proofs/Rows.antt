@@ -10,11 +10,11 @@ use lib.ListN.{length}
 use Rattle.paper.specs.Lists.{_∈_}
 use Rattle.paper.specs.Tree.{Qualifier, Sequence, Feature, qualifiersOf}
 use Rattle.paper.specs.Vocabulary.{Row, isOneOf, counted}
-use Rattle.paper.specs.Rules.{Kind, IsKind, upperIn, CountsAs, RowOf, Allows, InVocabulary, rule-40, rule-41, rule-42, Before}
+use Rattle.paper.specs.Rules.{Kind, dna, rna, aa, IsKind, upperIn, CountsAs, RowOf, Allows, InVocabulary, rule-40, rule-41, rule-42, Before}
 use Rattle.paper.proofs.Lists.{number-in}
 use Rattle.paper.proofs.Once.{kind-once}
 use Rattle.paper.proofs.Words.{row-once}
-use Rattle.value_words.specs.Reading.{Tells, KindIs}
+use Rattle.value_words.specs.Reading.{Tells}
 use Rattle.value_words.specs.declared.Molecule.{Molecule}
 use Rattle.value_words.specs.declared.Molecule.the-variants as kind
 use Rattle.value_vocabulary.specs.Tables.{standingIn, standingOf, Few, needsAt}
@@ -27,7 +27,7 @@ use Rattle.judge_faults.proofs.Parts.{_or_}
 use Rattle.judge_faults.proofs.Faults.{firsts-or, firsts-as, firsts-none}
 use Rattle.judge_qualifiers.specs.Qualifiers.{Foreign, HasStanding, WordedBy}
 use Rattle.judge_qualifiers.specs.declared.Worded.{Worded}
-use Rattle.judge_vocabulary.specs.Words.{HasAll, JudgesRow, JudgesWords}
+use Rattle.judge_vocabulary.specs.Words.{HasAll, JudgesRow, isKind, JudgesWords}
 
 -- ---- required names
 
@@ -178,12 +178,18 @@ all-two false n m e = record { says = λ x. true≢false (sym (x .1 (omega (arit
 
 -- of the kind that the code names
 module _ {t : List ℕ} {key row : ℕ} {words : Worded} {r : Fault} where
-  pub of-kind : (k : Kind) {c : Molecule} → ((q : Sequence ℕ) → KindIs (q .moltype .read) c → IsKind k q) → JudgesRow t key row words r → JudgesWords t key c row words r
-  of-kind k is j = record { says = λ q f i a. j .says k q f (is q i) a }
+  pub of-kind : (c : Molecule) → isKind c ≡ true → JudgesRow t key row words r → JudgesWords t key c row words r
+  of-kind kind.Dna e j = record { says = λ q f i a. j .says dna q f i a }
+  of-kind kind.Rna e j = record { says = λ q f i a. j .says rna q f i a }
+  of-kind kind.Aa e j = record { says = λ q f i a. j .says aa q f i a }
+  of-kind kind.Other e j = absurd (true≢false (sym e))
 
 -- where rule 16 is broken nothing is judged
-pub of-none : {t : List ℕ} {key row : ℕ} {words : Worded} → JudgesWords t key kind.Other row words Clean
-of-none = record { says = λ q f n a. firsts-none (InVocabulary q f) (none q f n) }
+pub of-none : {t : List ℕ} {key row : ℕ} {words : Worded} (c : Molecule) → isKind c ≡ false → JudgesWords t key c row words Clean
+of-none kind.Dna e = absurd (true≢false e)
+of-none kind.Rna e = absurd (true≢false e)
+of-none kind.Aa e = absurd (true≢false e)
+of-none kind.Other e = record { says = λ q f n a. firsts-none (InVocabulary q f) (none q f n) }
   where
     none : (q : Sequence ℕ) (f : Feature ℕ) → ((k : Kind) → ¬ IsKind k q) → (m p : ℕ) → ¬ InVocabulary q f m p
     none q f n m p (rule-40 k i h) = n k i

@@ -1,12 +1,13 @@
 -- What is promised of the judgement of a feature's words.
 use Prim.Native.Nat.{ℕ, _≤_}
 use mathlib.Core.Path.{_≡_}
-use mathlib.Core.Bool.{Bool, true}
+use mathlib.Core.Bool.{Bool, true, false}
 use mathlib.Core.List.{List}
 use Rattle.paper.specs.Tree.{Sequence, Feature, qualifiersOf}
 use Rattle.paper.specs.Rules.{Kind, IsKind, InVocabulary}
 use Rattle.value_words.specs.Reading.{Tells, KindIs}
 use Rattle.value_words.specs.declared.Molecule.{Molecule}
+use Rattle.value_words.specs.declared.Molecule.the-variants as kind
 use Rattle.value_vocabulary.specs.Lookups.{RowIs}
 use Rattle.judge_faults.specs.Sets.{Firsts}
 use Rattle.judge_faults.specs.declared.Fault.{Fault}
@@ -24,6 +25,13 @@ pub record AskedWords (t : List ℕ) (key row : ℕ) (words : Worded) (q : Seque
 
 pub record JudgesRow (t : List ℕ) (key row : ℕ) (words : Worded) (r : Fault) : Type 0 where
   pub says : (k : Kind) (q : Sequence ℕ) (f : Feature ℕ) → IsKind k q → AskedWords t key row words q f → Firsts (InVocabulary q f) r
+
+-- a kind of the code is one of the paper's
+abbrev pub isKind : Molecule → Bool
+isKind kind.Dna = true
+isKind kind.Rna = true
+isKind kind.Aa = true
+isKind kind.Other = false
 
 pub record JudgesWords (t : List ℕ) (key : ℕ) (kind : Molecule) (row : ℕ) (words : Worded) (r : Fault) : Type 0 where
   pub says : (q : Sequence ℕ) (f : Feature ℕ) → KindIs (q .moltype .read) kind → AskedWords t key row words q f → Firsts (InVocabulary q f) r

@@ -2,7 +2,8 @@
 use judge_faults::Fault;
 use judge_qualifiers::Worded;
 use value_words::Molecule;
-ghost use Rattle.judge_vocabulary.specs.Words.{HasAll, JudgesRow, JudgesWords};
+ghost use mathlib.Core.Path.{_≡_};
+ghost use Rattle.judge_vocabulary.specs.Words.{HasAll, JudgesRow, isKind, JudgesWords};
 
 // Whether the names that a row requires, none, one or two, were met.
 fn has_all(needs: usize, first: bool, second: bool) -> bool
@@ -39,6 +40,18 @@ fn judge_row(key: usize, row: usize, words: Worded, vocabulary: &[u8; 3498]) -> 
     judge_faults::earlier(foreign, judge_faults::unless(met, 42, key))
 }
 
+// Whether rule 16 holds.
+fn is_kind(kind: Molecule) -> bool
+    ensures { λ r. ⌜ r ≡ isKind kind ⌝ }
+{
+    match kind {
+        Molecule::Dna => true,
+        Molecule::Rna => true,
+        Molecule::Aa => true,
+        Molecule::Other => false,
+    }
+}
+
 // The first fault of the words. Where rule 16 is broken they aren't judged.
 pub fn judge_words(
     key: usize,
@@ -49,10 +62,8 @@ pub fn judge_words(
 ) -> Fault
     ensures { λ r. ⌜ JudgesWords (now (vocabulary .entry)) key kind row words r ⌝ }
 {
-    match kind {
-        Molecule::Dna => judge_row(key, row, words, vocabulary),
-        Molecule::Rna => judge_row(key, row, words, vocabulary),
-        Molecule::Aa => judge_row(key, row, words, vocabulary),
-        Molecule::Other => Fault::Clean,
+    if is_kind(kind) {
+        return judge_row(key, row, words, vocabulary);
     }
+    Fault::Clean
 }

@@ -16,9 +16,10 @@ use Rattle.paper.proofs.Lists.{in-map, in-first, in-second}
 use Rattle.paper.proofs.Once.{name-once}
 use Rattle.paper.proofs.Texts.{raw-once}
 use Rattle.paper.proofs.Words.{one-in, in-one, row-named}
+use Rattle.value_words.specs.declared.Molecule.{Molecule}
 use Rattle.value_words.specs.declared.Molecule.the-variants as kind
 use Rattle.value_vocabulary.specs.Tables.{pairOf, PlaceOf, RowIn, nameTexts, standingOf, crumbAt, standingAt, HasRow, keyTexts, RowFor, Keys, sliceOf, VocabularyTable}
-use Rattle.value_vocabulary.specs.Lookups.{RowStands, RowIs, FindsRow}
+use Rattle.value_vocabulary.specs.Lookups.{RowStands, RowIs, isAcid, FindsRow}
 use Rattle.value_vocabulary.proofs.InRow.{standing-some, row-few}
 
 -- ---- places
@@ -141,15 +142,15 @@ row-of-kind : (j : Kind) {w t : List ℕ} {row : ℕ} → ((v : List ℕ) → w 
 row-of-kind j {t = t} {row} f k e v h = subst (λ (k : Kind). RowIs k t v row) (sym (name-once k j e)) (f v h)
 
 module _ {t w : List ℕ} (table : VocabularyTable t) {row : ℕ} where
-  pub finds-dna : RowIn 4094411 657 (sliceOf 1236 1991 t) w row → FindsRow t w kind.Dna row
-  finds-dna f = record { says = row-of-kind dna (row-is dna 4094411 657 (table .nucleotides) f) }
+  pub finds-acid : (c : Molecule) → isAcid c ≡ true → RowIn 4266913 501 (sliceOf 1991 2578 t) w row → FindsRow t w c row
+  finds-acid kind.Dna e f = absurd (true≢false (sym e))
+  finds-acid kind.Rna e f = absurd (true≢false (sym e))
+  finds-acid kind.Aa e f = record { says = row-of-kind aa (row-is aa 4266913 501 (table .acids) f) }
+  finds-acid kind.Other e f = absurd (true≢false (sym e))
 
-  pub finds-rna : RowIn 4094411 657 (sliceOf 1236 1991 t) w row → FindsRow t w kind.Rna row
-  finds-rna f = record { says = row-of-kind rna (row-is rna 4094411 657 (table .nucleotides) f) }
-
-  pub finds-acid : RowIn 4266913 501 (sliceOf 1991 2578 t) w row → FindsRow t w kind.Aa row
-  finds-acid f = record { says = row-of-kind aa (row-is aa 4266913 501 (table .acids) f) }
-
--- no kind is the other one
-pub finds-other : {t w : List ℕ} {row : ℕ} → FindsRow t w kind.Other row
-finds-other = record { says = λ k n v e. absurd (n k refl) }
+  pub finds-base : (c : Molecule) → isAcid c ≡ false → RowIn 4094411 657 (sliceOf 1236 1991 t) w row → FindsRow t w c row
+  finds-base kind.Dna e f = record { says = row-of-kind dna (row-is dna 4094411 657 (table .nucleotides) f) }
+  finds-base kind.Rna e f = record { says = row-of-kind rna (row-is rna 4094411 657 (table .nucleotides) f) }
+  finds-base kind.Aa e f = absurd (true≢false e)
+  -- no kind is the other one
+  finds-base kind.Other e f = record { says = λ k n v h. absurd (n k refl) }

@@ -1,6 +1,7 @@
 -- What is promised of a look-up: it holds of whichever text as read the raw part is written from.
 use Prim.Native.Nat.{ℕ}
 use mathlib.Core.Path.{_≡_}
+use mathlib.Core.Bool.{Bool, true, false}
 use mathlib.Core.List.{List}
 use lib.ListN.{length}
 use Rattle.paper.specs.Bytes.{bytes, raw}
@@ -8,6 +9,7 @@ use Rattle.paper.specs.Vocabulary.{Row, counted}
 use Rattle.paper.specs.Rules.{Kind, kindName, upperIn, RowOf}
 use Rattle.value_words.specs.Reading.{KindIs}
 use Rattle.value_words.specs.declared.Molecule.{Molecule}
+use Rattle.value_words.specs.declared.Molecule.the-variants as kind
 use Rattle.value_vocabulary.specs.Tables.{PlaceOf, nameTexts, standingOf, needsAt, standingAt, Few}
 
 -- the number of a qualifier's name
@@ -26,6 +28,12 @@ pub record RowStands (k : Kind) (t : List ℕ) (row : ℕ) (r : Row) : Type 0 wh
 pub record RowIs (k : Kind) (t v : List ℕ) (row : ℕ) : Type 0 where
   pub known : ¬ (row ≡ 0) → (r : Row) × RowOf k v r × RowStands k t row r
   pub unknown : row ≡ 0 → (r : Row) → ¬ RowOf k v r
+
+abbrev pub isAcid : Molecule → Bool
+isAcid kind.Dna = false
+isAcid kind.Rna = false
+isAcid kind.Aa = true
+isAcid kind.Other = false
 
 -- in a sequence of whichever kind this is
 pub record FindsRow (t w : List ℕ) (kind : Molecule) (row : ℕ) : Type 0 where

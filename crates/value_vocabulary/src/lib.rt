@@ -19,7 +19,7 @@ ghost use mathlib.Core.Path.{_≡_};
 ghost use Prim.Native.Nat.{_<_, _≤_};
 ghost use lib.ListN.{length};
 ghost use Rattle.value_vocabulary.specs.Tables.{byteOf, pairOf, slotOf, FindsText, RowIn, VocabularyTable, needsAt, standingAt};
-ghost use Rattle.value_vocabulary.specs.Lookups.{NameNumber, FindsRow};
+ghost use Rattle.value_vocabulary.specs.Lookups.{NameNumber, isAcid, FindsRow};
 
 // The table of the vocabulary.
 pub fn vocabulary_table() -> [u8; 3498]
@@ -116,33 +116,38 @@ fn row_in(w: &[u8], t: &[u8], factor: usize, rows: usize) -> usize
     pair_at(t, rows + 2 * k)
 }
 
-// The place of the row of a key of this kind, 0 where the key is unknown.
+// Whether the words of AA are meant.
+fn is_acid(kind: Molecule) -> bool
+    ensures { λ r. ⌜ r ≡ isAcid kind ⌝ }
+{
+    match kind {
+        Molecule::Dna => false,
+        Molecule::Rna => false,
+        Molecule::Aa => true,
+        Molecule::Other => false,
+    }
+}
+
+// The place of the row of a key of this kind, 0 where the key is unknown. Where the moltype names no kind nothing is said.
 pub fn row_of(w: &[u8], kind: Molecule, words: &[u8; 3498]) -> usize
     requires { ⌜ VocabularyTable (now words) ⌝ }
     ensures { λ r. ⌜ FindsRow (now (words .entry)) (now (w .entry)) kind r ⌝ }
 {
     let t = &words[..];
-    match kind {
-        Molecule::Dna => row_in(
-            w,
-            &t[NAMES_END..NUCLEOTIDE_KEYS_END],
-            NUCLEOTIDE_KEYS_FACTOR,
-            NUCLEOTIDE_KEYS_ROWS,
-        ),
-        Molecule::Rna => row_in(
-            w,
-            &t[NAMES_END..NUCLEOTIDE_KEYS_END],
-            NUCLEOTIDE_KEYS_FACTOR,
-            NUCLEOTIDE_KEYS_ROWS,
-        ),
-        Molecule::Aa => row_in(
+    if is_acid(kind) {
+        return row_in(
             w,
             &t[NUCLEOTIDE_KEYS_END..AMINO_KEYS_END],
             AMINO_KEYS_FACTOR,
             AMINO_KEYS_ROWS,
-        ),
-        Molecule::Other => 0,
+        );
     }
+    row_in(
+        w,
+        &t[NAMES_END..NUCLEOTIDE_KEYS_END],
+        NUCLEOTIDE_KEYS_FACTOR,
+        NUCLEOTIDE_KEYS_ROWS,
+    )
 }
 
 // ---- rows
