@@ -1,6 +1,7 @@
 -- A qualifier and a feature, found by their parts.
 use Prim.Native.Nat.{ℕ}
 use mathlib.Core.Path.{_≡_, refl}
+use mathlib.Core.Bool.{Bool}
 use mathlib.Core.List.{List, [], _∷_, _++_}
 use mathlib.Core.Option.{Option}
 use lib.ListN.{drop}
@@ -10,7 +11,7 @@ use Rattle.paper.specs.Tree.{Text, Qualifier, listed}
 use Rattle.paper.specs.Layout.{tag, leaf, child, child?, holding, holding?, qualifier, quals}
 use Rattle.read_steps.specs.Follow.{Not, Starts, anything, closing}
 use Rattle.read_steps.proofs.Fronts.{Leads, leads-seq, leads-less, leads-by, leads-sharp, whole, each-starts, starts-sharp, starts-wider}
-use Rattle.walk_steps.specs.Stands.{Ends, Finds, FindsMaybe, entering, leaving, OpensSo}
+use Rattle.walk_steps.specs.Stands.{TellsChild, Ends, Finds, FindsLast, entering, leaving, OpensSo}
 use Rattle.walk_steps.specs.declared.Found.{Found}
 use Rattle.walk_steps.specs.declared.FoundMaybe.{FoundMaybe}
 use Rattle.walk_steps.specs.declared.Opened.{Opened}
@@ -29,7 +30,7 @@ leaf-sharp name x F at w z =
 
 pub qualifier-found : {s : List ℕ} {at a b n : ℕ} {x : Found} {v : FoundMaybe} → Ends (tag (bytes "INSDQualifier")) anything s at a
     → Ends entering (Not isBlank) s a b → Finds (child (leaf (bytes "INSDQualifier_name"))) (Not isBlank) s b x
-    → FindsMaybe (bytes "INSDQualifier_value") s (x .next) v → Ends (leaving (bytes "INSDQualifier")) (Not isBlank) s (v .next) n
+    → FindsLast (bytes "INSDQualifier_value") s (x .next) v → Ends (leaving (bytes "INSDQualifier")) (Not isBlank) s (v .next) n
     → MeetsQualifier s at (record { name = x .part; value = v .part; next = n })
 qualifier-found {s} p i name value l q e d fol =
     let N = child (leaf (bytes "INSDQualifier_name")) (q .name) in
@@ -39,7 +40,7 @@ qualifier-found {s} p i name value l q e d fol =
     let st : Starts (bytes "<INSDQualifier_value" ∷ closing) (drop (k .0) s) =
     tag-starts (bytes "INSDQualifier_value") (child (leaf (bytes "INSDQualifier_value"))) (leaf-leads (bytes "INSDQualifier_value")) closing (q .value) (k .2) (o .closes) in
     let fn = name (q .name) (k .0) (k .1) (starts-sharp isBlank (bytes "<INSDQualifier_value" ∷ closing) refl (drop (k .0) s) st) in
-    let fv = value closing (record { clash = refl; sharps = refl }) (q .value) (o .end) (from (fn .next) (k .2)) (o .closes) in
+    let fv = value (record { clash = refl; sharps = refl }) (q .value) (o .end) (from (fn .next) (k .2)) (o .closes) in
     record { name = fn .part; value = fv .part; next = l .is e (from (fv .next) (o .leaves)) fol }
 
 -- ---- a feature
@@ -57,11 +58,11 @@ quals-sharp l at w z d c =
 quals-leads : (l : List (Qualifier ℕ)) → Leads (bytes "<INSDFeature_quals") (child quals l)
 quals-leads l = tag-leads (bytes "INSDFeature_quals") (holding? (bytes "INSDFeature_quals") (l ≡ []) (each (child qualifier) l))
 
-pub feature-found : {s : List ℕ} {at a b : ℕ} {x y : Found} {r : Opened} → Ends (tag (bytes "INSDFeature")) anything s at a
+pub feature-found : {s : List ℕ} {at a b : ℕ} {x y : Found} {here : Bool} {r : Opened} → Ends (tag (bytes "INSDFeature")) anything s at a
     → Ends entering (Not isBlank) s a b → Finds (child (leaf (bytes "INSDFeature_key"))) (Not isBlank) s b x
-    → Finds (child (leaf (bytes "INSDFeature_location"))) (Not isBlank) s (x .next) y → OpensSo (bytes "INSDFeature_quals") s (y .next) r
+    → Finds (child (leaf (bytes "INSDFeature_location"))) (Not isBlank) s (x .next) y → TellsChild s (y .next) here → OpensSo (bytes "INSDFeature_quals") here s (y .next) r
     → MeetsFeature s at (record { key = x .part; location = y .part; quals = r .first; long = r .long })
-feature-found {s} {y = y} {r = r} p i key location o f e d fol =
+feature-found {s} {y = y} {r = r} p i key location t o f e d fol =
     let K = child (leaf (bytes "INSDFeature_key")) (f .key) in
     let L = child (leaf (bytes "INSDFeature_location")) (f .location) in
     let Q = child? quals (f .quals) in
@@ -76,7 +77,7 @@ feature-found {s} {y = y} {r = r} p i key location o f e d fol =
     let fl = location (f .location) (k .0) (from (fk .next) (j .2)) (starts-sharp isBlank (bytes "<INSDFeature_quals" ∷ closing) refl (drop (k .0) s) st) in
     let c = within (bytes "INSDFeature_quals") (λ (l : List (Qualifier ℕ)). l ≡ []) (each (child qualifier)) quals-sharp
     (λ (g : Option (List (Qualifier ℕ))). each (child qualifier) (listed g)) (λ at. refl) (λ l h at. rw h refl) (λ l at w g. g)
-    closing (record { clash = refl; sharps = refl }) (u .closes) o (f .quals) (from (fl .next) (k .2)) in
+    closing refl (u .closes) (t .tells (bytes "INSDFeature_quals") refl) o (f .quals) (from (fl .next) (k .2)) in
     record {
       key = fk .part;
       location = fl .part;

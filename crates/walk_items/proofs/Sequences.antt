@@ -18,7 +18,7 @@ use Rattle.walk_steps.specs.declared.FoundMaybe.{FoundMaybe}
 use Rattle.walk_steps.specs.declared.Opened.{Opened}
 use Rattle.walk_steps.proofs.Places.{part, join, wider, some-each, from}
 use Rattle.walk_steps.proofs.Leaves.{starts-at, no-blank}
-use Rattle.walk_steps.proofs.Elements.{Sharp, inside, held, within, missing-none, there-some, tag-starts, tag-leads, leaf-leads}
+use Rattle.walk_steps.proofs.Elements.{Sharp, inside, held, within, missing-none, there-some, there-tells, tag-starts, tag-leads, leaf-leads}
 use Rattle.walk_items.specs.Items.{MeetsQualifier, MeetsFeature, featureTail, FindsIds, FindsTable, MeetsSequence, residuesNext, tableNext, tableClosing}
 use Rattle.walk_items.specs.declared.FoundQualifier.{FoundQualifier}
 use Rattle.walk_items.specs.declared.FoundFeature.{FoundFeature}
@@ -61,12 +61,12 @@ id-sharp o at w z d c =
     (maybe-starts whole (bytes "<INSDSeqid") (child (leaf (bytes "INSDSeqid"))) (leads-by (bytes "<INSDSeqid") (child (leaf (bytes "INSDSeqid"))) (leaf-leads (bytes "INSDSeqid")))
     closing o at w z d c)
 
-pub ids-found : {s : List ℕ} {at n : ℕ} {r : Opened} {x : FoundMaybe} → OpensSo (bytes "INSDSeq_other-seqids") s at r → FindsMaybe (bytes "INSDSeqid") s (r .first) x
+pub ids-found : {s : List ℕ} {at n : ℕ} {here : Bool} {r : Opened} {x : FoundMaybe} → There (bytes "<INSDSeq_other-seqids") s at here → OpensSo (bytes "INSDSeq_other-seqids") here s at r → FindsMaybe (bytes "INSDSeqid") s (r .first) x
     → Ends (shutting (bytes "INSDSeq_other-seqids") (r .long)) (Not isBlank) s (x .next) n → FindsIds s at (record { present = r .present; next = n })
-ids-found {s} o f t g e d fol =
+ids-found {s} h o f t g e d fol =
     let c = within (bytes "INSDSeq_other-seqids") (λ (x : Option (Text ℕ)). x ≡ none) (child? (leaf (bytes "INSDSeqid"))) id-sharp
     (λ (y : Option (Option (Text ℕ))). child? (leaf (bytes "INSDSeqid")) (flat y)) (λ at. refl) (λ l h at. rw h refl) (λ l at w g. g)
-    tableNext (record { clash = refl; sharps = refl }) fol o g d in
+    tableNext refl fol (there-tells tableNext refl h) o g d in
     let y = f (bytes "</" ∷ tableNext) (record { clash = refl; sharps = refl }) (flat g) (c .0 .stop) (c .0 .children) (c .0 .follows) in
     record { present = c .1; next = t .is e (from (y .next) (c .0 .ends)) (starts-sharp isBlank tableNext refl (drop e s) fol) }
 
@@ -106,8 +106,7 @@ module _ {s : List ℕ} {at : ℕ} where
       → Ends entering (Not isBlank) s a b → Over (each (child feature)) (Starts tableClosing) s b c → Ends (leaving (bytes "INSDSeq_feature-table")) (Not isBlank) s c n
       → FindsTable s at (record { present = true; place = at; first = b; next = n })
   table-present h t p i f l o e d fol =
-      let k = there-some (bytes "INSDSeq_feature-table") (child table) table-leads residuesNext (record { clash = refl; sharps = refl }) fol
-      (t .yes h) o d in
+      let k = there-some (bytes "INSDSeq_feature-table") (child table) table-leads residuesNext fol (there-tells residuesNext refl t .other h) o d in
       let x = k .0 in
       let y = table-at x (k .2) in
       let u = held (bytes "INSDSeq_feature-table") (each⁺ (child feature) (x .features)) (features-sharp (x .features)) p i (y .1) in

@@ -9,10 +9,9 @@ use walk_steps::Range;
 ghost use Prim.Native.Nat.{_+_, _≤_};
 ghost use mathlib.Core.Bool.{false};
 ghost use lib.ListN.{length};
-ghost use Rattle.paper.specs.Bytes.{bytes, isBlank};
+ghost use Rattle.paper.specs.Bytes.{isBlank};
 ghost use Rattle.paper.specs.Layout as Form;
 ghost use Rattle.paper.specs.Form.{each};
-ghost use Rattle.read_bytes.specs.Words.{There};
 ghost use Rattle.read_steps.specs.Follow.{Not, Starts, closing};
 ghost use Rattle.walk_steps.specs.Stands.{Ends, Over};
 ghost use Rattle.walk_items.specs.Items.{MeetsQualifier, MeetsFeature, featureTail, Ending, Endings, FirstEnding, tableClosing, FindsTable, FindsIds, MeetsSequence};
@@ -37,7 +36,7 @@ pub fn qualifier(s: &[u8], at: usize) -> FoundQualifier
     let FoundMaybe {
         part: value,
         next: d,
-    } = walk_steps::leaf_maybe(s, c, b"INSDQualifier_value");
+    } = walk_steps::last_leaf(s, c, b"INSDQualifier_value");
     FoundQualifier {
         name,
         value,
@@ -67,7 +66,7 @@ pub fn feature(s: &[u8], at: usize) -> FoundFeature
         present: _,
         long,
         first: quals,
-    } = walk_steps::children(s, d, b"INSDFeature_quals");
+    } = walk_steps::children(s, d, b"INSDFeature_quals", walk_steps::child_here(s, d));
     FoundFeature {
         key,
         location,
@@ -84,20 +83,13 @@ pub fn feature_end(s: &[u8], at: usize, long: bool) -> usize
     walk_steps::leave(s, a, b"INSDFeature")
 }
 
-// Whether a qualifier stands here, and not the end of the list.
-pub fn qualifier_here(s: &[u8], at: usize) -> bool
-    ensures { λ r. ⌜ There (bytes "<INSDQualifier") (now (s .entry)) at r ⌝ }
-{
-    walk_steps::opens(s, at, b"INSDQualifier")
-}
-
 // Past the qualifiers that stand here.
 pub fn qualifiers_over(s: &[u8], first: usize) -> usize
     ensures { λ r. ⌜ Over (each (Form.child Form.qualifier)) (Starts closing) (now (s .entry)) first r ⌝ }
 {
     let mut at = first;
     loop {
-        if qualifier_here(s, at) {
+        if walk_steps::child_here(s, at) {
             let FoundQualifier {
                 name: _,
                 value: _,
@@ -111,13 +103,6 @@ pub fn qualifiers_over(s: &[u8], first: usize) -> usize
             return at;
         }
     }
-}
-
-// Whether a feature stands here, and not the end of the list.
-pub fn feature_here(s: &[u8], at: usize) -> bool
-    ensures { λ r. ⌜ There (bytes "<INSDFeature") (now (s .entry)) at r ⌝ }
-{
-    walk_steps::opens(s, at, b"INSDFeature")
 }
 
 // Past a feature.
@@ -240,7 +225,12 @@ fn other_ids(s: &[u8], at: usize) -> FoundIds
         present,
         long,
         first,
-    } = walk_steps::children(s, at, b"INSDSeq_other-seqids");
+    } = walk_steps::children(
+        s,
+        at,
+        b"INSDSeq_other-seqids",
+        walk_steps::opens(s, at, b"INSDSeq_other-seqids"),
+    );
     let FoundMaybe { part: _, next } = walk_steps::leaf_maybe(s, first, b"INSDSeqid");
     FoundIds {
         present,
@@ -312,11 +302,4 @@ pub fn sequence(s: &[u8], at: usize) -> FoundSequence
         residues,
         next: walk_steps::leave(s, l, b"SequenceData"),
     }
-}
-
-// Whether a sequence stands here, and not the end of the list.
-pub fn sequence_here(s: &[u8], at: usize) -> bool
-    ensures { λ r. ⌜ There (bytes "<SequenceData") (now (s .entry)) at r ⌝ }
-{
-    walk_steps::opens(s, at, b"SequenceData")
 }

@@ -1,24 +1,29 @@
 -- Elements that hold elements: where their children stand, and where they end.
-use Prim.Native.Nat.{ℕ, _+_}
+use Prim.Native.Nat.{ℕ, _+_, _≤_, _<_}
 use native.Mathlib.Omega.{arith}
 use mathlib.Core.Path.{_≡_, refl, sym, ap, _∙_, subst}
-use mathlib.Core.Bool.{Bool, true, false}
+use mathlib.Core.Bool.{Bool, true, false, true≢false, _&&_, cond}
 use mathlib.Core.Logic.{inl, inr}
 use mathlib.Core.List.{List, [], _∷_, _++_, append-assoc}
 use mathlib.Core.Option.{Option, none, some}
 use lib.ListN.{length, drop, getD}
+use lib.Seq.{getD-drop}
+use lib.Dec.{eqb}
+use borrow.Author.Tests.{eq-eqb}
 use Rattle.paper.specs.Bytes.{bytes, isBlank}
 use Rattle.paper.specs.Form.{Form, lit, run, _·_, _∪_, given, maybe}
 use Rattle.paper.specs.Tree.{Text}
 use Rattle.paper.specs.Layout.{blanks, tag, close, leaf, child, holding, holding?}
 use Rattle.read_bytes.specs.Words.{StandsAt, There}
 use Rattle.read_bytes.proofs.Words.{stands-long}
-use Rattle.read_steps.specs.Follow.{Not, Starts, first, later, StandsBefore, anything, closing, clashes, sharp}
+use Rattle.read_steps.specs.Follow.{Not, Starts, first, later, anything, closing, clash, clashes, sharp}
+use Rattle.read_steps.specs.Follow as Follow
 use Rattle.read_steps.specs.Texts.{Scanned}
 use Rattle.read_steps.proofs.Fronts.{Leads, LeadsBy, leads-all, leads-seq, leads-by, leads-sharp, whole, maybe-starts, starts-sharp, starts-apart}
 use Rattle.read_tags.proofs.Tags.{close-leads, leaf-element}
-use Rattle.walk_steps.specs.Stands.{Stands, Past, tagOf, isThere, Ends, Finds, FindsMaybe, entering, leaving, shutting, OpensSo, missing, empty, holds}
+use Rattle.walk_steps.specs.Stands.{Stands, Past, tagOf, TellsTag, TellsChild, isThere, Ends, Finds, FindsIf, FindsMaybe, FindsLast, entering, leaving, shutting, OpensSo, missing, empty, holds}
 use Rattle.walk_steps.specs.declared.Found.{Found}
+use Rattle.walk_steps.specs.declared.FoundMaybe.{FoundMaybe}
 use Rattle.walk_steps.specs.declared.Maybe.the-variants.{Absent, Present}
 use Rattle.walk_steps.specs.declared.Opened.{Opened}
 use Rattle.walk_steps.proofs.Places.{part, join, wider, before, from, nothing-stands, past-these, run-ends}
@@ -93,11 +98,10 @@ module _ {A : Type 0} (name : List ℕ) (F : A → Form) (leads : (a : A) → Le
       absent-by whole (tagOf name) F (leads-by (tagOf name) F leads) (λ (i : Option A) (j : ℕ). (i ≡ none) × (at ≡ j))
       (λ y g. t (stands-long (omega arith) y g)) (refl, refl) o e d
 
-  pub there-some : (l : List (List ℕ)) → StandsBefore name l → Starts l (drop e s) → StandsAt (tagOf name) s at → (o : Option A) → Stands (maybe F o) s at e
+  pub there-some : (l : List (List ℕ)) → Starts l (drop e s) → ¬ Starts l (drop at s) → (o : Option A) → Stands (maybe F o) s at e
       → (a : A) × (o ≡ some a) × Stands (F a) s at e
-  there-some l b fol t o d =
-      present-by whole (tagOf name) F (leads-by (tagOf name) F leads) (λ (i : Option A) (j : ℕ). (a : A) × (i ≡ some a) × Stands (F a) s at j)
-      l (b .clash) (drop (at + length (tagOf name)) s, t .here) (λ a j g n. (a, refl, g)) o e d fol
+  there-some l fol t none d = absurd (t (subst (λ (i : ℕ). Starts l (drop i s)) (sym (nothing-stands d)) fol))
+  there-some l fol t (some a) d = (a, refl, d)
 
   pub tag-starts : (l : List (List ℕ)) (o : Option A) → Stands (maybe F o) s at e → Starts l (drop e s) → Starts (tagOf name ∷ l) (drop at s)
   tag-starts l o d fol = starts-by whole (tagOf name) F (leads-by (tagOf name) F leads) l o d fol
@@ -105,18 +109,58 @@ module _ {A : Type 0} (name : List ℕ) (F : A → Form) (leads : (a : A) → Le
 pub leaf-leads : (name : List ℕ) (x : Text ℕ) → Leads (tagOf name) (child (leaf name) x)
 leaf-leads name x = leads-seq (tagOf name) (leaf name x) blanks (leaf-element name .leads x)
 
-module _ {name s : List ℕ} {at : ℕ} where
-  pub leaf-absent : {q : Bool} → q ≡ false → There (tagOf name) s at q → FindsMaybe name s at (record { part = Absent; next = at })
-  leaf-absent h t l b o e d fol =
-      let k = missing-none name (child (leaf name)) (leaf-leads name) (t .no h) o d in
+-- a word that is compared tells the tag from all words that it clashes with
+pub there-tells : {name s : List ℕ} {at : ℕ} {t : Bool} (l : List (List ℕ)) → clashes (tagOf name) l ≡ true → There (tagOf name) s at t → TellsTag name l s at t
+there-tells {name} {s} {at} l c t =
+    record { other = λ h st. starts-apart (tagOf name) l (drop at s) (drop (at + length (tagOf name)) s) c (t .yes h .here) st; none = t .no }
+
+-- the byte behind `<` tells an element from an end tag
+second : (s : List ℕ) (at : ℕ) (x y : List ℕ) {p : ℕ} → p ≡ getD s (at + 1) 0 → drop at s ≡ x ++ y → getD (x ++ y) 1 0 ≡ p
+second s at x y byte e = sym (ap (λ (u : List ℕ). getD u 1 0) e) ∙ getD-drop at s 1 0 ∙ sym byte
+
+pub child-tells : {s : List ℕ} {at p : ℕ} → p ≡ getD s (at + 1) 0 → at < length s → ¬ (p ≡ 47) → TellsChild s at true
+child-tells {s} {at} {p} byte i n =
+    record { inside = λ h. i; tells = λ name c. record { other = λ h st. ends (drop at s) refl st; none = λ h. absurd (true≢false h) } }
+  where
+    ends : (z : List ℕ) → drop at s ≡ z → Starts closing z → ⊥
+    ends z e (first y g) = n (sym (second s at (bytes "</") y byte (e ∙ g)))
+
+pub end-tells : {s : List ℕ} {at p : ℕ} → p ≡ getD s (at + 1) 0 → p ≡ 47 → TellsChild s at false
+end-tells {s} {at} byte e =
+    record {
+      inside = λ h. absurd (true≢false (sym h));
+      tells = λ name c. record { other = λ h. absurd (true≢false (sym h)); none = λ h st. go name (drop (at + length (tagOf name)) s) c (st .here) };
+    }
+  where
+    go : (name y : List ℕ) → clashes (tagOf name) closing ≡ true → drop at s ≡ tagOf name ++ y → ⊥
+    go [] y c g = true≢false (sym c)
+    go (b ∷ x) y c g = by x (eqb b 47) (eq-eqb b 47 (second s at (tagOf (b ∷ x)) y byte g ∙ e)) c
+      where
+        by : (x : List ℕ) (q : Bool) → q ≡ true → cond q (clash x []) true && true ≡ true → ⊥
+        by [] true h c = true≢false (sym c)
+        by (a ∷ x) true h c = true≢false (sym c)
+        by x false h c = true≢false (sym h)
+
+pub none-tells : {s : List ℕ} {at : ℕ} → length s ≤ at → TellsChild s at false
+none-tells n = record { inside = λ h. absurd (true≢false (sym h)); tells = λ name c. record { other = λ h. absurd (true≢false (sym h)); none = λ h st. omega (arith, n, st .inside) } }
+
+module _ {name s : List ℕ} {at : ℕ} {here : Bool} where
+  pub leaf-absent : here ≡ false → FindsIf name here s at (record { part = Absent; next = at })
+  leaf-absent h l t b o e d fol =
+      let k = missing-none name (child (leaf name)) (leaf-leads name) (t .none h) o d in
       record { part = rw (k .0) tt; next = k .1 }
 
-  pub leaf-present : {q : Bool} {r : Found} → q ≡ true → There (tagOf name) s at q → Finds (child (leaf name)) (Not isBlank) s at r
-      → FindsMaybe name s at (record { part = Present (r .part); next = r .next })
-  leaf-present h t finds l b o e d fol =
-      let k = there-some name (child (leaf name)) (leaf-leads name) l b fol (t .yes h) o d in
-      let y = finds (k .0) e (k .2) (starts-sharp isBlank l (b .sharps) (drop e s) fol) in
+  pub leaf-present : {r : Found} → here ≡ true → Finds (child (leaf name)) (Not isBlank) s at r → FindsIf name here s at (record { part = Present (r .part); next = r .next })
+  leaf-present h finds l t b o e d fol =
+      let k = there-some name (child (leaf name)) (leaf-leads name) l fol (t .other h) o d in
+      let y = finds (k .0) e (k .2) (starts-sharp isBlank l b (drop e s) fol) in
       record { part = rw (k .1) (y .part); next = y .next }
+
+  pub leaf-before : {r : FoundMaybe} → There (tagOf name) s at here → FindsIf name here s at r → FindsMaybe name s at r
+  leaf-before t f l b = f l (there-tells l (b .clash) t) (b .sharps)
+
+  pub leaf-last : {r : FoundMaybe} → TellsChild s at here → FindsIf name here s at r → FindsLast name s at r
+  leaf-last t f b = f closing (t .tells name (b .clash)) (b .sharps)
 
 -- ---- an element that holds elements
 
@@ -155,18 +199,6 @@ held name C sharp p q d =
 
 -- ---- an element that may be missing or empty
 
-module _ {name s : List ℕ} {at : ℕ} where
-  pub opens-missing : {q : Bool} → q ≡ false → There (tagOf name) s at q → OpensSo name s at (record { present = false; long = false; first = at })
-  opens-missing h t = missing (t .no h)
-
-  pub opens-empty : {q : Bool} {p a h b n : ℕ} → q ≡ true → There (tagOf name) s at q → Ends (tag name) anything s at a → Scanned isBlank s a (length s) h
-      → p ≡ getD s h 0 → p ≡ 47 → Past s h 2 b → Scanned isBlank s b (length s) n → OpensSo name s at (record { present = true; long = false; first = n })
-  opens-empty h t e c g k p d = empty (t .yes h) e c (sym g ∙ k) p d
-
-  pub opens-holds : {q : Bool} {p a h b n : ℕ} → q ≡ true → There (tagOf name) s at q → Ends (tag name) anything s at a → Scanned isBlank s a (length s) h
-      → p ≡ getD s h 0 → ¬ (p ≡ 47) → Past s h 1 b → Scanned isBlank s b (length s) n → OpensSo name s at (record { present = true; long = true; first = n })
-  opens-holds h t e c g k p d = holds (t .yes h) e c (λ j. k (g ∙ j)) p d
-
 -- its children D stand from r on, then its end
 pub record Within (name : List ℕ) (D : Form) (l : List (List ℕ)) (s : List ℕ) (r : Opened) (e : ℕ) : Type 0 where
   pub stop : ℕ
@@ -188,7 +220,7 @@ module _ {A : Type 0} (name : List ℕ) (nothing : A → Type 0) (C : A → Form
   full-leads : (a : A) → Leads (bytes ">") (Full a)
   full-leads a = leads-seq (bytes ">") (lit ">" · blanks · C a) (close name) (leads-seq (bytes ">") (lit ">" · blanks) (C a) (leads-seq (bytes ">") (lit ">") blanks (leads-all (bytes ">"))))
 
-  module _ {s : List ℕ} {e : ℕ} (l : List (List ℕ)) (b : StandsBefore name l) (fol : Starts l (drop e s)) where
+  module _ {s : List ℕ} {e : ℕ} (l : List (List ℕ)) (sharps : Follow.sharp isBlank l ≡ true) (fol : Starts l (drop e s)) where
     -- nothing stands, and what follows is here
     none-at : (D' : Form) (r : Opened) → r .long ≡ false → ((p : ℕ) → D' p []) → r .first ≡ e → Within name D' l s r e
     none-at D' r h n q =
@@ -222,7 +254,7 @@ module _ {A : Type 0} (name : List ℕ) (nothing : A → Type 0) (C : A → Form
         by-kind w (inl k) z q =
             let ei = past-these (bytes "/>") refl p (record { word = w; laid = k .1; size = z; here = q }) in
             none-at (D (some x)) (record { present = true; long = false; first = n }) refl (void x (k .0))
-            (run-ends isBlank c .is e (from ei after) (starts-sharp isBlank l (b .sharps) (drop e s) fol))
+            (run-ends isBlank c .is e (from ei after) (starts-sharp isBlank l sharps (drop e s) fol))
         by-kind w (inr k) z q =
             let g = first-byte 62 [] {F = Full x} (full-leads x) (record { word = w; laid = k; size = z; here = q }) in
             let o : _≡_ {A = ℕ} 47 62 = sym byte ∙ g in
@@ -248,16 +280,16 @@ module _ {A : Type 0} (name : List ℕ) (nothing : A → Type 0) (C : A → Form
             closing-first : (z : List ℕ) → Starts closing z → Starts (bytes "</" ∷ l) z
             closing-first z (first y h) = first y h
 
-    pub within : {at : ℕ} {r : Opened} → OpensSo name s at r → (o : Option A) → Stands (maybe (child E) o) s at e
+    pub within : {at : ℕ} {here : Bool} {r : Opened} → TellsTag name l s at here → OpensSo name here s at r → (o : Option A) → Stands (maybe (child E) o) s at e
         → Within name (D o) l s r e × (r .present ≡ isThere o)
-    within {at} (missing t) o d =
-        let k = missing-none name (child E) leads t o d in
+    within {at} t (missing q) o d =
+        let k = missing-none name (child E) leads (t .none q) o d in
         rw (k .0) (none-at (D none) (record { present = false; long = false; first = at }) refl absent (k .1), refl)
-    within (empty t p c byte q n) o d =
-        let k = there-some name (child E) leads l b fol t o d in
+    within t (empty g p c byte q n) o d =
+        let k = there-some name (child E) leads l fol (t .other g) o d in
         let h = at-head (k .0) p c (k .2) in
         rw (k .1) (empty-at (k .0) (h .0) byte q n (h .1) (h .2), refl)
-    within (holds t p c byte q n) o d =
-        let k = there-some name (child E) leads l b fol t o d in
+    within t (holds g p c byte q n) o d =
+        let k = there-some name (child E) leads l fol (t .other g) o d in
         let h = at-head (k .0) p c (k .2) in
         rw (k .1) (holds-at (k .0) (h .0) byte q n (h .1) (h .2), refl)

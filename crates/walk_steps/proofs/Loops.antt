@@ -1,7 +1,7 @@
 -- A loop over items: what is left of the list stands at the place that the loop has reached.
 use Prim.Native.Nat.{ℕ, _≤_, _<_}
 use native.Mathlib.Omega.{arith}
-use mathlib.Core.Path.{_≡_, refl, sym, ap, _∙_}
+use mathlib.Core.Path.{_≡_, refl, sym, subst}
 use mathlib.Core.Bool.{Bool, true, false}
 use mathlib.Core.List.{List, [], _∷_, _++_}
 use lib.ListN.{length, drop}
@@ -9,8 +9,8 @@ use Rattle.paper.specs.Bytes.{isBlank}
 use Rattle.paper.specs.Form.{Form, each}
 use Rattle.read_bytes.specs.Words.{There}
 use Rattle.read_steps.specs.Follow.{Not, Starts, StandsBefore}
-use Rattle.read_steps.proofs.Fronts.{Leads, leads-by, leads-long, whole, each-starts, starts-sharp, starts-apart}
-use Rattle.walk_steps.specs.Stands.{Stands, tagOf, Over}
+use Rattle.read_steps.proofs.Fronts.{Leads, leads-by, leads-long, whole, each-starts, starts-sharp}
+use Rattle.walk_steps.specs.Stands.{Stands, tagOf, TellsTag, Over}
 use Rattle.walk_steps.proofs.Places.{part, before, from, nothing-stands}
 use Rattle.walk_steps.proofs.Elements.{tag-stands}
 
@@ -32,17 +32,17 @@ pub record Item {A : Type 0} (F : A → Form) (s : List ℕ) (k : List A) (q e :
 -- fl are the words that may follow the list
 module _ {A : Type 0} (name : List ℕ) (F : A → Form) (leads : (a : A) → Leads (tagOf name) (F a)) (fl : List (List ℕ)) {s : List ℕ} where
   -- where no item starts the list is at its end
-  pub left-none : {q e : ℕ} {t : Bool} → t ≡ false → There (tagOf name) s q t → (k : List A) → Stands (each F k) s q e → (k ≡ []) × (q ≡ e)
+  pub left-none : {q e : ℕ} {t : Bool} → t ≡ false → TellsTag name fl s q t → (k : List A) → Stands (each F k) s q e → (k ≡ []) × (q ≡ e)
   left-none h t [] d = (refl, nothing-stands d)
   left-none {q} h t (a ∷ k) d =
       let u = part (F a) (each F k) d in
-      absurd (t .no h (tag-stands name (F a) (leads a) (u .1)))
+      absurd (t .none h (tag-stands name (F a) (leads a) (u .1)))
 
   -- where one starts it is the first of the list
-  pub left-some : {q e : ℕ} {t : Bool} → StandsBefore name fl → t ≡ true → There (tagOf name) s q t → Starts fl (drop e s)
+  pub left-some : {q e : ℕ} {t : Bool} → StandsBefore name fl → t ≡ true → TellsTag name fl s q t → Starts fl (drop e s)
       → (k : List A) → Stands (each F k) s q e → Item F s k q e
   left-some {q} {e} c h t fol [] d =
-      absurd (starts-apart (tagOf name) fl (drop e s) _ (c .clash) (ap (λ (i : ℕ). drop i s) (sym (nothing-stands d)) ∙ t .yes h .here) fol)
+      absurd (t .other h (subst (λ (i : ℕ). Starts fl (drop i s)) (sym (nothing-stands d)) fol))
   left-some {q} {e} c h t fol (a ∷ k) d =
       let u = part (F a) (each F k) d in
       record {
@@ -64,7 +64,7 @@ pub record Left {A : Type 0} (F : A → Form) (fl : List (List ℕ)) (s : List �
   pub is : (l : List A) (e : ℕ) → Stands (each F l) s first e → Starts fl (drop e s) → (k : List A) × Stands (each F k) s at e
 
 module _ {A : Type 0} (name : List ℕ) (F : A → Form) (leads : (a : A) → Leads (tagOf name) (F a)) (fl : List (List ℕ)) (c : StandsBefore name fl) {s : List ℕ} {first at : ℕ} where
-  pub over-next : {t : Bool} {n : ℕ} → t ≡ true → There (tagOf name) s at t → Left F fl s first at → Over F (Not isBlank) s at n → Left F fl s first n
+  pub over-next : {t : Bool} {n : ℕ} → t ≡ true → TellsTag name fl s at t → Left F fl s first at → Over F (Not isBlank) s at n → Left F fl s first n
   over-next h t w o =
       record {
         is =
@@ -74,7 +74,7 @@ module _ {A : Type 0} (name : List ℕ) (F : A → Form) (leads : (a : A) → Le
             (i .others, from (o .is (i .item) (i .end) (i .here) (i .follows)) (i .behind));
       }
 
-  pub over-stuck : {t : Bool} {n : ℕ} → t ≡ true → There (tagOf name) s at t → Left F fl s first at → Over F (Not isBlank) s at n → n ≤ at
+  pub over-stuck : {t : Bool} {n : ℕ} → t ≡ true → TellsTag name fl s at t → Left F fl s first at → Over F (Not isBlank) s at n → n ≤ at
       → Over (each F) (Starts fl) s first at
   over-stuck h t w o stuck =
       record {
@@ -85,5 +85,5 @@ module _ {A : Type 0} (name : List ℕ) (F : A → Form) (leads : (a : A) → Le
             absurd (omega (arith, stuck, i .onward, o .is (i .item) (i .end) (i .here) (i .follows)));
       }
 
-  pub over-done : {t : Bool} → t ≡ false → There (tagOf name) s at t → Left F fl s first at → Over (each F) (Starts fl) s first at
+  pub over-done : {t : Bool} → t ≡ false → TellsTag name fl s at t → Left F fl s first at → Over (each F) (Starts fl) s first at
   over-done h t w = record { is = λ l e d fol. let k = w .is l e d fol in left-none name F leads fl h t (k .0) (k .1) .1 }

@@ -1,5 +1,5 @@
 -- Texts that are known to stand in a listing: what is promised of a walk along them.
-use Prim.Native.Nat.{ℕ, _+_, _≤_}
+use Prim.Native.Nat.{ℕ, _+_, _≤_, _<_}
 use mathlib.Core.Path.{_≡_}
 use mathlib.Core.Bool.{Bool, true, false, not}
 use mathlib.Core.List.{List, _++_}
@@ -11,7 +11,7 @@ use Rattle.paper.specs.Form.{Form, lit, _·_, maybe}
 use Rattle.paper.specs.Tree.{Text}
 use Rattle.paper.specs.Layout.{blanks, tag, close, attribute, content, leaf, child, attribute?}
 use Rattle.read_bytes.specs.Words.{StandsAt}
-use Rattle.read_steps.specs.Follow.{Starts, StandsBefore, NoBlankFirst, anything, clashes, skip}
+use Rattle.read_steps.specs.Follow.{Starts, StandsBefore, NoBlankFirst, anything, clashes, sharp, closing, skip}
 use Rattle.read_steps.specs.Texts.{Scanned}
 use Rattle.walk_steps.specs.declared.Range.{Range}
 use Rattle.walk_steps.specs.declared.Found.{Found}
@@ -66,6 +66,22 @@ Finds F Fol s at r = (x : Text ℕ) (e : ℕ) → Stands (F x) s at e → Fol (d
 pub record FindsContent (name : List ℕ) (allowed : ℕ → Bool) (start : ℕ) (s : List ℕ) (at : ℕ) (r : Found) : Type 0 where
   pub says : start ≤ length s → Finds (content name allowed start) anything s at r
 
+-- ---- what may be missing
+
+-- `<name`
+abbrev pub tagOf : List ℕ → List ℕ
+tagOf name = bytes "<" ++ name
+
+-- t tells an element of this name from the words l, one of which stands here where no such element does
+pub record TellsTag (name : List ℕ) (l : List (List ℕ)) (s : List ℕ) (at : ℕ) (t : Bool) : Type 0 where
+  pub other : t ≡ true → ¬ Starts l (drop at s)
+  pub none : t ≡ false → ¬ StandsAt (tagOf name) s at
+
+-- t tells an element, of whatever name, from the end tag of the one that holds it
+pub record TellsChild (s : List ℕ) (at : ℕ) (t : Bool) : Type 0 where
+  pub inside : t ≡ true → at < length s
+  pub tells : (name : List ℕ) → clashes (tagOf name) closing ≡ true → TellsTag name closing s at t
+
 -- a text that may be missing
 abbrev pub MaybeIs : List ℕ → Option (Text ℕ) → Maybe → Type 0
 MaybeIs s none Absent = Unit {0}
@@ -77,15 +93,22 @@ pub record IsMaybe (s : List ℕ) (o : Option (Text ℕ)) (e : ℕ) (r : FoundMa
   pub part : MaybeIs s o (r .part)
   pub next : r .next ≡ e
 
+-- a leaf that may be missing stands here, before the words l
+abbrev pub FindsBefore : List (List ℕ) → List ℕ → List ℕ → ℕ → FoundMaybe → Type 0
+FindsBefore l name s at r = (o : Option (Text ℕ)) (e : ℕ) → Stands (maybe (child (leaf name)) o) s at e → Starts l (drop e s) → IsMaybe s o e r
+
+-- `here` tells whether it does
+abbrev pub FindsIf : List ℕ → Bool → List ℕ → ℕ → FoundMaybe → Type 0
+FindsIf name here s at r = (l : List (List ℕ)) → TellsTag name l s at here → sharp isBlank l ≡ true → FindsBefore l name s at r
+
 abbrev pub FindsMaybe : List ℕ → List ℕ → ℕ → FoundMaybe → Type 0
-FindsMaybe name s at r =
-    (l : List (List ℕ)) → StandsBefore name l → (o : Option (Text ℕ)) (e : ℕ) → Stands (maybe (child (leaf name)) o) s at e → Starts l (drop e s) → IsMaybe s o e r
+FindsMaybe name s at r = (l : List (List ℕ)) → StandsBefore name l → FindsBefore l name s at r
+
+-- the last of its element
+abbrev pub FindsLast : List ℕ → List ℕ → ℕ → FoundMaybe → Type 0
+FindsLast name s at r = StandsBefore name closing → FindsBefore closing name s at r
 
 -- ---- elements that hold elements
-
--- `<name`
-abbrev pub tagOf : List ℕ → List ℕ
-tagOf name = bytes "<" ++ name
 
 -- the rest of a start tag and the blanks after it
 abbrev pub entering : Form
@@ -100,13 +123,13 @@ abbrev pub shutting : List ℕ → Bool → Form
 shutting name true = leaving name
 shutting name false = lit ""
 
--- where the children of such an element start
-pub data OpensSo (name s : List ℕ) (at : ℕ) : Opened → Type 0 where
-  missing : ¬ StandsAt (tagOf name) s at → OpensSo name s at (record { present = false; long = false; first = at })
-  empty : {a h b n : ℕ} → StandsAt (tagOf name) s at → Ends (tag name) anything s at a → Scanned isBlank s a (length s) h → getD s h 0 ≡ 47
-      → Past s h 2 b → Scanned isBlank s b (length s) n → OpensSo name s at (record { present = true; long = false; first = n })
-  holds : {a h b n : ℕ} → StandsAt (tagOf name) s at → Ends (tag name) anything s at a → Scanned isBlank s a (length s) h → ¬ (getD s h 0 ≡ 47)
-      → Past s h 1 b → Scanned isBlank s b (length s) n → OpensSo name s at (record { present = true; long = true; first = n })
+-- where the children of such an element start; `here` says whether it is there
+pub data OpensSo (name : List ℕ) (here : Bool) (s : List ℕ) (at : ℕ) : Opened → Type 0 where
+  missing : here ≡ false → OpensSo name here s at (record { present = false; long = false; first = at })
+  empty : {a h b n : ℕ} → here ≡ true → Ends (tag name) anything s at a → Scanned isBlank s a (length s) h → getD s h 0 ≡ 47
+      → Past s h 2 b → Scanned isBlank s b (length s) n → OpensSo name here s at (record { present = true; long = false; first = n })
+  holds : {a h b n : ℕ} → here ≡ true → Ends (tag name) anything s at a → Scanned isBlank s a (length s) h → ¬ (getD s h 0 ≡ 47)
+      → Past s h 1 b → Scanned isBlank s b (length s) n → OpensSo name here s at (record { present = true; long = true; first = n })
 
 -- whether something that may be missing is there
 abbrev pub isThere : {A : Type 0} → Option A → Bool

@@ -11,7 +11,7 @@ ghost use Rattle.paper.specs.Layout as Form;
 ghost use Rattle.read_bytes.specs.Words.{There};
 ghost use Rattle.read_steps.specs.Follow.{Not, anything};
 ghost use Rattle.read_steps.specs.Texts.{allowedIn, isPlain, Scanned};
-ghost use Rattle.walk_steps.specs.Stands.{Past, others, tagOf, Ends, Finds, FindsContent, FindsMaybe, entering, leaving, shutting, OpensSo, FindsAttribute, FindsAttributeMaybe};
+ghost use Rattle.walk_steps.specs.Stands.{Past, others, tagOf, TellsChild, Ends, Finds, FindsContent, FindsIf, FindsMaybe, FindsLast, entering, leaving, shutting, OpensSo, FindsAttribute, FindsAttributeMaybe};
 
 // A text of the listing, from its first byte to the one behind its last.
 pub struct Range {
@@ -157,11 +157,24 @@ pub fn opens(s: &[u8], at: usize, name: &[u8]) -> bool
     false
 }
 
-// A leaf that may be missing, and the blanks after it.
-pub fn leaf_maybe(s: &[u8], at: usize, name: &[u8]) -> FoundMaybe
-    ensures { λ r. ⌜ FindsMaybe (now (name .entry)) (now (s .entry)) at r ⌝ }
+// Whether an element starts here, and not the end tag of the one that holds it: one of them does, so one byte tells.
+pub fn child_here(s: &[u8], at: usize) -> bool
+    ensures { λ r. ⌜ TellsChild (now (s .entry)) at r ⌝ }
 {
-    if opens(s, at, name) {
+    if s.len() <= at {
+        return false;
+    }
+    if peek(s, at + 1) == b'/' {
+        return false;
+    }
+    true
+}
+
+// A leaf and the blanks after it, if it is here.
+fn leaf_if(s: &[u8], at: usize, name: &[u8], here: bool) -> FoundMaybe
+    ensures { λ r. ⌜ FindsIf (now (name .entry)) here (now (s .entry)) at r ⌝ }
+{
+    if here {
         let Found { part, next } = leaf(s, at, name);
         return FoundMaybe {
             part: Maybe::Present(part),
@@ -172,6 +185,20 @@ pub fn leaf_maybe(s: &[u8], at: usize, name: &[u8]) -> FoundMaybe
         part: Maybe::Absent,
         next: at,
     }
+}
+
+// A leaf that may be missing, and the blanks after it.
+pub fn leaf_maybe(s: &[u8], at: usize, name: &[u8]) -> FoundMaybe
+    ensures { λ r. ⌜ FindsMaybe (now (name .entry)) (now (s .entry)) at r ⌝ }
+{
+    leaf_if(s, at, name, opens(s, at, name))
+}
+
+// The same where the leaf is the last of its element.
+pub fn last_leaf(s: &[u8], at: usize, name: &[u8]) -> FoundMaybe
+    ensures { λ r. ⌜ FindsLast (now (name .entry)) (now (s .entry)) at r ⌝ }
+{
+    leaf_if(s, at, name, child_here(s, at))
 }
 
 // ---- elements that hold elements
@@ -193,16 +220,17 @@ pub fn leave(s: &[u8], at: usize, name: &[u8]) -> usize
 }
 
 // An element that may be missing, or written `<X/>`: where its children stand if it is `long`, and what follows it if it isn't.
+// `here` says whether it is there.
 pub struct Opened {
     pub present: bool,
     pub long: bool,
     pub first: usize,
 }
 
-pub fn children(s: &[u8], at: usize, name: &[u8]) -> Opened
-    ensures { λ r. ⌜ OpensSo (now (name .entry)) (now (s .entry)) at r ⌝ }
+pub fn children(s: &[u8], at: usize, name: &[u8], here: bool) -> Opened
+    ensures { λ r. ⌜ OpensSo (now (name .entry)) here (now (s .entry)) at r ⌝ }
 {
-    if opens(s, at, name) {
+    if here {
         let a = tag(s, at, name);
         let h = blanks(s, a);
         if peek(s, h) == b'/' {

@@ -7,6 +7,12 @@ use Rattle.walk_items.proofs.other_ids.Tie as tie
 slice-aggregate-children : tie.Need-slice-aggregate-children
 slice-aggregate-children c = search needs
 
+slice-aggregate-opens : tie.Need-slice-aggregate-opens
+slice-aggregate-opens c = search needs
+
+opens-requires : tie.Need-opens-requires
+opens-requires c κs = search needs
+
 children-requires : tie.Need-children-requires
 children-requires c κs = search needs
 
@@ -23,13 +29,15 @@ shut-requires : tie.Need-shut-requires
 shut-requires c κs = search needs
 
 returns : tie.Need-returns
-returns c = ids-found (c .before .before .before .before .children .ensures) (c .before .before .leaf-maybe .ensures) (c .shut .ensures)
+returns c = ids-found (c .before .before .before .before .before .opens .ensures) (c .before .before .before .before .children .ensures) (c .before .before .leaf-maybe .ensures) (c .shut .ensures)
 
 pub other-ids-spec : {M : Type 1} → statement M
 other-ids-spec =
     tie.close
     (tie.spec
     slice-aggregate-children
+    slice-aggregate-opens
+    opens-requires
     children-requires
     slice-aggregate-leaf-maybe
     leaf-maybe-requires

@@ -19,11 +19,11 @@ slice-aggregate-leaf c = search needs
 leaf-requires : tie.Need-leaf-requires
 leaf-requires c κs = search needs
 
-slice-aggregate-leaf-maybe : tie.Need-slice-aggregate-leaf-maybe
-slice-aggregate-leaf-maybe c = search needs
+slice-aggregate-last-leaf : tie.Need-slice-aggregate-last-leaf
+slice-aggregate-last-leaf c = search needs
 
-leaf-maybe-requires : tie.Need-leaf-maybe-requires
-leaf-maybe-requires c κs = search needs
+last-leaf-requires : tie.Need-last-leaf-requires
+last-leaf-requires c κs = search needs
 
 slice-aggregate-leave : tie.Need-slice-aggregate-leave
 slice-aggregate-leave c = search needs
@@ -36,7 +36,7 @@ returns c =
     let tag = c .before .before .before .before .before .before .before .before .tag in
     let enter = c .before .before .before .before .before .before .before .enter in
     let leaf = c .before .before .before .before .before .leaf in
-    qualifier-found (tag .ensures) (enter .ensures) (leaf .ensures) (c .before .before .leaf-maybe .ensures) (c .leave .ensures)
+    qualifier-found (tag .ensures) (enter .ensures) (leaf .ensures) (c .before .before .last-leaf .ensures) (c .leave .ensures)
 
 pub qualifier-spec : {M : Type 1} → statement M
 qualifier-spec =
@@ -47,8 +47,8 @@ qualifier-spec =
     enter-requires
     slice-aggregate-leaf
     leaf-requires
-    slice-aggregate-leaf-maybe
-    leaf-maybe-requires
+    slice-aggregate-last-leaf
+    last-leaf-requires
     slice-aggregate-leave
     leave-requires
     returns)

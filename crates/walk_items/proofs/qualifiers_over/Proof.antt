@@ -2,7 +2,6 @@
 -- left of the text.
 use Prim.Native.Nat.{_-_}
 use native.Mathlib.Omega.{arith}
-use denote.Ref.{now}
 use lib.ListN.{length}
 use Rattle.paper.specs.Bytes.{bytes}
 use Rattle.paper.specs.Layout.{child, qualifier}
@@ -10,7 +9,7 @@ use mathlib.Core.Path.{refl}
 use Rattle.read_steps.specs.Follow.{closing}
 use Rattle.walk_items.proofs.Features.{qualifier-leads}
 use Rattle.walk_items.proofs.Sequences.{qualifier-over}
-use Rattle.walk_steps.proofs.Loops.{Left, there-inside, over-next, over-stuck, over-done}
+use Rattle.walk_steps.proofs.Loops.{Left, over-next, over-stuck, over-done}
 use borrow.Author.Needs.{needs}
 use Rattle.walk_items.proofs.qualifiers_over.Statement.{statement}
 use Rattle.walk_items.proofs.qualifiers_over.Tie as tie
@@ -24,28 +23,25 @@ abbrev μ-loop : tie.MeasureT-loop
 loop-holds : tie.Need-loop-holds Inv-loop μ-loop
 loop-holds c = record { is = λ l e d fol. (l, d) }
 
-qualifier-here-requires : tie.Need-qualifier-here-requires Inv-loop μ-loop
-qualifier-here-requires c κs = search needs
+child-here-requires : tie.Need-child-here-requires Inv-loop μ-loop
+child-here-requires c κs = search needs
 
 qualifier-requires : tie.Need-qualifier-requires Inv-loop μ-loop
 qualifier-requires c κs = search needs
 
 returns : tie.Need-returns Inv-loop μ-loop
 returns c =
-    over-stuck (bytes "INSDQualifier") (child qualifier) qualifier-leads closing (record { clash = refl; sharps = refl }) (c .before .before .if1 .taken) (c .before .before .before .qualifier-here .ensures) (c .before .before .before .before .loop .inv) (qualifier-over (c .before .qualifier .ensures)) (c .if2 .taken)
+    over-stuck (bytes "INSDQualifier") (child qualifier) qualifier-leads closing (record { clash = refl; sharps = refl }) (c .before .before .if1 .taken) (c .before .before .before .child-here .ensures .tells (bytes "INSDQualifier") refl) (c .before .before .before .before .loop .inv) (qualifier-over (c .before .qualifier .ensures)) (c .if2 .taken)
 
 loop-less : tie.Need-loop-less Inv-loop μ-loop
-loop-less c =
-    let args = c .before .before .before .before .before .before .args in
-    omega
-    (arith, there-inside 60 (bytes "INSDQualifier") (now (args .s)) (c .before .before .before .before .loop .at) (c .before .before .if1 .taken) (c .before .before .before .qualifier-here .ensures))
+loop-less c = omega (arith, c .before .before .before .child-here .ensures .inside (c .before .before .if1 .taken))
 
 loop-again : tie.Need-loop-again Inv-loop μ-loop
 loop-again c =
-    over-next (bytes "INSDQualifier") (child qualifier) qualifier-leads closing (record { clash = refl; sharps = refl }) (c .before .before .if1 .taken) (c .before .before .before .qualifier-here .ensures) (c .before .before .before .before .loop .inv) (qualifier-over (c .before .qualifier .ensures))
+    over-next (bytes "INSDQualifier") (child qualifier) qualifier-leads closing (record { clash = refl; sharps = refl }) (c .before .before .if1 .taken) (c .before .before .before .child-here .ensures .tells (bytes "INSDQualifier") refl) (c .before .before .before .before .loop .inv) (qualifier-over (c .before .qualifier .ensures))
 
 returns-2 : tie.Need-returns-2 Inv-loop μ-loop
-returns-2 c = over-done (bytes "INSDQualifier") (child qualifier) qualifier-leads closing (record { clash = refl; sharps = refl }) (c .if1 .left) (c .before .qualifier-here .ensures) (c .before .before .loop .inv)
+returns-2 c = over-done (bytes "INSDQualifier") (child qualifier) qualifier-leads closing (record { clash = refl; sharps = refl }) (c .if1 .left) (c .before .child-here .ensures .tells (bytes "INSDQualifier") refl) (c .before .before .loop .inv)
 
 pub qualifiers-over-spec : {M : Type 1} → statement M
 qualifiers-over-spec =
@@ -54,7 +50,7 @@ qualifiers-over-spec =
     Inv-loop
     μ-loop
     loop-holds
-    qualifier-here-requires
+    child-here-requires
     qualifier-requires
     returns
     loop-less

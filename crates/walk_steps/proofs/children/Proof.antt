@@ -1,11 +1,9 @@
 -- `walk_steps::children` meets its contract.
-use Rattle.walk_steps.proofs.Elements.{opens-missing, opens-empty, opens-holds}
+use mathlib.Core.Path.{sym, _∙_}
+use Rattle.walk_steps.specs.Stands.{missing, empty, holds}
 use borrow.Author.Needs.{needs}
 use Rattle.walk_steps.proofs.children.Statement.{statement}
 use Rattle.walk_steps.proofs.children.Tie as tie
-
-opens-requires : tie.Need-opens-requires
-opens-requires c κs = search needs
 
 tag-requires : tie.Need-tag-requires
 tag-requires c κs = search needs
@@ -24,11 +22,11 @@ blanks-requires-2 c κs = search needs
 
 returns : tie.Need-returns
 returns c =
-    let opens = c .before .before .before .before .before .before .before .opens in
     let if1 = c .before .before .before .before .before .before .if1 in
     let tag = c .before .before .before .before .before .tag in
-    opens-empty (if1 .taken) (opens .ensures) (tag .ensures) (c .before .before .before .before .blanks .ensures)
-    (c .before .before .before .peek .ensures) (c .before .before .if2 .taken) (c .before .past .ensures) (c .blanks2 .ensures)
+    let peek = c .before .before .before .peek in
+    empty (if1 .taken) (tag .ensures) (c .before .before .before .before .blanks .ensures) (sym (peek .ensures) ∙ c .before .before .if2 .taken)
+    (c .before .past .ensures) (c .blanks2 .ensures)
 
 past-requires-2 : tie.Need-past-requires-2
 past-requires-2 c κs = search needs
@@ -38,20 +36,19 @@ blanks-requires-3 c κs = search needs
 
 returns-2 : tie.Need-returns-2
 returns-2 c =
-    let opens = c .before .before .before .before .before .before .before .opens in
     let if1 = c .before .before .before .before .before .before .if1 in
     let tag = c .before .before .before .before .before .tag in
-    opens-holds (if1 .taken) (opens .ensures) (tag .ensures) (c .before .before .before .before .blanks .ensures)
-    (c .before .before .before .peek .ensures) (c .before .before .if2 .left) (c .before .past2 .ensures) (c .blanks3 .ensures)
+    let peek = c .before .before .before .peek in
+    holds (if1 .taken) (tag .ensures) (c .before .before .before .before .blanks .ensures) (λ h. c .before .before .if2 .left (peek .ensures ∙ h))
+    (c .before .past2 .ensures) (c .blanks3 .ensures)
 
 returns-3 : tie.Need-returns-3
-returns-3 c = opens-missing (c .if1 .left) (c .before .opens .ensures)
+returns-3 c = missing (c .if1 .left)
 
 pub children-spec : {M : Type 1} → statement M
 children-spec =
     tie.close
     (tie.spec
-    opens-requires
     tag-requires
     blanks-requires
     peek-requires
