@@ -13,7 +13,7 @@ use Rattle.lent_room.specs.Room.{Lays, Puts}
 use Rattle.lent_room.specs.declared.Pass.the-variants.{Write}
 use Rattle.lent_room.proofs.Laws.{sets-front, puts-none, puts-next, puts-lent, lent, back, length-lent, length-back}
 use Rattle.lent_room.proofs.Passes.{lays-kept, lays-written, lays-within}
-use Rattle.read_bytes.specs.Words.{There}
+use Rattle.walk_steps.specs.Stands.{TellsChild}
 use Rattle.walk_items.specs.Items.{IsFeature, MeetsFeature}
 use Rattle.walk_items.specs.declared.FoundFeature.{FoundFeature}
 use Rattle.judge_faults.specs.Known.{Knows}
@@ -112,7 +112,7 @@ pub putting-within : {s before out ys : List ℕ} {first at end r : ℕ} {known 
     → PutsLine s known g (lent out end) r ys → end + r ≤ length before
 putting-within {out = out} {end = end} w put = omega (arith, length-lent out end (w .within), put .within, w .within, w .kept)
 
-module _ {s before out : List ℕ} {first at end : ℕ} {known : Known} {t : Bool} (here : There (bytes "<INSDFeature") s at t) (w : Putting s first at known before out end) where
+module _ {s before out : List ℕ} {first at end : ℕ} {known : Known} {t : Bool} (here : TellsChild s at t) (w : Putting s first at known before out end) where
   module _ {n : ℕ} {g : FoundFeature} (h : t ≡ true) (f : MeetsFeature s at g) (p : PassesFeature s g n) where
     pub putting-more : {r : ℕ} {ys : List ℕ} → PutsLine s known g (lent out end) r ys → Putting s first n known before (back out end ys) (end + r)
     putting-more {r} {ys} put =

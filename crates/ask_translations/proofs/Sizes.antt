@@ -10,8 +10,8 @@ use Rattle.paper.specs.Tree.{Sequence, Feature}
 use Rattle.paper.specs.Translation.{Code, code1, dropStop, hasStopInside}
 use Rattle.paper.specs.Answers.{Translates}
 use Rattle.paper.specs.Answers as paper
-use Rattle.read_bytes.specs.Words.{There}
 use Rattle.read_steps.specs.Parts.{ShowsBytes}
+use Rattle.walk_steps.specs.Stands.{TellsChild}
 use Rattle.walk_items.specs.Items.{MeetsFeature}
 use Rattle.walk_items.specs.declared.FoundFeature.{FoundFeature}
 use Rattle.protein_codons.specs.Letters.{lettersOf}
@@ -142,7 +142,7 @@ sizing-none {first = first} {room = room} =
       seen = λ q k. none-seen first (λ (l : List (Feature ℕ)). KeepAll q l → LinesSized q l room (Is 0)) (λ keep. record { lines = []; are = paper.Lines.end; size = (refl, omega arith) });
     }
 
-module _ {s : List ℕ} {first at : ℕ} {known : Known} {room : ℕ} {x : Lined} {t : Bool} (here : There (bytes "<INSDFeature") s at t) (w : Sizing s first at known room x) where
+module _ {s : List ℕ} {first at : ℕ} {known : Known} {room : ℕ} {x : Lined} {t : Bool} (here : TellsChild s at t) (w : Sizing s first at known room x) where
   module _ {n : ℕ} {g : FoundFeature} (h : t ≡ true) (f : MeetsFeature s at g) (p : PassesFeature s g n) where
     pub sizing-more : {y z : Lined} → MeasuresLine s known g room y → Adds x y room z → Sizing s first n known room z
     sizing-more {z = z} m a =

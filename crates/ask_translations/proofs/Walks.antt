@@ -8,9 +8,8 @@ use Rattle.paper.specs.Bytes.{bytes, isBlank}
 use Rattle.paper.specs.Form.{each}
 use Rattle.paper.specs.Layout.{child, qualifier, feature}
 use Rattle.paper.specs.Tree.{Sequence, Feature, qualifiersOf}
-use Rattle.read_bytes.specs.Words.{There}
 use Rattle.read_steps.specs.Follow.{Not, Starts, closing}
-use Rattle.walk_steps.specs.Stands.{Stands, Over, Ends}
+use Rattle.walk_steps.specs.Stands.{Stands, Over, Ends, TellsChild}
 use Rattle.walk_steps.proofs.Places.{from}
 use Rattle.walk_items.specs.Items.{MeetsFeature, IsFeature, featureTail}
 use Rattle.walk_items.specs.declared.FoundFeature.{FoundFeature}
@@ -35,21 +34,21 @@ over f p = record { is = λ x e d fol. p .is x e (f x e d fol) fol }
 
 module _ {s : List ℕ} {first at : ℕ} {t : Bool} (R : List (Feature ℕ) → Type 0) where
   module _ {g : FoundFeature} {n : ℕ} where
-    pub one-more : (T : List (Feature ℕ) → Type 0) → t ≡ true → There (bytes "<INSDFeature") s at t → SeenFeatures s first at R → MeetsFeature s at g → PassesFeature s g n
+    pub one-more : (T : List (Feature ℕ) → Type 0) → t ≡ true → TellsChild s at t → SeenFeatures s first at R → MeetsFeature s at g → PassesFeature s g n
         → ((l : List (Feature ℕ)) (x : Feature ℕ) (e : ℕ) → IsFeature s x e g → R l → T (l ++ (x ∷ []))) → SeenFeatures s first n T
     one-more T h here w f p more =
-        seen-next (bytes "INSDFeature") (child feature) feature-leads closing (record { clash = refl; sharps = refl }) R T h here w (over f p)
+        seen-next (bytes "INSDFeature") (child feature) feature-leads closing (record { clash = refl; sharps = refl }) R T h (here .tells (bytes "INSDFeature") refl) w (over f p)
         (λ l x e d fol r. more l x e (f x e d fol) r)
 
-    pub stuck : t ≡ true → There (bytes "<INSDFeature") s at t → SeenFeatures s first at R → MeetsFeature s at g → PassesFeature s g n → n ≤ at
+    pub stuck : t ≡ true → TellsChild s at t → SeenFeatures s first at R → MeetsFeature s at g → PassesFeature s g n → n ≤ at
         → (l : List (Feature ℕ)) (e : ℕ) → Stands (each (child feature) l) s first e → Starts closing (drop e s) → ⊥
     stuck h here w f p =
-        seen-stuck (bytes "INSDFeature") (child feature) feature-leads closing (record { clash = refl; sharps = refl }) R h here w (over f p)
+        seen-stuck (bytes "INSDFeature") (child feature) feature-leads closing (record { clash = refl; sharps = refl }) R h (here .tells (bytes "INSDFeature") refl) w (over f p)
 
-  pub all-seen : t ≡ false → There (bytes "<INSDFeature") s at t → SeenFeatures s first at R
+  pub all-seen : t ≡ false → TellsChild s at t → SeenFeatures s first at R
       → (l : List (Feature ℕ)) (e : ℕ) → Stands (each (child feature) l) s first e → Starts closing (drop e s) → R l
   all-seen h here w l e d fol =
-      seen-all (bytes "INSDFeature") (child feature) feature-leads closing (record { clash = refl; sharps = refl }) R h here w l e d fol .0
+      seen-all (bytes "INSDFeature") (child feature) feature-leads closing (record { clash = refl; sharps = refl }) R h (here .tells (bytes "INSDFeature") refl) w l e d fol .0
 
 -- no rule is broken on the features before the last one
 pub keep-front : {q : Sequence ℕ} (l : List (Feature ℕ)) (x : Feature ℕ) → KeepAll q (l ++ (x ∷ [])) → KeepAll q l

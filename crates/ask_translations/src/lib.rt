@@ -110,7 +110,7 @@ fn lines_size(
     let mut at = first;
     let mut size = Lined::Is(0);
     loop {
-        if walk_items::feature_here(s, at) {
+        if walk_steps::child_here(s, at) {
             let feature = walk_items::feature(s, at);
             let next = past(s, feature);
             if next <= at {
@@ -164,7 +164,7 @@ fn put_lines(
     let mut at = first;
     let mut end: usize = 0;
     loop {
-        if walk_items::feature_here(s, at) {
+        if walk_steps::child_here(s, at) {
             let feature = walk_items::feature(s, at);
             let next = past(s, feature);
             if next <= at {

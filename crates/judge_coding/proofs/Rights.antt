@@ -16,13 +16,12 @@ use Rattle.paper.specs.Rules.{Named, valueRead, valuePlace}
 use Rattle.judge_faults.specs.declared.Fault.{Fault}
 use Rattle.judge_faults.specs.declared.Fault.the-variants.{Clean, At}
 use Rattle.paper.proofs.Texts.{raw-once}
-use Rattle.read_bytes.specs.Words.{There}
 use Rattle.read_steps.specs.Follow.{closing}
 use Rattle.read_steps.specs.Parts.{ShowsBytes}
 use Rattle.value_words.specs.Reading.{Tells}
 use Rattle.value_words.proofs.Tests.{tells-true, tells-false}
 use Rattle.value_words.proofs.Read.{tells-word}
-use Rattle.walk_steps.specs.Stands.{IsPart, MaybeIs}
+use Rattle.walk_steps.specs.Stands.{IsPart, MaybeIs, TellsChild}
 use Rattle.walk_steps.specs.declared.Range.{Range}
 use Rattle.walk_steps.specs.declared.Maybe.{Maybe}
 use Rattle.walk_steps.specs.declared.Maybe.the-variants.{Absent, Present}
@@ -164,7 +163,7 @@ module _ {gc : Code} {s r loc : List ℕ} {top start first : ℕ} where
             (record { first = some-none (Breaks28 (lettersOf gc r start t)); known = tt });
       }
 
-  module _ {at : ℕ} {fault : Fault} {right : Maybe} {h : Bool} (here : There (bytes "<INSDQualifier") s at h) (w : Checking gc s r loc top start first at fault right) where
+  module _ {at : ℕ} {fault : Fault} {right : Maybe} {h : Bool} (here : TellsChild s at h) (w : Checking gc s r loc top start first at fault right) where
     pub checking-next : {x : FoundQualifier} {y : SoFar} → h ≡ true → MeetsQualifier s at x → Checks gc s r loc top start (x .name) (x .value) fault right y
         → Checking gc s r loc top start first (x .next) (y .fault) (y .right)
     checking-next {y = y} e f k =

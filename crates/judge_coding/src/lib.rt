@@ -146,7 +146,7 @@ fn translations(
     let mut fault = Fault::Clean;
     let mut right = Maybe::Absent;
     loop {
-        if walk_items::qualifier_here(s, at) {
+        if walk_steps::child_here(s, at) {
             let FoundQualifier { name, value, next } = walk_items::qualifier(s, at);
             if next <= at {
                 return fault;

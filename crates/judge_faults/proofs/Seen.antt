@@ -8,10 +8,9 @@ use lib.ListN.{drop}
 use Rattle.paper.specs.Bytes.{isBlank}
 use Rattle.paper.specs.Lists.{Count, end, has, lacks}
 use Rattle.paper.specs.Form.{Form, each}
-use Rattle.read_bytes.specs.Words.{There}
 use Rattle.read_steps.specs.Follow.{Not, Starts, StandsBefore}
 use Rattle.read_steps.proofs.Fronts.{Leads}
-use Rattle.walk_steps.specs.Stands.{Stands, tagOf, Over}
+use Rattle.walk_steps.specs.Stands.{Stands, tagOf, TellsTag, Over}
 use Rattle.walk_steps.proofs.Places.{from}
 use Rattle.walk_steps.proofs.Loops.{left-none, left-some}
 
@@ -26,7 +25,7 @@ module _ {A : Type 0} (F : A → Form) (fl : List (List ℕ)) {s : List ℕ} whe
 
 module _ {A : Type 0} (name : List ℕ) (F : A → Form) (leads : (a : A) → Leads (tagOf name) (F a)) (fl : List (List ℕ)) (b : StandsBefore name fl) {s : List ℕ} {first at : ℕ} where
   -- one item more
-  pub seen-next : {t : Bool} {n : ℕ} (R T : List A → Type 0) → t ≡ true → There (tagOf name) s at t → Seen F fl s first at R → Over F (Not isBlank) s at n
+  pub seen-next : {t : Bool} {n : ℕ} (R T : List A → Type 0) → t ≡ true → TellsTag name fl s at t → Seen F fl s first at R → Over F (Not isBlank) s at n
       → ((done : List A) (x : A) (e : ℕ) → Stands (F x) s at e → Not isBlank (drop e s) → R done → T (done ++ (x ∷ []))) → Seen F fl s first n T
   seen-next R T h t w o more =
       record {
@@ -43,7 +42,7 @@ module _ {A : Type 0} (name : List ℕ) (F : A → Form) (leads : (a : A) → Le
       }
 
   -- an item that stands is not empty, so the loop goes on
-  pub seen-stuck : {t : Bool} {n : ℕ} (R : List A → Type 0) → t ≡ true → There (tagOf name) s at t → Seen F fl s first at R → Over F (Not isBlank) s at n → n ≤ at
+  pub seen-stuck : {t : Bool} {n : ℕ} (R : List A → Type 0) → t ≡ true → TellsTag name fl s at t → Seen F fl s first at R → Over F (Not isBlank) s at n → n ≤ at
       → (l : List A) (e : ℕ) → Stands (each F l) s first e → Starts fl (drop e s) → ⊥
   seen-stuck R h t w o stuck l e d fol =
       let y = w .is l e d fol in
@@ -51,7 +50,7 @@ module _ {A : Type 0} (name : List ℕ) (F : A → Form) (leads : (a : A) → Le
       omega (arith, stuck, i .onward, o .is (i .item) (i .end) (i .here) (i .follows))
 
   -- where no item starts all have been seen
-  pub seen-all : {t : Bool} (R : List A → Type 0) → t ≡ false → There (tagOf name) s at t → Seen F fl s first at R
+  pub seen-all : {t : Bool} (R : List A → Type 0) → t ≡ false → TellsTag name fl s at t → Seen F fl s first at R
       → (l : List A) (e : ℕ) → Stands (each F l) s first e → Starts fl (drop e s) → R l × (at ≡ e)
   seen-all R h t w l e d fol =
       let y = w .is l e d fol in

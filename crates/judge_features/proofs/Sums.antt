@@ -12,9 +12,8 @@ use Rattle.paper.specs.Lists.{Count}
 use Rattle.paper.specs.Layout.{child, feature}
 use Rattle.paper.specs.Tree.{Table, Sequence, Feature, featuresIn, featuresOf}
 use Rattle.paper.specs.Rules.{tablePlace}
-use Rattle.read_bytes.specs.Words.{There}
 use Rattle.read_steps.specs.Follow.{Not, closing}
-use Rattle.walk_steps.specs.Stands.{Over}
+use Rattle.walk_steps.specs.Stands.{Over, TellsChild}
 use Rattle.walk_items.specs.Items.{TableIs}
 use Rattle.walk_items.specs.declared.FoundTable.{FoundTable}
 use Rattle.walk_items.proofs.Sequences.{feature-leads}
@@ -90,7 +89,7 @@ unjudged-within role.Plain limit n h = h
 judged-over : {s : List ℕ} {at : ℕ} {known : Known} {x : Featured} → JudgesFeature s at known x → (q : Sequence ℕ) → Knows s q known → Over (child feature) (Not isBlank) s at (x .next)
 judged-over j q k = record { is = λ f e d fol. j .says q f e k d fol .next }
 
-module _ {s : List ℕ} {first at : ℕ} {known : Known} {a : Tally} {x : Featured} {t : Bool} (h : t ≡ true) (here : There (bytes "<INSDFeature") s at t)
+module _ {s : List ℕ} {first at : ℕ} {known : Known} {a : Tally} {x : Featured} {t : Bool} (h : t ≡ true) (here : TellsChild s at t)
     (w : Adding s first at known a) (j : JudgesFeature s at known x) where
   pub adding-more : {r : Tally} → at < length s → at < x .next → Adds (length s) a x r → Adding s first (x .next) known r
   adding-more {r} inside onward ad =
@@ -98,7 +97,7 @@ module _ {s : List ℕ} {first at : ℕ} {known : Known} {a : Tally} {x : Featur
         seen =
             λ q k.
             seen-next (bytes "INSDFeature") (child feature) feature-leads closing (record { clash = refl; sharps = refl })
-            (λ (l : List (Feature ℕ)). Tallied q l a) (λ (l : List (Feature ℕ)). Tallied q l r) h here (w .seen q k) (judged-over j q k)
+            (λ (l : List (Feature ℕ)). Tallied q l a) (λ (l : List (Feature ℕ)). Tallied q l r) h (here .tells (bytes "INSDFeature") refl) (w .seen q k) (judged-over j q k)
             (λ done f e d fol y. tally-more q (length s) done f ad (j .says q f e k d fol) y (omega (arith, w .below .features, inside)) (omega (arith, w .below .judged, inside)) (omega (arith, w .below .unjudged, inside)));
         below =
             record {
@@ -120,18 +119,18 @@ module _ {s : List ℕ} {first at : ℕ} {known : Known} {a : Tally} {x : Featur
         says =
             λ q k l e d fol.
             absurd
-            (seen-stuck (bytes "INSDFeature") (child feature) feature-leads closing (record { clash = refl; sharps = refl }) (λ (l : List (Feature ℕ)). Tallied q l a) h here (w .seen q k)
+            (seen-stuck (bytes "INSDFeature") (child feature) feature-leads closing (record { clash = refl; sharps = refl }) (λ (l : List (Feature ℕ)). Tallied q l a) h (here .tells (bytes "INSDFeature") refl) (w .seen q k)
             (judged-over j q k) stuck l e d fol);
         below = w .within;
       }
 
-pub adding-done : {s : List ℕ} {first at : ℕ} {known : Known} {a : Tally} {t : Bool} → t ≡ false → There (bytes "<INSDFeature") s at t → Adding s first at known a
+pub adding-done : {s : List ℕ} {first at : ℕ} {known : Known} {a : Tally} {t : Bool} → t ≡ false → TellsChild s at t → Adding s first at known a
     → JudgesFeatures s first known a
 adding-done {a = a} h here w =
     record {
       says =
           λ q k l e d fol.
-          seen-all (bytes "INSDFeature") (child feature) feature-leads closing (record { clash = refl; sharps = refl }) (λ (l : List (Feature ℕ)). Tallied q l a) h here (w .seen q k) l e d fol .0;
+          seen-all (bytes "INSDFeature") (child feature) feature-leads closing (record { clash = refl; sharps = refl }) (λ (l : List (Feature ℕ)). Tallied q l a) h (here .tells (bytes "INSDFeature") refl) (w .seen q k) l e d fol .0;
       below = w .within;
     }
 

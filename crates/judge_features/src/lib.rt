@@ -281,7 +281,7 @@ fn judge_features(
     let mut at = first;
     let mut tally = no_features();
     loop {
-        if walk_items::feature_here(s, at) {
+        if walk_steps::child_here(s, at) {
             let x = judge_feature(s, at, known, code, vocabulary);
             let next = x.next;
             if next <= at {

@@ -14,7 +14,6 @@ use Rattle.paper.specs.Lists.{_∈_, end}
 use Rattle.paper.specs.Tree.{Qualifier, Feature, qualifiersOf}
 use Rattle.paper.specs.Layout.{child, qualifier}
 use Rattle.paper.specs.Rules.{Named, organismName, molTypeName, CodonStart}
-use Rattle.read_bytes.specs.Words.{There}
 use Rattle.read_steps.specs.Follow.{closing}
 use Rattle.read_steps.specs.Parts.{ShowsBytes}
 use Rattle.value_words.specs.Reading.{Tells}
@@ -22,6 +21,7 @@ use Rattle.value_words.proofs.Tests.{tells-true, tells-false}
 use Rattle.value_vocabulary.specs.Tables.{nameTexts, standingAt}
 use Rattle.value_vocabulary.specs.Lookups.{NameNumber}
 use Rattle.value_vocabulary.proofs.Keyed.{number-is, number-not}
+use Rattle.walk_steps.specs.Stands.{TellsChild}
 use Rattle.walk_items.specs.Items.{MeetsQualifier}
 use Rattle.walk_items.specs.declared.FoundQualifier.{FoundQualifier}
 use Rattle.location_judge.specs.declared.judging.Judgement.{Judgement}
@@ -113,7 +113,7 @@ noting-none first upper row t =
     }
 
 module _ {s : List ℕ} {first at : ℕ} {upper : Bool} {row : ℕ} {t : List ℕ} {frame : Frame} {excepted : Bool} {organisms molTypes : ℕ} {words : Worded} {met : Bool} {rest : ℕ} {h : Bool}
-    (here : There (bytes "<INSDQualifier") s at h) (w : Noting s first upper row t at frame excepted organisms molTypes words met rest) where
+    (here : TellsChild s at h) (w : Noting s first upper row t at frame excepted organisms molTypes words met rest) where
   module _ {x : FoundQualifier} {n : List ℕ} {number : ℕ} (e : h ≡ true) (f : MeetsQualifier s at x) (shown : ShowsBytes s (x .name .from) (x .name .to) n) (numbers : NameNumber n number) where
     -- before a translation is met the next place is kept
     kept-more : {r : ℕ} (m : Bool) → Meets met number m → r ≡ cond m rest (x .next) → SeenSo s first r Untranslated × (m ≡ false → r ≡ x .next)

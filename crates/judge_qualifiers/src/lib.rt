@@ -278,7 +278,7 @@ pub fn note(s: &[u8], first: usize, upper: bool, row: usize, vocabulary: &[u8; 3
     let mut met = false;
     let mut rest = first;
     loop {
-        if walk_items::qualifier_here(s, at) {
+        if walk_steps::child_here(s, at) {
             let FoundQualifier { name, value, next } = walk_items::qualifier(s, at);
             if next <= at {
                 return Noted {

@@ -12,9 +12,8 @@ use Rattle.paper.specs.Tree.{Sequence, Feature, featuresOf}
 use Rattle.paper.specs.Rules.{Skipped, InSequence}
 use Rattle.paper.specs.Answers.{limit, JudgedCds, UnjudgedCds}
 use Rattle.paper.proofs.Lists.{count-map, length-map}
-use Rattle.read_bytes.specs.Words.{There}
 use Rattle.read_steps.specs.Follow.{Not, closing}
-use Rattle.walk_steps.specs.Stands.{Over}
+use Rattle.walk_steps.specs.Stands.{Over, TellsChild}
 use Rattle.walk_items.proofs.Sequences.{sequence-leads}
 use Rattle.value_words.specs.Reading.{Tells}
 use Rattle.judge_faults.specs.Sets.{Firsts, Some}
@@ -124,7 +123,7 @@ adding-none {s} {first} e =
 judged-over : {s : List ℕ} {at k : ℕ} {x : One} → JudgesSequence s at k x → length s ≤ limit → Over (child sequence) (Not isBlank) s at (x .next)
 judged-over j short = record { is = λ q e d fol. j .says q e short d fol .next }
 
-module _ {s : List ℕ} {first at k : ℕ} {a : Total} {x : One} {t : Bool} (h : t ≡ true) (here : There (bytes "<SequenceData") s at t) (w : Adding s first at a)
+module _ {s : List ℕ} {first at k : ℕ} {a : Total} {x : One} {t : Bool} (h : t ≡ true) (here : TellsChild s at t) (w : Adding s first at a)
     (j : JudgesSequence s at k x) where
   pub adding-more : {r : Total} → at < length s → at < x .next → Plus (a .total) 1 k → Adds a x r → Adding s first (x .next) r
   adding-more {r} inside onward pk ad =
@@ -134,7 +133,7 @@ module _ {s : List ℕ} {first at k : ℕ} {a : Total} {x : One} {t : Bool} (h :
             let bt = w .below short in
             let ek = pk .is (omega (arith, bt, inside, short)) in
             seen-next (bytes "SequenceData") (child sequence) sequence-leads closing (record { clash = refl; sharps = refl })
-            (λ (l : List (Sequence ℕ)). Totalled l a) (λ (l : List (Sequence ℕ)). Totalled l r) h here (w .seen short) (judged-over j short)
+            (λ (l : List (Sequence ℕ)). Totalled l a) (λ (l : List (Sequence ℕ)). Totalled l r) h (here .tells (bytes "SequenceData") refl) (w .seen short) (judged-over j short)
             (λ done q e d fol y. total-more done q ad ek (j .says q e short d fol) y (omega (arith, bt, inside, short)) (omega (arith, j .features-below, short)) (omega (arith, j .judged-below, short))
             (omega (arith, j .unjudged-below, short)));
         below = λ short. omega (arith, onward, w .below short, ad .total .is (omega (arith, w .below short, inside, short)));
@@ -146,14 +145,14 @@ module _ {s : List ℕ} {first at k : ℕ} {a : Total} {x : One} {t : Bool} (h :
         says =
             λ short l e d fol.
             absurd
-            (seen-stuck (bytes "SequenceData") (child sequence) sequence-leads closing (record { clash = refl; sharps = refl }) (λ (l : List (Sequence ℕ)). Totalled l a) h here (w .seen short)
+            (seen-stuck (bytes "SequenceData") (child sequence) sequence-leads closing (record { clash = refl; sharps = refl }) (λ (l : List (Sequence ℕ)). Totalled l a) h (here .tells (bytes "SequenceData") refl) (w .seen short)
             (judged-over j short) stuck l e d fol);
       }
 
-pub adding-done : {s : List ℕ} {first at : ℕ} {a : Total} {t : Bool} → t ≡ false → There (bytes "<SequenceData") s at t → Adding s first at a → JudgesSequences s first a
+pub adding-done : {s : List ℕ} {first at : ℕ} {a : Total} {t : Bool} → t ≡ false → TellsChild s at t → Adding s first at a → JudgesSequences s first a
 adding-done {a = a} h here w =
     record {
       says =
           λ short l e d fol.
-          seen-all (bytes "SequenceData") (child sequence) sequence-leads closing (record { clash = refl; sharps = refl }) (λ (l : List (Sequence ℕ)). Totalled l a) h here (w .seen short) l e d fol .0;
+          seen-all (bytes "SequenceData") (child sequence) sequence-leads closing (record { clash = refl; sharps = refl }) (λ (l : List (Sequence ℕ)). Totalled l a) h (here .tells (bytes "SequenceData") refl) (w .seen short) l e d fol .0;
     }

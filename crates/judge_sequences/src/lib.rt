@@ -164,7 +164,7 @@ pub fn judge_sequences(
     let mut at = first;
     let mut total = no_sequences();
     loop {
-        if walk_items::sequence_here(s, at) {
+        if walk_steps::child_here(s, at) {
             let k = plus(total.total, 1);
             let x = judge_sequence(s, at, k, symbols, code, vocabulary);
             let next = x.next;

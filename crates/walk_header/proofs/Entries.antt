@@ -14,13 +14,13 @@ use Rattle.read_steps.specs.Follow.{Not, anything, closing}
 use Rattle.read_steps.specs.Texts.{allowedIn, Scanned}
 use Rattle.read_steps.proofs.Fronts.{Leads, leads-seq, leads-less, leads-sharp, starts-sharp}
 use Rattle.read_tags.proofs.Tags.{spoken-element}
-use Rattle.walk_steps.specs.Stands.{tagOf, Ends, Finds, FindsContent, FindsMaybe, FindsAttribute, entering, leaving, FindsAttributeMaybe}
+use Rattle.walk_steps.specs.Stands.{tagOf, Ends, Finds, FindsContent, FindsMaybe, FindsLast, FindsAttribute, entering, leaving, FindsAttributeMaybe}
 use Rattle.walk_steps.specs.declared.Found.{Found}
 use Rattle.walk_steps.specs.declared.FoundMaybe.{FoundMaybe}
 use Rattle.walk_steps.specs.declared.Maybe.the-variants.{Absent, Present}
 use Rattle.walk_steps.proofs.Places.{part, from, run-ends}
 use Rattle.walk_steps.proofs.Leaves.{starts-at, tag-inside}
-use Rattle.walk_steps.proofs.Elements.{Sharp, held, missing-none, there-some, tag-starts, tag-leads, leaf-leads}
+use Rattle.walk_steps.proofs.Elements.{Sharp, held, missing-none, there-some, there-tells, tag-starts, tag-leads, leaf-leads}
 use Rattle.walk_steps.proofs.Attributes.{attribute-starts}
 use Rattle.walk_header.specs.Header.{tagEnd, FindsAttributes, FindsSpoken, FindsParty, FindsIdentification, FindsIdentificationMaybe}
 use Rattle.walk_header.specs.declared.FoundIdentification.{FoundIdentification}
@@ -92,7 +92,7 @@ module _ {name latin s : List ℕ} {at : ℕ} where
   pub party-present : {q : Bool} {x : Found} {m : FoundMaybe} → q ≡ true → There (tagOf name) s at q → FindsSpoken name s at x → FindsMaybe latin s (x .next) m
       → FindsParty name latin s at (record { part = Present (x .part); next = m .next })
   party-present h t fs fm l b c o e d fol =
-      let k = there-some name (party name latin) (party-leads name latin) l b fol (t .yes h) o d in
+      let k = there-some name (party name latin) (party-leads name latin) l fol (there-tells l (b .clash) t .other h) o d in
       let x = k .0 in
       let u = part (child (spoken name) (x .name)) (child? (leaf latin) (x .latin)) (k .2) in
       let st = tag-starts latin (child (leaf latin)) (leaf-leads latin) l (x .latin) (u .2) fol in
@@ -132,7 +132,7 @@ identification-leads name x = tag-leads name (holding name (O x · N x · D x))
 
 pub identification-found : {name s : List ℕ} {at a b n : ℕ} {o f : FoundMaybe} {y : Found} → Ends (tag name) anything s at a → Ends entering (Not isBlank) s a b
     → FindsMaybe (bytes "IPOfficeCode") s b o → Finds (child (leaf (bytes "ApplicationNumberText"))) (Not isBlank) s (o .next) y
-    → FindsMaybe (bytes "FilingDate") s (y .next) f → Ends (leaving name) (Not isBlank) s (f .next) n
+    → FindsLast (bytes "FilingDate") s (y .next) f → Ends (leaving name) (Not isBlank) s (f .next) n
     → FindsIdentification name s at (record { office = o .part; filed = f .part; next = n })
 identification-found {name} {s} p i fo fn ff l x e d fol =
     let u = held name (O x · N x · D x) (children-sharp x) p i d in
@@ -142,7 +142,7 @@ identification-found {name} {s} p i fo fn ff l x e d fol =
     let sn = starts-at (bytes "<ApplicationNumberText") (leaf-leads (bytes "ApplicationNumberText") (x .number)) (k1 .2) in
     let ro = fo (bytes "<ApplicationNumberText" ∷ []) (record { clash = refl; sharps = refl }) (x .office) (k1 .0) (k1 .1) sn in
     let rn = fn (x .number) (k2 .0) (from (ro .next) (k1 .2)) (starts-sharp isBlank (bytes "<FilingDate" ∷ closing) refl (drop (k2 .0) s) sd) in
-    let rf = ff closing (record { clash = refl; sharps = refl }) (x .filed) (u .end) (from (rn .next) (k2 .2)) (u .closes) in
+    let rf = ff (record { clash = refl; sharps = refl }) (x .filed) (u .end) (from (rn .next) (k2 .2)) (u .closes) in
     record { office = ro .part; filed = rf .part; next = l .is e (from (rf .next) (u .leaves)) fol }
 
 module _ {name s : List ℕ} {at : ℕ} where
@@ -155,5 +155,5 @@ module _ {name s : List ℕ} {at : ℕ} where
   pub identification-present : {q : Bool} {r : FoundIdentification} → q ≡ true → There (tagOf name) s at q → FindsIdentification name s at r
       → FindsIdentificationMaybe name s at r
   identification-present h t finds l b o e d fol =
-      let k = there-some name (child (identification name)) (identification-leads name) l b fol (t .yes h) o d in
+      let k = there-some name (child (identification name)) (identification-leads name) l fol (there-tells l (b .clash) t .other h) o d in
       rw (k .1) (finds (k .0) e (k .2) (starts-sharp isBlank l (b .sharps) (drop e s) fol))

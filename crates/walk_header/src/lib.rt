@@ -59,7 +59,7 @@ fn identification(s: &[u8], at: usize, name: &[u8]) -> FoundIdentification
     let FoundMaybe {
         part: filed,
         next: e,
-    } = walk_steps::leaf_maybe(s, d, b"FilingDate");
+    } = walk_steps::last_leaf(s, d, b"FilingDate");
     FoundIdentification {
         office,
         filed,

@@ -11,10 +11,9 @@ use Rattle.paper.specs.Lists.{Nth, Numbered}
 use Rattle.paper.specs.Form.{Form, each}
 use Rattle.paper.specs.Layout.{child}
 use Rattle.paper.specs.Layout as layout
-use Rattle.read_bytes.specs.Words.{There}
 use Rattle.read_steps.specs.Follow.{Not, Starts, StandsBefore, closing}
 use Rattle.read_steps.proofs.Fronts.{Leads}
-use Rattle.walk_steps.specs.Stands.{Stands, tagOf, Over}
+use Rattle.walk_steps.specs.Stands.{Stands, tagOf, Over, TellsChild}
 use Rattle.walk_steps.proofs.Places.{from}
 use Rattle.walk_steps.proofs.Loops.{left-none, left-some}
 use Rattle.walk_steps.proofs.Loops as loops
@@ -70,13 +69,13 @@ module _ (item : Item) {s : List ℕ} {first k : ℕ} where
   pub ahead-all : {n : ℕ} → k ≡ suc n → Ahead item s first k first n
   ahead-all h = record { says = λ l e d fol. record { rest = l; stands = d; same = λ x. rw h (λ y. y, λ y. y) } }
 
-  module _ {at ahead : ℕ} {t : Bool} (there : There (tagOf (nameOf item)) s at t) (w : Ahead item s first k at ahead) where
+  module _ {at ahead : ℕ} {t : Bool} (there : TellsChild s at t) (w : Ahead item s first k at ahead) where
     -- an item that starts here is the first of what is left
     first-item : t ≡ true → (l : List (Asked item)) (e : ℕ) (d : Stands (each (formOf item) l) s first e) (fol : Starts closing (drop e s))
         → loops.Item (formOf item) s (w .says l e d fol .rest) at e
     first-item h l e d fol =
         let r = w .says l e d fol in
-        left-some (nameOf item) (formOf item) (leads item) closing (apart item) h there fol (r .rest) (r .stands)
+        left-some (nameOf item) (formOf item) (leads item) closing (apart item) h (there .tells (nameOf item) (apart item .clash)) fol (r .rest) (r .stands)
 
     pub ahead-none : t ≡ false → Seeks item s first k Missing
     ahead-none h =
@@ -84,7 +83,7 @@ module _ (item : Item) {s : List ℕ} {first k : ℕ} where
           says =
               λ l e d fol x y.
               let r = w .says l e d fol in
-              subst (λ (m : List (Asked item)). Numbered m (suc ahead) x) (left-none (nameOf item) (formOf item) (leads item) closing h there (r .rest) (r .stands) .0) (r .same x .0 y) .2;
+              subst (λ (m : List (Asked item)). Numbered m (suc ahead) x) (left-none (nameOf item) (formOf item) (leads item) closing h (there .tells (nameOf item) (apart item .clash)) (r .rest) (r .stands) .0) (r .same x .0 y) .2;
         }
 
     pub ahead-here : t ≡ true → ahead ≡ 0 → Seeks item s first k (At at)

@@ -5,10 +5,9 @@ use walk_items::FoundFeature;
 use walk_items::FoundQualifier;
 use walk_items::FoundSequence;
 ghost use Rattle.paper.specs.Bytes.{isBlank};
-ghost use Rattle.read_bytes.specs.Words.{There};
 ghost use Rattle.read_steps.specs.Follow.{Not};
-ghost use Rattle.walk_steps.specs.Stands.{tagOf, Over};
-ghost use Rattle.walk_seek.specs.Items.{nameOf, formOf, Seeks};
+ghost use Rattle.walk_steps.specs.Stands.{Over};
+ghost use Rattle.walk_seek.specs.Items.{formOf, Seeks};
 ghost use Rattle.walk_seek.specs.Within.{FeatureFound, QualifierFound};
 
 // What is asked for by its number.
@@ -16,17 +15,6 @@ pub enum Item {
     Sequence,
     Feature,
     Qualifier,
-}
-
-// Whether such an item stands here, and not the end of the list.
-fn item_here(s: &[u8], at: usize, item: Item) -> bool
-    ensures { λ r. ⌜ There (tagOf (nameOf item)) (now (s .entry)) at r ⌝ }
-{
-    match item {
-        Item::Sequence => walk_items::sequence_here(s, at),
-        Item::Feature => walk_items::feature_here(s, at),
-        Item::Qualifier => walk_items::qualifier_here(s, at),
-    }
 }
 
 // Past such an item.
@@ -75,7 +63,7 @@ pub fn nth(s: &[u8], first: usize, k: usize, item: Item) -> Place
     let mut at = first;
     let mut ahead = k - 1;
     loop {
-        if item_here(s, at, item) {
+        if walk_steps::child_here(s, at) {
             if ahead == 0 {
                 return Place::At(at);
             }

@@ -5,7 +5,6 @@ use native.Mathlib.Omega.{arith}
 use denote.Ref.{now}
 use lib.ListN.{length}
 use Rattle.paper.specs.Bytes.{bytes}
-use Rattle.walk_steps.proofs.Loops.{there-inside}
 use Rattle.ask_translations.proofs.Sizes.{Sizing, sizing-none, sizing-more, sizing-stuck, sizing-done}
 use borrow.Author.Needs.{needs}
 use Rattle.ask_translations.proofs.lines_size.Statement.{statement}
@@ -20,8 +19,8 @@ abbrev μ-loop : tie.MeasureT-loop
 loop-holds : tie.Need-loop-holds Inv-loop μ-loop
 loop-holds c = sizing-none
 
-feature-here-requires : tie.Need-feature-here-requires Inv-loop μ-loop
-feature-here-requires c κs = search needs
+child-here-requires : tie.Need-child-here-requires Inv-loop μ-loop
+child-here-requires c κs = search needs
 
 feature-requires : tie.Need-feature-requires Inv-loop μ-loop
 feature-requires c κs = search needs
@@ -32,7 +31,7 @@ past-requires c κs = search needs
 returns : tie.Need-returns Inv-loop μ-loop
 returns c =
     let loop' = c .before .before .before .before .before .loop in
-    sizing-stuck (c .before .before .before .before .feature-here .ensures) (loop' .inv) (c .before .before .before .if1 .taken)
+    sizing-stuck (c .before .before .before .before .child-here .ensures) (loop' .inv) (c .before .before .before .if1 .taken)
     (c .before .before .feature .ensures) (c .before .past .ensures) (c .if2 .taken)
 
 line-size-requires : tie.Need-line-size-requires Inv-loop μ-loop
@@ -45,20 +44,20 @@ loop-less : tie.Need-loop-less Inv-loop μ-loop
 loop-less c =
     let args = c .before .before .before .before .before .before .before .before .before .args in
     let loop' = c .before .before .before .before .before .before .before .loop in
-    let feature-here = c .before .before .before .before .before .before .feature-here in
+    let child-here = c .before .before .before .before .before .before .child-here in
     let if1 = c .before .before .before .before .before .if1 in
-    omega (arith, there-inside 60 (bytes "INSDFeature") (now (args .s)) (loop' .at) (if1 .taken) (feature-here .ensures))
+    omega (arith, child-here .ensures .inside (if1 .taken))
 
 loop-again : tie.Need-loop-again Inv-loop μ-loop
 loop-again c =
     let loop' = c .before .before .before .before .before .before .before .loop in
-    let feature-here = c .before .before .before .before .before .before .feature-here in
+    let child-here = c .before .before .before .before .before .before .child-here in
     let if1 = c .before .before .before .before .before .if1 in
-    sizing-more (feature-here .ensures) (loop' .inv) (if1 .taken) (c .before .before .before .before .feature .ensures)
+    sizing-more (child-here .ensures) (loop' .inv) (if1 .taken) (c .before .before .before .before .feature .ensures)
     (c .before .before .before .past .ensures) (c .before .line-size .ensures) (c .both .ensures)
 
 returns-2 : tie.Need-returns-2 Inv-loop μ-loop
-returns-2 c = sizing-done (c .before .feature-here .ensures) (c .before .before .loop .inv) (c .if1 .left)
+returns-2 c = sizing-done (c .before .child-here .ensures) (c .before .before .loop .inv) (c .if1 .left)
 
 pub lines-size-spec : {M : Type 1} → statement M
 lines-size-spec =
@@ -67,7 +66,7 @@ lines-size-spec =
     Inv-loop
     μ-loop
     loop-holds
-    feature-here-requires
+    child-here-requires
     feature-requires
     past-requires
     returns

@@ -5,7 +5,6 @@ use native.Mathlib.Omega.{arith}
 use denote.Ref.{now}
 use lib.ListN.{length}
 use Rattle.paper.specs.Bytes.{bytes}
-use Rattle.walk_steps.proofs.Loops.{there-inside}
 use Rattle.ask_translations.proofs.Puts.{Putting, putting-none, putting-within, putting-more, putting-stuck, putting-done}
 use borrow.Author.Needs.{needs}
 use Rattle.ask_translations.proofs.put_lines.Statement.{statement}
@@ -20,8 +19,8 @@ abbrev μ-loop : tie.MeasureT-loop
 loop-holds : tie.Need-loop-holds Inv-loop μ-loop
 loop-holds c = putting-none _
 
-feature-here-requires : tie.Need-feature-here-requires Inv-loop μ-loop
-feature-here-requires c κs = search needs
+child-here-requires : tie.Need-child-here-requires Inv-loop μ-loop
+child-here-requires c κs = search needs
 
 feature-requires : tie.Need-feature-requires Inv-loop μ-loop
 feature-requires c κs = search needs
@@ -37,7 +36,7 @@ same-length c =
 returns : tie.Need-returns Inv-loop μ-loop
 returns c =
     let loop' = c .before .before .before .before .before .loop in
-    putting-stuck (c .before .before .before .before .feature-here .ensures) (loop' .inv) (c .before .before .before .if1 .taken)
+    putting-stuck (c .before .before .before .before .child-here .ensures) (loop' .inv) (c .before .before .before .if1 .taken)
     (c .before .before .feature .ensures) (c .before .past .ensures) (c .if2 .taken)
 
 sub-put-line : tie.Need-sub-put-line Inv-loop μ-loop
@@ -68,24 +67,24 @@ loop-less : tie.Need-loop-less Inv-loop μ-loop
 loop-less c =
     let args = c .before .before .before .before .before .before .before .before .before .before .before .before .args in
     let loop' = c .before .before .before .before .before .before .before .before .before .loop in
-    let feature-here = c .before .before .before .before .before .before .before .before .feature-here in
+    let child-here = c .before .before .before .before .before .before .before .before .child-here in
     let if1 = c .before .before .before .before .before .before .before .if1 in
-    omega (arith, there-inside 60 (bytes "INSDFeature") (now (args .s)) (loop' .at) (if1 .taken) (feature-here .ensures))
+    omega (arith, child-here .ensures .inside (if1 .taken))
 
 loop-again : tie.Need-loop-again Inv-loop μ-loop
 loop-again c =
     let loop' = c .before .before .before .before .before .before .before .before .before .loop in
-    let feature-here = c .before .before .before .before .before .before .before .before .feature-here in
+    let child-here = c .before .before .before .before .before .before .before .before .child-here in
     let if1 = c .before .before .before .before .before .before .before .if1 in
     let feature = c .before .before .before .before .before .before .feature in
     let past = c .before .before .before .before .before .past in
-    putting-more (feature-here .ensures) (loop' .inv) (if1 .taken) (feature .ensures) (past .ensures) (c .before .before .put-line .ensures)
+    putting-more (child-here .ensures) (loop' .inv) (if1 .taken) (feature .ensures) (past .ensures) (c .before .before .put-line .ensures)
 
 same-length-2 : tie.Need-same-length-2 Inv-loop μ-loop
 same-length-2 c = c .before .before .loop .inv .kept
 
 returns-2 : tie.Need-returns-2 Inv-loop μ-loop
-returns-2 c = putting-done (c .before .feature-here .ensures) (c .before .before .loop .inv) (c .if1 .left)
+returns-2 c = putting-done (c .before .child-here .ensures) (c .before .before .loop .inv) (c .if1 .left)
 
 pub put-lines-spec : {M : Type 1} → statement M
 put-lines-spec =
@@ -94,7 +93,7 @@ put-lines-spec =
     Inv-loop
     μ-loop
     loop-holds
-    feature-here-requires
+    child-here-requires
     feature-requires
     past-requires
     same-length

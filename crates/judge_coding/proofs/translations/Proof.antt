@@ -5,7 +5,6 @@ use native.Mathlib.Omega.{arith}
 use denote.Ref.{now}
 use lib.ListN.{length}
 use Rattle.paper.specs.Bytes.{bytes}
-use Rattle.walk_steps.proofs.Loops.{there-inside}
 use Rattle.protein_code.specs.Tables.{codeOf}
 use Rattle.judge_coding.proofs.Rights.{Checking, checking-none, checking-next, checking-stuck, checking-done}
 use borrow.Author.Needs.{needs}
@@ -21,8 +20,8 @@ abbrev μ-loop : tie.MeasureT-loop
 loop-holds : tie.Need-loop-holds Inv-loop μ-loop
 loop-holds c = checking-none
 
-qualifier-here-requires : tie.Need-qualifier-here-requires Inv-loop μ-loop
-qualifier-here-requires c κs = search needs
+child-here-requires : tie.Need-child-here-requires Inv-loop μ-loop
+child-here-requires c κs = search needs
 
 qualifier-requires : tie.Need-qualifier-requires Inv-loop μ-loop
 qualifier-requires c κs = search needs
@@ -30,7 +29,7 @@ qualifier-requires c κs = search needs
 returns : tie.Need-returns Inv-loop μ-loop
 returns c =
     let loop' = c .before .before .before .before .before .loop in
-    checking-stuck (c .before .before .before .before .qualifier-here .ensures) (loop' .inv) (c .before .before .before .if1 .taken)
+    checking-stuck (c .before .before .before .before .child-here .ensures) (loop' .inv) (c .before .before .before .if1 .taken)
     (c .before .before .qualifier .ensures) (c .if2 .taken)
 
 check-requires : tie.Need-check-requires Inv-loop μ-loop
@@ -42,19 +41,19 @@ loop-less : tie.Need-loop-less Inv-loop μ-loop
 loop-less c =
     let args = c .before .before .before .before .before .before .before .before .before .before .args in
     let loop' = c .before .before .before .before .before .before .loop in
-    let qualifier-here = c .before .before .before .before .before .qualifier-here in
+    let child-here = c .before .before .before .before .before .child-here in
     omega
-    (arith, there-inside 60 (bytes "INSDQualifier") (now (args .s)) (loop' .at) (c .before .before .before .before .if1 .taken) (qualifier-here .ensures))
+    (arith, child-here .ensures .inside (c .before .before .before .before .if1 .taken))
 
 loop-again : tie.Need-loop-again Inv-loop μ-loop
 loop-again c =
     let loop' = c .before .before .before .before .before .before .loop in
-    let qualifier-here = c .before .before .before .before .before .qualifier-here in
-    checking-next (qualifier-here .ensures) (loop' .inv) (c .before .before .before .before .if1 .taken)
+    let child-here = c .before .before .before .before .before .child-here in
+    checking-next (child-here .ensures) (loop' .inv) (c .before .before .before .before .if1 .taken)
     (c .before .before .before .qualifier .ensures) (c .check .ensures)
 
 returns-2 : tie.Need-returns-2 Inv-loop μ-loop
-returns-2 c = checking-done (c .before .qualifier-here .ensures) (c .before .before .loop .inv) (c .if1 .left)
+returns-2 c = checking-done (c .before .child-here .ensures) (c .before .before .loop .inv) (c .if1 .left)
 
 pub translations-spec : {M : Type 1} → statement M
 translations-spec =
@@ -63,7 +62,7 @@ translations-spec =
     Inv-loop
     μ-loop
     loop-holds
-    qualifier-here-requires
+    child-here-requires
     qualifier-requires
     returns
     check-requires

@@ -5,7 +5,6 @@ use native.Mathlib.Omega.{arith}
 use denote.Ref.{now}
 use lib.ListN.{length}
 use Rattle.paper.specs.Bytes.{bytes}
-use Rattle.walk_steps.proofs.Loops.{there-inside}
 use Rattle.judge_features.proofs.Sums.{Adding, adding-none, adding-more, adding-stuck, adding-done}
 use borrow.Author.Needs.{needs}
 use Rattle.judge_features.proofs.judge_features.Statement.{statement}
@@ -23,15 +22,15 @@ no-features-requires c κs = search needs
 loop-holds : tie.Need-loop-holds Inv-loop μ-loop
 loop-holds c = adding-none (c .no-features .ensures)
 
-feature-here-requires : tie.Need-feature-here-requires Inv-loop μ-loop
-feature-here-requires c κs = search needs
+child-here-requires : tie.Need-child-here-requires Inv-loop μ-loop
+child-here-requires c κs = search needs
 
 judge-feature-requires : tie.Need-judge-feature-requires Inv-loop μ-loop
 judge-feature-requires c κs = search needs
 
 returns : tie.Need-returns Inv-loop μ-loop
 returns c =
-    adding-stuck (c .before .before .if1 .taken) (c .before .before .before .feature-here .ensures)
+    adding-stuck (c .before .before .if1 .taken) (c .before .before .before .child-here .ensures)
     (c .before .before .before .before .loop .inv) (c .before .judge-feature .ensures) (c .if2 .taken)
 
 add-requires : tie.Need-add-requires Inv-loop μ-loop
@@ -42,19 +41,19 @@ loop-less c =
     let args = c .before .before .before .before .before .before .before .before .args in
     let loop' = c .before .before .before .before .before .loop in
     omega
-    (arith, there-inside 60 (bytes "INSDFeature") (now (args .s)) (loop' .at) (c .before .before .before .if1 .taken) (c .before .before .before .before .feature-here .ensures))
+    (arith, c .before .before .before .before .child-here .ensures .inside (c .before .before .before .if1 .taken))
 
 loop-again : tie.Need-loop-again Inv-loop μ-loop
 loop-again c =
     let args = c .before .before .before .before .before .before .before .before .args in
     let loop' = c .before .before .before .before .before .loop in
-    adding-more (c .before .before .before .if1 .taken) (c .before .before .before .before .feature-here .ensures) (loop' .inv)
+    adding-more (c .before .before .before .if1 .taken) (c .before .before .before .before .child-here .ensures) (loop' .inv)
     (c .before .before .judge-feature .ensures)
-    (there-inside 60 (bytes "INSDFeature") (now (args .s)) (loop' .at) (c .before .before .before .if1 .taken) (c .before .before .before .before .feature-here .ensures))
+    (c .before .before .before .before .child-here .ensures .inside (c .before .before .before .if1 .taken))
     (omega arith) (c .add .ensures)
 
 returns-2 : tie.Need-returns-2 Inv-loop μ-loop
-returns-2 c = adding-done (c .if1 .left) (c .before .feature-here .ensures) (c .before .before .loop .inv)
+returns-2 c = adding-done (c .if1 .left) (c .before .child-here .ensures) (c .before .before .loop .inv)
 
 pub judge-features-spec : {M : Type 1} → statement M
 judge-features-spec =
@@ -64,7 +63,7 @@ judge-features-spec =
     μ-loop
     no-features-requires
     loop-holds
-    feature-here-requires
+    child-here-requires
     judge-feature-requires
     returns
     add-requires

@@ -11,6 +11,7 @@ use Rattle.paper.specs.Tree.{Spoken}
 use Rattle.paper.specs.Layout.{child, spoken}
 use Rattle.paper.specs.Values.{Two, isLower}
 use Rattle.judge_faults.specs.declared.Fault.the-variants.{Clean}
+use Rattle.walk_steps.proofs.Elements.{there-tells}
 use Rattle.walk_steps.proofs.Loops.{there-inside}
 use Rattle.walk_header.proofs.Entries.{spoken-leads}
 use Rattle.judge_faults.specs.Sets.{Firsts}
@@ -40,7 +41,7 @@ title-requires c κs = search needs
 returns : tie.Need-returns Inv-loop μ-loop
 returns c =
     let loop' = c .before .before .before .before .before .loop in
-    record { says = λ l e d fol. absurd (seen-stuck (bytes "InventionTitle") (child (spoken (bytes "InventionTitle"))) (spoken-leads (bytes "InventionTitle")) totalled (record { clash = refl; sharps = refl }) (λ (l : List (Spoken ℕ)). Firsts (Wrong 13 (Two isLower) (codes l)) (loop' .fault)) (c .before .before .before .if1 .taken) (c .before .before .before .before .title-here .ensures) (loop' .inv) (title-over (c .before .before .title .ensures)) (c .if2 .taken) l e d fol) }
+    record { says = λ l e d fol. absurd (seen-stuck (bytes "InventionTitle") (child (spoken (bytes "InventionTitle"))) (spoken-leads (bytes "InventionTitle")) totalled (record { clash = refl; sharps = refl }) (λ (l : List (Spoken ℕ)). Firsts (Wrong 13 (Two isLower) (codes l)) (loop' .fault)) (c .before .before .before .if1 .taken) (there-tells totalled refl (c .before .before .before .before .title-here .ensures)) (loop' .inv) (title-over (c .before .before .title .ensures)) (c .if2 .taken) l e d fol) }
 
 judge-language-requires : tie.Need-judge-language-requires Inv-loop μ-loop
 judge-language-requires c κs = search needs
@@ -63,12 +64,12 @@ loop-again c =
     let if1 = c .before .before .before .before .before .if1 in
     seen-next (bytes "InventionTitle") (child (spoken (bytes "InventionTitle"))) (spoken-leads (bytes "InventionTitle")) totalled (record { clash = refl; sharps = refl })
     (λ (l : List (Spoken ℕ)). Firsts (Wrong 13 (Two isLower) (codes l)) (loop' .fault)) (λ (l : List (Spoken ℕ)). Firsts (Wrong 13 (Two isLower) (codes l)) (c .earlier .result))
-    (if1 .taken) (title-here .ensures) (loop' .inv) (title-over (c .before .before .before .before .title .ensures))
+    (if1 .taken) (there-tells totalled refl (title-here .ensures)) (loop' .inv) (title-over (c .before .before .before .before .title .ensures))
     (λ done x e d fol f. title-more done x (loop' .fault) (c .before .judge-language .result) f (c .before .before .before .before .title .ensures x e d fol .part) (c .before .judge-language .ensures) (c .earlier .ensures))
 
 returns-2 : tie.Need-returns-2 Inv-loop μ-loop
 returns-2 c =
-    record { says = seen-all (bytes "InventionTitle") (child (spoken (bytes "InventionTitle"))) (spoken-leads (bytes "InventionTitle")) totalled (record { clash = refl; sharps = refl }) (λ (l : List (Spoken ℕ)). Firsts (Wrong 13 (Two isLower) (codes l)) (c .before .before .loop .fault)) (c .if1 .left) (c .before .title-here .ensures) (c .before .before .loop .inv) }
+    record { says = seen-all (bytes "InventionTitle") (child (spoken (bytes "InventionTitle"))) (spoken-leads (bytes "InventionTitle")) totalled (record { clash = refl; sharps = refl }) (λ (l : List (Spoken ℕ)). Firsts (Wrong 13 (Two isLower) (codes l)) (c .before .before .loop .fault)) (c .if1 .left) (there-tells totalled refl (c .before .title-here .ensures)) (c .before .before .loop .inv) }
 
 pub judge-titles-spec : {M : Type 1} → statement M
 judge-titles-spec =

@@ -6,7 +6,6 @@ use mathlib.Core.Path.{subst}
 use denote.Ref.{now}
 use lib.ListN.{length}
 use Rattle.paper.specs.Bytes.{bytes}
-use Rattle.walk_steps.proofs.Loops.{there-inside}
 use Rattle.judge_qualifiers.specs.Qualifiers.{WithWord}
 use Rattle.judge_qualifiers.proofs.Noting.{Noting, noting-none, noting-next, noting-stuck, noting-done}
 use borrow.Author.Needs.{needs}
@@ -24,8 +23,8 @@ abbrev μ-loop : tie.MeasureT-loop
 loop-holds : tie.Need-loop-holds Inv-loop μ-loop
 loop-holds c = noting-none (c .before .args .first) (c .before .args .upper) (c .before .args .row) (now (c .before .args .vocabulary))
 
-qualifier-here-requires : tie.Need-qualifier-here-requires Inv-loop μ-loop
-qualifier-here-requires c κs = search needs
+child-here-requires : tie.Need-child-here-requires Inv-loop μ-loop
+child-here-requires c κs = search needs
 
 qualifier-requires : tie.Need-qualifier-requires Inv-loop μ-loop
 qualifier-requires c κs = search needs
@@ -33,7 +32,7 @@ qualifier-requires c κs = search needs
 returns : tie.Need-returns Inv-loop μ-loop
 returns c =
     let loop' = c .before .before .before .before .before .loop in
-    noting-stuck (c .before .before .before .before .qualifier-here .ensures) (loop' .inv) _ (c .before .before .before .if1 .taken)
+    noting-stuck (c .before .before .before .before .child-here .ensures) (loop' .inv) _ (c .before .before .before .if1 .taken)
     (c .before .before .qualifier .ensures) (c .if2 .taken)
 
 bytes-of-requires : tie.Need-bytes-of-requires Inv-loop μ-loop
@@ -76,14 +75,14 @@ loop-less : tie.Need-loop-less Inv-loop μ-loop
 loop-less c =
     let args = c .before .before .before .before .before .before .before .before .before .before .before .before .before .before .before .before .before .before .before .args in
     let loop' = c .before .before .before .before .before .before .before .before .before .before .before .before .before .before .before .before .before .loop in
-    let qualifier-here = c .before .before .before .before .before .before .before .before .before .before .before .before .before .before .before .before .qualifier-here in
+    let child-here = c .before .before .before .before .before .before .before .before .before .before .before .before .before .before .before .before .child-here in
     let if1 = c .before .before .before .before .before .before .before .before .before .before .before .before .before .before .before .if1 in
-    omega (arith, there-inside 60 (bytes "INSDQualifier") (now (args .s)) (loop' .at) (if1 .taken) (qualifier-here .ensures))
+    omega (arith, child-here .ensures .inside (if1 .taken))
 
 loop-again : tie.Need-loop-again Inv-loop μ-loop
 loop-again c =
     let loop' = c .before .before .before .before .before .before .before .before .before .before .before .before .before .before .before .before .before .loop in
-    let qualifier-here = c .before .before .before .before .before .before .before .before .before .before .before .before .before .before .before .before .qualifier-here in
+    let child-here = c .before .before .before .before .before .before .before .before .before .before .before .before .before .before .before .before .child-here in
     let if1 = c .before .before .before .before .before .before .before .before .before .before .before .before .before .before .before .if1 in
     let qualifier = c .before .before .before .before .before .before .before .before .before .before .before .before .before .before .qualifier in
     let bytes-of = c .before .before .before .before .before .before .before .before .before .before .before .bytes-of in
@@ -94,12 +93,12 @@ loop-again c =
     let more-of-two2 = c .before .before .before .before .before .before .more-of-two2 in
     let frame-with = c .before .before .before .before .before .frame-with in
     let how = subst (λ (n : ℕ). WithWord n (qualifier .result .name .from) (loop' .words) (c .before .before .with-word .result)) (c .before .before .before .standing .ensures) (c .before .before .with-word .ensures) in
-    noting-next (qualifier-here .ensures) (loop' .inv) (if1 .taken) (qualifier .ensures) (bytes-of .ensures) (name-of .ensures) (is-organism .result)
+    noting-next (child-here .ensures) (loop' .inv) (if1 .taken) (qualifier .ensures) (bytes-of .ensures) (name-of .ensures) (is-organism .result)
     (is-moltype .result) (frame-with .ensures) (c .before .before .before .before .excepted-with .ensures) (is-organism .ensures) (more-of-two .ensures) (is-moltype .ensures)
     (more-of-two2 .ensures) how (c .before .met-with .ensures) (c .kept .ensures)
 
 returns-2 : tie.Need-returns-2 Inv-loop μ-loop
-returns-2 c = noting-done (c .before .qualifier-here .ensures) (c .before .before .loop .inv) (c .if1 .left)
+returns-2 c = noting-done (c .before .child-here .ensures) (c .before .before .loop .inv) (c .if1 .left)
 
 pub note-spec : {M : Type 1} → statement M
 note-spec =
@@ -108,7 +107,7 @@ note-spec =
     Inv-loop
     μ-loop
     loop-holds
-    qualifier-here-requires
+    child-here-requires
     qualifier-requires
     returns
     bytes-of-requires

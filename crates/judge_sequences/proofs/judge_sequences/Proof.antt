@@ -5,7 +5,6 @@ use native.Mathlib.Omega.{arith}
 use denote.Ref.{now}
 use lib.ListN.{length}
 use Rattle.paper.specs.Bytes.{bytes}
-use Rattle.walk_steps.proofs.Loops.{there-inside}
 use Rattle.judge_sequences.proofs.Totals.{Adding, adding-none, adding-more, adding-stuck, adding-done}
 use borrow.Author.Needs.{needs}
 use Rattle.judge_sequences.proofs.judge_sequences.Statement.{statement}
@@ -23,8 +22,8 @@ no-sequences-requires c κs = search needs
 loop-holds : tie.Need-loop-holds Inv-loop μ-loop
 loop-holds c = adding-none (c .no-sequences .ensures)
 
-sequence-here-requires : tie.Need-sequence-here-requires Inv-loop μ-loop
-sequence-here-requires c κs = search needs
+child-here-requires : tie.Need-child-here-requires Inv-loop μ-loop
+child-here-requires c κs = search needs
 
 plus-requires : tie.Need-plus-requires Inv-loop μ-loop
 plus-requires c κs = search needs
@@ -35,7 +34,7 @@ judge-sequence-requires c κs = search needs
 returns : tie.Need-returns Inv-loop μ-loop
 returns c =
     let loop' = c .before .before .before .before .before .loop in
-    adding-stuck (c .before .before .before .if1 .taken) (c .before .before .before .before .sequence-here .ensures) (loop' .inv)
+    adding-stuck (c .before .before .before .if1 .taken) (c .before .before .before .before .child-here .ensures) (loop' .inv)
     (c .before .judge-sequence .ensures) (c .if2 .taken)
 
 add-requires : tie.Need-add-requires Inv-loop μ-loop
@@ -45,22 +44,22 @@ loop-less : tie.Need-loop-less Inv-loop μ-loop
 loop-less c =
     let args = c .before .before .before .before .before .before .before .before .before .args in
     let loop' = c .before .before .before .before .before .before .loop in
-    let sequence-here = c .before .before .before .before .before .sequence-here in
+    let child-here = c .before .before .before .before .before .child-here in
     omega
-    (arith, there-inside 60 (bytes "SequenceData") (now (args .s)) (loop' .at) (c .before .before .before .before .if1 .taken) (sequence-here .ensures))
+    (arith, child-here .ensures .inside (c .before .before .before .before .if1 .taken))
 
 loop-again : tie.Need-loop-again Inv-loop μ-loop
 loop-again c =
     let args = c .before .before .before .before .before .before .before .before .before .args in
     let loop' = c .before .before .before .before .before .before .loop in
-    let sequence-here = c .before .before .before .before .before .sequence-here in
-    adding-more (c .before .before .before .before .if1 .taken) (sequence-here .ensures) (loop' .inv)
+    let child-here = c .before .before .before .before .before .child-here in
+    adding-more (c .before .before .before .before .if1 .taken) (child-here .ensures) (loop' .inv)
     (c .before .before .judge-sequence .ensures)
-    (there-inside 60 (bytes "SequenceData") (now (args .s)) (loop' .at) (c .before .before .before .before .if1 .taken) (sequence-here .ensures))
+    (child-here .ensures .inside (c .before .before .before .before .if1 .taken))
     (omega arith) (c .before .before .before .plus .ensures) (c .add .ensures)
 
 returns-2 : tie.Need-returns-2 Inv-loop μ-loop
-returns-2 c = adding-done (c .if1 .left) (c .before .sequence-here .ensures) (c .before .before .loop .inv)
+returns-2 c = adding-done (c .if1 .left) (c .before .child-here .ensures) (c .before .before .loop .inv)
 
 pub judge-sequences-spec : {M : Type 1} → statement M
 judge-sequences-spec =
@@ -70,7 +69,7 @@ judge-sequences-spec =
     μ-loop
     no-sequences-requires
     loop-holds
-    sequence-here-requires
+    child-here-requires
     plus-requires
     judge-sequence-requires
     returns

@@ -22,11 +22,11 @@ slice-aggregate-leaf c = search needs
 leaf-requires : tie.Need-leaf-requires
 leaf-requires c κs = search needs
 
-slice-aggregate-leaf-maybe-2 : tie.Need-slice-aggregate-leaf-maybe-2
-slice-aggregate-leaf-maybe-2 c = search needs
+slice-aggregate-last-leaf : tie.Need-slice-aggregate-last-leaf
+slice-aggregate-last-leaf c = search needs
 
-leaf-maybe-requires-2 : tie.Need-leaf-maybe-requires-2
-leaf-maybe-requires-2 c κs = search needs
+last-leaf-requires : tie.Need-last-leaf-requires
+last-leaf-requires c κs = search needs
 
 leave-requires : tie.Need-leave-requires
 leave-requires c κs = search needs
@@ -37,7 +37,7 @@ returns c =
     let enter = c .before .before .before .before .before .before .before .enter in
     let leaf-maybe = c .before .before .before .before .before .leaf-maybe in
     identification-found (tag .ensures) (enter .ensures) (leaf-maybe .ensures) (c .before .before .before .leaf .ensures)
-    (c .before .leaf-maybe2 .ensures) (c .leave .ensures)
+    (c .before .last-leaf .ensures) (c .leave .ensures)
 
 pub identification-spec : {M : Type 1} → statement M
 identification-spec =
@@ -49,7 +49,7 @@ identification-spec =
     leaf-maybe-requires
     slice-aggregate-leaf
     leaf-requires
-    slice-aggregate-leaf-maybe-2
-    leaf-maybe-requires-2
+    slice-aggregate-last-leaf
+    last-leaf-requires
     leave-requires
     returns)

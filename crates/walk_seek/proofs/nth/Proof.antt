@@ -4,7 +4,6 @@ use Prim.Native.Nat.{_-_}
 use native.Mathlib.Omega.{arith}
 use denote.Ref.{now}
 use lib.ListN.{length}
-use Rattle.walk_steps.proofs.Loops.{there-inside}
 use Rattle.walk_seek.specs.Items.{nameOf}
 use Rattle.walk_seek.proofs.Ahead.{Ahead, none-zero, ahead-all, ahead-none, ahead-here, ahead-next, ahead-stuck}
 use borrow.Author.Needs.{needs}
@@ -26,13 +25,13 @@ sub-ahead c = search needs
 loop-holds : tie.Need-loop-holds Inv-loop μ-loop
 loop-holds c = ahead-all (c .before .before .args .item) (omega (arith, c .if1 .left))
 
-item-here-requires : tie.Need-item-here-requires Inv-loop μ-loop
-item-here-requires c κs = search needs
+child-here-requires : tie.Need-child-here-requires Inv-loop μ-loop
+child-here-requires c κs = search needs
 
 returns-2 : tie.Need-returns-2 Inv-loop μ-loop
 returns-2 c =
     let args = c .before .before .before .before .before .before .args in
-    ahead-here (args .item) (c .before .before .item-here .ensures) (c .before .before .before .loop .inv) (c .before .if2 .taken)
+    ahead-here (args .item) (c .before .before .child-here .ensures) (c .before .before .before .loop .inv) (c .before .if2 .taken)
     (c .if3 .taken)
 
 item-over-requires : tie.Need-item-over-requires Inv-loop μ-loop
@@ -42,7 +41,7 @@ returns-3 : tie.Need-returns-3 Inv-loop μ-loop
 returns-3 c =
     let args = c .before .before .before .before .before .before .before .before .args in
     let loop' = c .before .before .before .before .before .loop in
-    ahead-stuck (args .item) (c .before .before .before .before .item-here .ensures) (loop' .inv) (c .before .before .before .if2 .taken)
+    ahead-stuck (args .item) (c .before .before .before .before .child-here .ensures) (loop' .inv) (c .before .before .before .if2 .taken)
     (c .before .item-over .ensures) (c .if4 .taken)
 
 sub-ahead-2 : tie.Need-sub-ahead-2 Inv-loop μ-loop
@@ -53,19 +52,19 @@ loop-less c =
     let args = c .before .before .before .before .before .before .before .before .args in
     let loop' = c .before .before .before .before .before .loop in
     omega
-    (arith, there-inside 60 (nameOf (args .item)) (now (args .s)) (loop' .at) (c .before .before .before .if2 .taken) (c .before .before .before .before .item-here .ensures))
+    (arith, c .before .before .before .before .child-here .ensures .inside (c .before .before .before .if2 .taken))
 
 loop-again : tie.Need-loop-again Inv-loop μ-loop
 loop-again c =
     let args = c .before .before .before .before .before .before .before .before .args in
     let loop' = c .before .before .before .before .before .loop in
-    ahead-next (args .item) (c .before .before .before .before .item-here .ensures) (loop' .inv) (c .before .before .before .if2 .taken)
+    ahead-next (args .item) (c .before .before .before .before .child-here .ensures) (loop' .inv) (c .before .before .before .if2 .taken)
     (c .before .item-over .ensures) (omega (arith, c .before .before .if3 .left))
 
 returns-4 : tie.Need-returns-4 Inv-loop μ-loop
 returns-4 c =
     let args = c .before .before .before .before .before .args in
-    ahead-none (args .item) (c .before .item-here .ensures) (c .before .before .loop .inv) (c .if2 .left)
+    ahead-none (args .item) (c .before .child-here .ensures) (c .before .before .loop .inv) (c .if2 .left)
 
 pub nth-spec : {M : Type 1} → statement M
 nth-spec =
@@ -76,7 +75,7 @@ nth-spec =
     returns
     sub-ahead
     loop-holds
-    item-here-requires
+    child-here-requires
     returns-2
     item-over-requires
     returns-3
