@@ -1,8 +1,6 @@
 -- What is promised of one translation that is written.
 use Prim.Native.Nat.{ℕ}
 use mathlib.Core.List.{List}
-use Rattle.paper.specs.Bytes.{bytes}
-use Rattle.paper.specs.Layout.{feature}
 use Rattle.paper.specs.Tree.{Sequence, Feature}
 use Rattle.paper.specs.Answers.{Outcome, Translates, Lent}
 use Rattle.walk_items.specs.Items.{IsFeature}

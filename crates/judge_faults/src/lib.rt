@@ -21,12 +21,22 @@ pub struct Known {
     pub residues: Range,
 }
 
+// The same fault, made anew: the unused bytes of one that is handed on are copied too, and the processor waits for them.
+pub fn anew(a: Fault) -> Fault
+    ensures { λ r. ⌜ r ≡ a ⌝ }
+{
+    match a {
+        Fault::Clean => Fault::Clean,
+        Fault::At { rule, place } => Fault::At { rule, place },
+    }
+}
+
 // The earlier of two faults.
 pub fn earlier(a: Fault, b: Fault) -> Fault
     ensures { λ r. ⌜ Earlier a b r ⌝ }
 {
     let Fault::At { rule: n, place: p } = a else {
-        return b;
+        return anew(b);
     };
     let Fault::At { rule: m, place: q } = b else {
         return Fault::At { rule: n, place: p };

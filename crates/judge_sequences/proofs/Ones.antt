@@ -8,7 +8,6 @@ use mathlib.Core.List.{List}
 use mathlib.Core.Option.{Option, none, some}
 use lib.ListN.{length}
 use Rattle.paper.specs.Lists.{Count, end}
-use Rattle.paper.specs.Layout.{sequence}
 use Rattle.paper.specs.Tree.{Sequence, Table, featuresIn}
 use Rattle.paper.specs.Values.{Number}
 use Rattle.paper.specs.Rules.{Skipped, InTexts, InTable, InSequence, rule-15, rule-29, texts, table, Empty}

@@ -2,9 +2,9 @@
 use Prim.Native.Nat.{ℕ, zero, suc, _≤_, _<_}
 use native.Mathlib.Decide.{ℕ-discrete}
 use native.Mathlib.Omega.{arith}
-use mathlib.Core.Path.{_≡_, refl, sym, ap, _∙_, subst, subst₂}
+use mathlib.Core.Path.{_≡_, refl, sym, _∙_, subst, subst₂}
 use mathlib.Core.Bool.{Bool, true, false, true≢false, cond}
-use mathlib.Core.Logic.{_⊎_, inl, inr}
+use mathlib.Core.Logic.{inl, inr}
 use mathlib.Core.List.{List, [], _∷_}
 use lib.ListN.{length}
 use Rattle.paper.specs.Lists.{_∈_}
@@ -18,7 +18,6 @@ use Rattle.value_words.specs.Reading.{Tells}
 use Rattle.value_words.specs.declared.Molecule.{Molecule}
 use Rattle.value_words.specs.declared.Molecule.the-variants as kind
 use Rattle.value_vocabulary.specs.Tables.{standingIn, standingOf, Few, needsAt}
-use Rattle.value_vocabulary.specs.Lookups.{RowStands}
 use Rattle.value_vocabulary.proofs.InRow.{standing-none, standing-some, first-stands, stands-first, second-stands, stands-second}
 use Rattle.judge_faults.specs.Sets.{Faults, Firsts, Some, Earlier, unlessOf}
 use Rattle.judge_faults.specs.declared.Fault.{Fault}

@@ -2,7 +2,7 @@
 use Prim.Native.Nat.{ℕ}
 use native.Mathlib.Omega.{arith}
 use mathlib.Core.Path.{_≡_, refl, sym, ap, _∙_, subst}
-use mathlib.Core.Bool.{Bool, true, false, _&&_, cond, and-eq-true-iff, true≢false}
+use mathlib.Core.Bool.{Bool, true, false, cond, and-eq-true-iff, true≢false}
 use mathlib.Core.List.{List, [], _∷_, _++_, append-assoc, cons≢nil}
 use lib.ListN.{getD, drop}
 use lib.Dec.{eqb}

@@ -7,7 +7,7 @@ use mathlib.Core.List.{List, [], _∷_, _++_}
 use Rattle.paper.specs.Bytes.{bytes, isBlank}
 use Rattle.paper.specs.Form.{Form, _·_, _∪_, maybe}
 use Rattle.paper.specs.Tree.{Text, Spoken, Party, Identification, Heading, reference, application, Sequence}
-use Rattle.paper.specs.Layout.{tag, attribute, leaf, spoken, child, child?, holding, identification, heading, party, sequence, attributes, root}
+use Rattle.paper.specs.Layout.{tag, attribute, leaf, spoken, child, child?, holding, identification, heading, party, sequence}
 use Rattle.paper.proofs.Forms.{ev-these, Evers, evs-both, evs-after}
 use Rattle.read_steps.specs.Reads.{Reads, Passes, Tried, stayed}
 use Rattle.read_steps.specs.Follow.{Not, Starts, StandsBefore, anything, closing}

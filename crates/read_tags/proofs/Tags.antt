@@ -16,7 +16,7 @@ use Rattle.read_steps.specs.Follow.{Not, Starts, first, anything, skip, clashes
 use Rattle.read_steps.specs.Texts.{allowedIn, isText}
 use Rattle.read_steps.specs.declared.Step.{Step}
 use Rattle.read_steps.specs.declared.Step.the-variants.{Ok, Fail}
-use Rattle.read_steps.proofs.Steps.{as-reads, as-reads-at, before, seq, pass-then, then-pass, either-first, either-second, skip-tried, stop, more, onwards, failed}
+use Rattle.read_steps.proofs.Steps.{as-reads, as-reads-at, seq, pass-then, then-pass, either-first, either-second, skip-tried, stop, more, onwards, failed}
 use Rattle.read_steps.proofs.Fronts.{Leads, leads-these, leads-all, leads-seq, leads-starts, leads-sharp, leads-long, leads-by, LeadsBy, whole, StartsBy, starts-sharp, skip-gap, skip-none, maybe-starts, each-starts, not-there}
 use Rattle.read_steps.proofs.Letters.{ev-text, sole-text}
 use Rattle.read_steps.proofs.Soles.{Sole, Sure, sure-these, sure-one, sure-run, sure-seq, sole-seq, sole-then, sole-after, sole-before, sole-or, sole-maybe, sole-each, sole-some}

@@ -2,9 +2,7 @@
 -- is what is left of the text.
 use Prim.Native.Nat.{_-_}
 use native.Mathlib.Omega.{arith}
-use denote.Ref.{now}
 use lib.ListN.{length}
-use Rattle.paper.specs.Bytes.{bytes}
 use Rattle.ask_translations.proofs.Sizes.{Sizing, sizing-none, sizing-more, sizing-stuck, sizing-done}
 use borrow.Author.Needs.{needs}
 use Rattle.ask_translations.proofs.lines_size.Statement.{statement}
@@ -42,8 +40,6 @@ both-requires c κs = search needs
 
 loop-less : tie.Need-loop-less Inv-loop μ-loop
 loop-less c =
-    let args = c .before .before .before .before .before .before .before .before .before .args in
-    let loop' = c .before .before .before .before .before .before .before .loop in
     let child-here = c .before .before .before .before .before .before .child-here in
     let if1 = c .before .before .before .before .before .if1 in
     omega (arith, child-here .ensures .inside (if1 .taken))

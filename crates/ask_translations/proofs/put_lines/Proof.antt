@@ -2,9 +2,7 @@
 -- fit. The measure is what is left of the text.
 use Prim.Native.Nat.{_-_}
 use native.Mathlib.Omega.{arith}
-use denote.Ref.{now}
 use lib.ListN.{length}
-use Rattle.paper.specs.Bytes.{bytes}
 use Rattle.ask_translations.proofs.Puts.{Putting, putting-none, putting-within, putting-more, putting-stuck, putting-done}
 use borrow.Author.Needs.{needs}
 use Rattle.ask_translations.proofs.put_lines.Statement.{statement}
@@ -65,8 +63,6 @@ add-end c =
 
 loop-less : tie.Need-loop-less Inv-loop μ-loop
 loop-less c =
-    let args = c .before .before .before .before .before .before .before .before .before .before .before .before .args in
-    let loop' = c .before .before .before .before .before .before .before .before .before .loop in
     let child-here = c .before .before .before .before .before .before .before .before .child-here in
     let if1 = c .before .before .before .before .before .before .before .if1 in
     omega (arith, child-here .ensures .inside (if1 .taken))

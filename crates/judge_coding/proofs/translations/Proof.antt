@@ -2,9 +2,7 @@
 -- left of the text.
 use Prim.Native.Nat.{_-_}
 use native.Mathlib.Omega.{arith}
-use denote.Ref.{now}
 use lib.ListN.{length}
-use Rattle.paper.specs.Bytes.{bytes}
 use Rattle.protein_code.specs.Tables.{codeOf}
 use Rattle.judge_coding.proofs.Rights.{Checking, checking-none, checking-next, checking-stuck, checking-done}
 use borrow.Author.Needs.{needs}
@@ -39,8 +37,6 @@ check-requires c κs =
 
 loop-less : tie.Need-loop-less Inv-loop μ-loop
 loop-less c =
-    let args = c .before .before .before .before .before .before .before .before .before .before .args in
-    let loop' = c .before .before .before .before .before .before .loop in
     let child-here = c .before .before .before .before .before .child-here in
     omega
     (arith, child-here .ensures .inside (c .before .before .before .before .if1 .taken))

@@ -12,8 +12,11 @@ enum-known-a c = search needs
 enum-told : tie.Need-enum-told
 enum-told c = search needs
 
+anew-requires : tie.Need-anew-requires
+anew-requires c κs = search needs
+
 returns : tie.Need-returns
-returns c = rw (c .enum-told .given .1) refl
+returns c = rw (c .before .enum-told .given .1) (c .anew .ensures)
 
 enum-known-b : tie.Need-enum-known-b
 enum-known-b c = search needs
@@ -50,6 +53,7 @@ earlier-spec =
     (tie.spec
     enum-known-a
     enum-told
+    anew-requires
     returns
     enum-known-b
     enum-told-2

@@ -2,9 +2,7 @@
 -- of the text.
 use Prim.Native.Nat.{_-_}
 use native.Mathlib.Omega.{arith}
-use denote.Ref.{now}
 use lib.ListN.{length}
-use Rattle.paper.specs.Bytes.{bytes}
 use Rattle.judge_features.proofs.Sums.{Adding, adding-none, adding-more, adding-stuck, adding-done}
 use borrow.Author.Needs.{needs}
 use Rattle.judge_features.proofs.judge_features.Statement.{statement}
@@ -38,14 +36,11 @@ add-requires c κs = search needs
 
 loop-less : tie.Need-loop-less Inv-loop μ-loop
 loop-less c =
-    let args = c .before .before .before .before .before .before .before .before .args in
-    let loop' = c .before .before .before .before .before .loop in
     omega
     (arith, c .before .before .before .before .child-here .ensures .inside (c .before .before .before .if1 .taken))
 
 loop-again : tie.Need-loop-again Inv-loop μ-loop
 loop-again c =
-    let args = c .before .before .before .before .before .before .before .before .args in
     let loop' = c .before .before .before .before .before .loop in
     adding-more (c .before .before .before .if1 .taken) (c .before .before .before .before .child-here .ensures) (loop' .inv)
     (c .before .before .judge-feature .ensures)

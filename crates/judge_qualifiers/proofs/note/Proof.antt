@@ -5,7 +5,6 @@ use native.Mathlib.Omega.{arith}
 use mathlib.Core.Path.{subst}
 use denote.Ref.{now}
 use lib.ListN.{length}
-use Rattle.paper.specs.Bytes.{bytes}
 use Rattle.judge_qualifiers.specs.Qualifiers.{WithWord}
 use Rattle.judge_qualifiers.proofs.Noting.{Noting, noting-none, noting-next, noting-stuck, noting-done}
 use borrow.Author.Needs.{needs}
@@ -73,8 +72,6 @@ kept-requires c κs = search needs
 
 loop-less : tie.Need-loop-less Inv-loop μ-loop
 loop-less c =
-    let args = c .before .before .before .before .before .before .before .before .before .before .before .before .before .before .before .before .before .before .before .args in
-    let loop' = c .before .before .before .before .before .before .before .before .before .before .before .before .before .before .before .before .before .loop in
     let child-here = c .before .before .before .before .before .before .before .before .before .before .before .before .before .before .before .before .child-here in
     let if1 = c .before .before .before .before .before .before .before .before .before .before .before .before .before .before .before .if1 in
     omega (arith, child-here .ensures .inside (if1 .taken))

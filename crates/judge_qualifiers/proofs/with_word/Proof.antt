@@ -1,5 +1,4 @@
 -- `judge_qualifiers::with_word` meets its contract.
-use mathlib.Core.Path.{sym}
 use Rattle.judge_qualifiers.proofs.Words.{word-foreign, word-passed}
 use borrow.Author.Needs.{needs}
 use Rattle.judge_qualifiers.proofs.with_word.Statement.{statement}

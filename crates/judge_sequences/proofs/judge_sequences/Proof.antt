@@ -2,9 +2,7 @@
 -- left of the text.
 use Prim.Native.Nat.{_-_}
 use native.Mathlib.Omega.{arith}
-use denote.Ref.{now}
 use lib.ListN.{length}
-use Rattle.paper.specs.Bytes.{bytes}
 use Rattle.judge_sequences.proofs.Totals.{Adding, adding-none, adding-more, adding-stuck, adding-done}
 use borrow.Author.Needs.{needs}
 use Rattle.judge_sequences.proofs.judge_sequences.Statement.{statement}
@@ -42,15 +40,12 @@ add-requires c κs = search needs
 
 loop-less : tie.Need-loop-less Inv-loop μ-loop
 loop-less c =
-    let args = c .before .before .before .before .before .before .before .before .before .args in
-    let loop' = c .before .before .before .before .before .before .loop in
     let child-here = c .before .before .before .before .before .child-here in
     omega
     (arith, child-here .ensures .inside (c .before .before .before .before .if1 .taken))
 
 loop-again : tie.Need-loop-again Inv-loop μ-loop
 loop-again c =
-    let args = c .before .before .before .before .before .before .before .before .before .args in
     let loop' = c .before .before .before .before .before .before .loop in
     let child-here = c .before .before .before .before .before .child-here in
     adding-more (c .before .before .before .before .if1 .taken) (child-here .ensures) (loop' .inv)

@@ -2,9 +2,7 @@
 -- `ahead` of it. The measure is what is left of the text.
 use Prim.Native.Nat.{_-_}
 use native.Mathlib.Omega.{arith}
-use denote.Ref.{now}
 use lib.ListN.{length}
-use Rattle.walk_seek.specs.Items.{nameOf}
 use Rattle.walk_seek.proofs.Ahead.{Ahead, none-zero, ahead-all, ahead-none, ahead-here, ahead-next, ahead-stuck}
 use borrow.Author.Needs.{needs}
 use Rattle.walk_seek.proofs.nth.Statement.{statement}
@@ -49,8 +47,6 @@ sub-ahead-2 c = search needs
 
 loop-less : tie.Need-loop-less Inv-loop μ-loop
 loop-less c =
-    let args = c .before .before .before .before .before .before .before .before .args in
-    let loop' = c .before .before .before .before .before .loop in
     omega
     (arith, c .before .before .before .before .child-here .ensures .inside (c .before .before .before .if2 .taken))
 
