@@ -2,6 +2,7 @@
 // its translations, the values, the judged location and the comparison with the translation.
 use judge_faults::Fault;
 use judge_faults::Known;
+use judge_faults::anew;
 use judge_faults::earlier;
 use judge_qualifiers::Frame;
 use judge_qualifiers::Noted;
@@ -155,7 +156,7 @@ fn translations(
                 fault: least,
                 right: known,
             } = check(s, r, loc, top, start, name, value, fault, right, code);
-            fault = least;
+            fault = anew(least);
             right = known;
             at = next;
         } else {

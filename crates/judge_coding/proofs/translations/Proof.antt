@@ -35,18 +35,21 @@ check-requires c κs =
     let pre' = c .before .before .before .before .before .before .before .before .before .pre in
     pre'
 
+anew-requires : tie.Need-anew-requires Inv-loop μ-loop
+anew-requires c κs = search needs
+
 loop-less : tie.Need-loop-less Inv-loop μ-loop
 loop-less c =
-    let child-here = c .before .before .before .before .before .child-here in
-    omega
-    (arith, child-here .ensures .inside (c .before .before .before .before .if1 .taken))
+    let child-here = c .before .before .before .before .before .before .child-here in
+    omega (arith, child-here .ensures .inside (c .before .before .before .before .before .if1 .taken))
 
 loop-again : tie.Need-loop-again Inv-loop μ-loop
 loop-again c =
-    let loop' = c .before .before .before .before .before .before .loop in
-    let child-here = c .before .before .before .before .before .child-here in
-    checking-next (child-here .ensures) (loop' .inv) (c .before .before .before .before .if1 .taken)
-    (c .before .before .before .qualifier .ensures) (c .check .ensures)
+    let loop' = c .before .before .before .before .before .before .before .loop in
+    let child-here = c .before .before .before .before .before .before .child-here in
+    rw (c .anew .ensures)
+    (checking-next (child-here .ensures) (loop' .inv) (c .before .before .before .before .before .if1 .taken)
+    (c .before .before .before .before .qualifier .ensures) (c .before .check .ensures))
 
 returns-2 : tie.Need-returns-2 Inv-loop μ-loop
 returns-2 c = checking-done (c .before .child-here .ensures) (c .before .before .loop .inv) (c .if1 .left)
@@ -62,6 +65,7 @@ translations-spec =
     qualifier-requires
     returns
     check-requires
+    anew-requires
     loop-less
     loop-again
     returns-2)
