@@ -15,7 +15,7 @@ ghost use Rattle.read_steps.specs.declared.Step.the-variants.{Ok};
 ghost use Rattle.read_steps.specs.Parts.{ShowsBytes};
 ghost use Rattle.read_steps.specs.Reads.{Reads, Passes, AtEnd, raised, chosen, stayed};
 ghost use Rattle.read_steps.specs.Follow.{Not, anything, nothing};
-ghost use Rattle.read_steps.specs.Words.{Eight};
+ghost use Rattle.read_steps.specs.Words.{Eight, Four};
 ghost use Rattle.read_steps.specs.Texts.{allowedIn, isPlain, isText, letter, One, ClassTable, Scanned, Passed, Below, Odd, Block};
 
 // The cursor of a listing, how far a reading got: `next` is where the next part starts, `far` the furthest place to which some layout
@@ -122,13 +122,21 @@ fn eight(s: &[u8], at: usize) -> u64
         + 281_474_976_710_656 * two(s[at + 6], s[at + 7])
 }
 
-// Whether the word x stands here, eight bytes at a time: only a yes says so, and a word of less than eight bytes gets a quick no. The last
-// eight may overlap.
+// Four bytes so.
+fn four(s: &[u8], at: usize) -> u64
+    requires { ⌜ at + 4 ≤ length (now s) ⌝ }
+    ensures { λ r. ⌜ Four (now (s .entry)) at r ⌝ }
+{
+    two(s[at], s[at + 1]) + 65_536 * two(s[at + 2], s[at + 3])
+}
+
+// Whether the word x stands here, eight bytes at a time, or four where it has less: only a yes says so, and a word of less than four bytes
+// gets a quick no. The last eight or four may overlap.
 pub fn stands(s: &[u8], at: usize, x: &[u8]) -> bool
     ensures { λ r. ⌜ (r ≡ true → StandsAt (now (x .entry)) (now (s .entry)) at) ⌝ }
 {
     let n = x.len();
-    if n < 8 {
+    if n < 4 {
         return false;
     }
     if s.len() < at {
@@ -136,6 +144,12 @@ pub fn stands(s: &[u8], at: usize, x: &[u8]) -> bool
     }
     if s.len() - at < n {
         return false;
+    }
+    if n < 8 {
+        if four(s, at) != four(x, 0) {
+            return false;
+        }
+        return four(s, at + (n - 4)) == four(x, n - 4);
     }
     let mut i: usize = 0;
     while 8 < n - i {
