@@ -1,4 +1,4 @@
--- The table's rule, from a few equations that antt computes over the whole table: one for each dictionary, one for the rows of each kind.
+-- The rule of the keys, from one equation for the rows of each kind, that antt computes over the whole table.
 use Prim.Native.Nat.{ℕ, zero, suc, _+_, _*_, _-_, _/_, _%_, _^_, _≤_, _<_}
 use native.Mathlib.Omega.{arith}
 use mathlib.Core.Path.{_≡_, refl, sym, ap, _∙_, subst}
@@ -14,42 +14,8 @@ use Rattle.paper.specs.Lists.{_∈_}
 use Rattle.paper.specs.Vocabulary.{Row, counted}
 use Rattle.paper.proofs.Tables.{listed, each-same, each-element}
 use Rattle.paper.proofs.Texts.{same-is, same-self}
-use Rattle.value_vocabulary.specs.Tables.{byteOf, pairOf, slotOf, startOf, Dictionary, nameTexts, standingOf, needsAt, crumbAt, HasRow, keyTexts, RowFor, Keys}
-
--- ---- dictionaries
-
--- what stands in the table for the text w of number k, and what should
-abbrev pub entryOf : (factor mask : ℕ) → List ℕ → ℕ → List ℕ → List ℕ
-entryOf factor mask t k w =
-    (2 - length w) ∷ byteOf t (slotOf factor mask w) ∷ startOf mask t (k + 1) ∷ take (length w) (drop (startOf mask t k) t)
-
-abbrev pub wantedOf : (mask : ℕ) → List ℕ → ℕ → List ℕ → List ℕ
-wantedOf mask t k w = 0 ∷ k ∷ (startOf mask t k + length w) ∷ w
-
-module _ (factor mask : ℕ) (l : List (List ℕ)) (t : List ℕ) where
-  abbrev pub EntriesTest : Type 0
-  EntriesTest =
-      listed (λ (k : ℕ). entryOf factor mask t k (getD l k [])) 0 (length l) ≡ listed (λ (k : ℕ). wantedOf mask t k (getD l k [])) 0 (length l)
-
-  abbrev pub SlotsTest : Type 0
-  SlotsTest = listed (λ (i : ℕ). byteOf t i + 1 - length l) 0 (mask + 1) ≡ listed (λ (i : ℕ). 0) 0 (mask + 1)
-
-  pub dictionary-right : length l ≤ 255 → SlotsTest → EntriesTest → Dictionary factor mask l t
-  dictionary-right few slots test =
-      record {
-        few = few;
-        full = λ i h. omega (arith, each-same (λ (i : ℕ). byteOf t i + 1 - length l) (λ (i : ℕ). 0) (mask + 1) slots i (omega (arith, h)));
-        long = λ k h. omega (arith, part 0 k h);
-        slot = part 1;
-        size = part 2;
-        text = λ k h. ap (λ (x : List ℕ). drop 3 x) (at k h);
-      }
-    where
-      at : (k : ℕ) → k < length l → entryOf factor mask t k (getD l k []) ≡ wantedOf mask t k (getD l k [])
-      at = each-same (λ (k : ℕ). entryOf factor mask t k (getD l k [])) (λ (k : ℕ). wantedOf mask t k (getD l k [])) (length l) test
-
-      part : (i k : ℕ) → k < length l → getD (entryOf factor mask t k (getD l k [])) i 0 ≡ getD (wantedOf mask t k (getD l k [])) i 0
-      part i k h = ap (λ (x : List ℕ). getD x i 0) (at k h)
+use Rattle.value_dictionary.specs.Texts.{pairOf, Dictionary}
+use Rattle.value_vocabulary.specs.Tables.{nameTexts, standingOf, needsAt, crumbAt, keyTexts, RowFor, Keys}
 
 -- ---- the rows of the keys
 

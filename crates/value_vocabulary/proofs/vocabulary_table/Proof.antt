@@ -3,7 +3,8 @@ use native.Mathlib.Omega.{arith}
 use mathlib.Core.Path.{refl}
 use mathlib.Core.Bool.{true, false}
 use Rattle.paper.specs.Vocabulary.{nucleotideRows, aminoRows}
-use Rattle.value_vocabulary.proofs.Right.{dictionary-right, keys-right}
+use Rattle.value_dictionary.proofs.Right.{dictionary-right}
+use Rattle.value_vocabulary.proofs.Right.{keys-right}
 use Rattle.value_vocabulary.proofs.vocabulary_table.Statement.{statement}
 use Rattle.value_vocabulary.proofs.vocabulary_table.Tie as tie
 
