@@ -122,21 +122,13 @@ fn eight(s: &[u8], at: usize) -> u64
         + 281_474_976_710_656 * two(s[at + 6], s[at + 7])
 }
 
-// Four bytes so.
-fn four(s: &[u8], at: usize) -> u64
-    requires { ⌜ at + 4 ≤ length (now s) ⌝ }
-    ensures { λ r. ⌜ Four (now (s .entry)) at r ⌝ }
-{
-    two(s[at], s[at + 1]) + 65_536 * two(s[at + 2], s[at + 3])
-}
-
-// Whether the word x stands here, eight bytes at a time, or four where it has less: only a yes says so, and a word of less than four bytes
-// gets a quick no. The last eight or four may overlap.
+// Whether the word x stands here, eight bytes at a time: only a yes says so, and a word of less than eight bytes gets a quick no. The last
+// eight may overlap.
 pub fn stands(s: &[u8], at: usize, x: &[u8]) -> bool
     ensures { λ r. ⌜ (r ≡ true → StandsAt (now (x .entry)) (now (s .entry)) at) ⌝ }
 {
     let n = x.len();
-    if n < 4 {
+    if n < 8 {
         return false;
     }
     if s.len() < at {
@@ -144,12 +136,6 @@ pub fn stands(s: &[u8], at: usize, x: &[u8]) -> bool
     }
     if s.len() - at < n {
         return false;
-    }
-    if n < 8 {
-        if four(s, at) != four(x, 0) {
-            return false;
-        }
-        return four(s, at + (n - 4)) == four(x, n - 4);
     }
     let mut i: usize = 0;
     while 8 < n - i {
@@ -159,6 +145,38 @@ pub fn stands(s: &[u8], at: usize, x: &[u8]) -> bool
         i += 8;
     }
     eight(s, at + (n - 8)) == eight(x, n - 8)
+}
+
+// Four bytes as one number.
+fn four(s: &[u8], at: usize) -> u64
+    requires { ⌜ at + 4 ≤ length (now s) ⌝ }
+    ensures { λ r. ⌜ Four (now (s .entry)) at r ⌝ }
+{
+    two(s[at], s[at + 1]) + 65_536 * two(s[at + 2], s[at + 3])
+}
+
+// The same of a word of four to eight bytes: the last four may overlap the first. In a function of its own: with it in `stands`, `word`
+// is no longer inlined.
+pub fn stands_short(s: &[u8], at: usize, x: &[u8]) -> bool
+    ensures { λ r. ⌜ (r ≡ true → StandsAt (now (x .entry)) (now (s .entry)) at) ⌝ }
+{
+    let n = x.len();
+    if n < 4 {
+        return false;
+    }
+    if 8 < n {
+        return false;
+    }
+    if s.len() < at {
+        return false;
+    }
+    if s.len() - at < n {
+        return false;
+    }
+    if four(s, at) != four(x, 0) {
+        return false;
+    }
+    four(s, at + (n - 4)) == four(x, n - 4)
 }
 
 // The word x, as `lit` reads it: eight bytes at a time, and where it isn't there `lit` tells how far it goes.

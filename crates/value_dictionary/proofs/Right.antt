@@ -1,7 +1,7 @@
 -- A dictionary's rule, from two tests that antt computes over the whole table: of its slots, and of its texts.
 use Prim.Native.Nat.{ℕ, zero, suc, _+_, _-_, _/_, _%_, _≤_, _<_}
 use native.Mathlib.Omega.{arith}
-use mathlib.Core.Path.{_≡_, refl, sym, ap, _∙_}
+use mathlib.Core.Path.{_≡_, sym, ap, _∙_}
 use mathlib.Core.Bool.{Bool, true, false, true≢false, _&&_, and-eq-true-iff}
 use mathlib.Core.List.{List, [], _∷_}
 use lib.ListN.{length, getD, take, drop}
@@ -9,7 +9,7 @@ use lib.Dec.{ltb}
 use borrow.Author.Tests.{ltb-true}
 use Rattle.paper.specs.Bytes.{same}
 use Rattle.paper.proofs.Texts.{same-is}
-use Rattle.value_dictionary.specs.Texts.{byteOf, slotOf, entryOf, textOf, Dictionary}
+use Rattle.value_dictionary.specs.Texts.{byteOf, slotOf, entryOf, Dictionary}
 
 -- a test of each element and its number, from i on. It computes to `true` in half the time that an equation of two lists takes
 abbrev pub allFrom : {A : Type 0} → (ℕ → A → Bool) → ℕ → List A → Bool

@@ -1,8 +1,9 @@
-// A lent dictionary: the number of a text among those that it has, by one slot and one comparison, eight bytes at a time where it is long.
+// A lent dictionary: the number of a text among those that it has, by one slot and one comparison, eight or four bytes at a time.
 // A dictionary is a part of a lent table, from a place on: a slot for each hash, with a text's number; where each text starts and how long
 // it is, in two bytes; the texts. Which texts they are, this crate doesn't know. Relies on the bytes and steps of reading.
 use read_bytes::begins;
 use read_steps::stands;
+use read_steps::stands_short;
 ghost use mathlib.Core.Path.{_≡_};
 ghost use Prim.Native.Nat.{_+_, _<_, _≤_};
 ghost use lib.ListN.{length, drop};
@@ -54,6 +55,9 @@ pub fn find(w: &[u8], t: &[u8], base: usize, factor: usize, mask: usize) -> usiz
     }
     let from = base + entry / 32;
     if stands(t, from, w) {
+        return k;
+    }
+    if stands_short(t, from, w) {
         return k;
     }
     if begins(t, from, w) {

@@ -2,8 +2,8 @@
 -- left of the word.
 use borrow.Author.Needs.{needs}
 use Rattle.read_bytes.proofs.Words.{Alike, alike-none, alike-stands}
-use Rattle.read_steps.specs.Words.{Eight, Four}
-use Rattle.read_steps.proofs.Words.{eight-once, four-once, first-four, alike-more}
+use Rattle.read_steps.specs.Words.{Eight}
+use Rattle.read_steps.proofs.Words.{eight-once, alike-more}
 use lib.ListN.{length}
 use denote.Ref.{now}
 use borrow.Author.Tests.{eqb-true}
@@ -32,36 +32,10 @@ sub-if3 c = search needs
 returns-3 : tie.Need-returns-3 Inv-loop μ-loop
 returns-3 c = λ e. absurd (true≢false (sym e))
 
-four-requires : tie.Need-four-requires Inv-loop μ-loop
-four-requires c κs = search needs
-
-four-requires-2 : tie.Need-four-requires-2 Inv-loop μ-loop
-four-requires-2 c κs = search needs
-
-returns-4 : tie.Need-returns-4 Inv-loop μ-loop
-returns-4 c = λ e. absurd (true≢false (sym e))
-
-add-four : tie.Need-add-four Inv-loop μ-loop
-add-four c = search needs
-
-four-requires-3 : tie.Need-four-requires-3 Inv-loop μ-loop
-four-requires-3 c κs = search needs
-
-four-requires-4 : tie.Need-four-requires-4 Inv-loop μ-loop
-four-requires-4 c κs = search needs
-
-returns-5 : tie.Need-returns-5 Inv-loop μ-loop
-returns-5 c =
-    λ e.
-    let a = c .before .before .before .before .before .before .before .before .before .before .before .args in
-    let f = subst (Four (now (a .s)) _) (c .before .before .if5 .left) (c .before .before .before .before .four .ensures) in
-    let g = subst (Four (now (a .s)) _) (eqb-true _ _ e) (c .before .four3 .ensures) in
-    let y = first-four (now (a .x)) (now (a .s)) (a .at) f (c .before .before .before .four2 .ensures) in
-    let z = alike-more (now (a .x)) (now (a .s)) (a .at) y (four-once g (c .four4 .ensures)) (omega arith) in
-    alike-stands (now (a .x)) (now (a .s)) (a .at) (omega arith) (subst (Alike (now (a .x)) (now (a .s)) (a .at)) (omega arith) z)
-
 loop-holds : tie.Need-loop-holds Inv-loop μ-loop
-loop-holds c = let args = c .before .before .before .before .before .before .args in (omega arith, alike-none (now (args .x)) (now (args .s)) (args .at))
+loop-holds c =
+    let args = c .before .before .before .before .before .args in
+    (omega arith, alike-none (now (args .x)) (now (args .s)) (args .at))
 
 sub-loop : tie.Need-sub-loop Inv-loop μ-loop
 sub-loop c = search needs
@@ -75,8 +49,8 @@ eight-requires c κs = search needs
 eight-requires-2 : tie.Need-eight-requires-2 Inv-loop μ-loop
 eight-requires-2 c κs = search needs
 
-returns-6 : tie.Need-returns-6 Inv-loop μ-loop
-returns-6 c = λ e. absurd (true≢false (sym e))
+returns-4 : tie.Need-returns-4 Inv-loop μ-loop
+returns-4 c = λ e. absurd (true≢false (sym e))
 
 add-i : tie.Need-add-i Inv-loop μ-loop
 add-i c = search needs
@@ -85,10 +59,9 @@ loop-less : tie.Need-loop-less Inv-loop μ-loop
 loop-less c = search needs
 
 loop-again : tie.Need-loop-again Inv-loop μ-loop
-loop-again c =
-    let l = c .before .before .before .before .loop in
-    let a = c .before .before .before .before .before .before .before .before .before .before .before .args in
-    let e = subst (Eight (now (a .s)) (a .at + l .i)) (c .if6 .left) (c .before .before .eight .ensures) in
+loop-again c = let l = c .before .before .before .before .loop in
+    let a = c .before .before .before .before .before .before .before .before .before .before .args in
+    let e = subst (Eight (now (a .s)) (a .at + l .i)) (c .if4 .left) (c .before .before .eight .ensures) in
     (omega arith, alike-more (now (a .x)) (now (a .s)) (a .at) (l .inv .1) (eight-once e (c .before .eight2 .ensures)) (omega arith))
 
 add-eight-2 : tie.Need-add-eight-2 Inv-loop μ-loop
@@ -100,10 +73,9 @@ eight-requires-3 c κs = search needs
 eight-requires-4 : tie.Need-eight-requires-4 Inv-loop μ-loop
 eight-requires-4 c κs = search needs
 
-returns-7 : tie.Need-returns-7 Inv-loop μ-loop
-returns-7 c =
-    λ e.
-    let a = c .before .before .before .before .before .before .before .before .before .before .args in
+returns-5 : tie.Need-returns-5 Inv-loop μ-loop
+returns-5 c = λ e.
+    let a = c .before .before .before .before .before .before .before .before .before .args in
     let h = subst (Eight (now (a .s)) _) (eqb-true _ _ e) (c .before .eight3 .ensures) in
     let z = alike-more (now (a .x)) (now (a .s)) (a .at) (c .before .before .before .loop .inv .1) (eight-once h (c .eight4 .ensures)) (omega arith) in
     alike-stands (now (a .x)) (now (a .s)) (a .at) (omega arith) (subst (Alike (now (a .x)) (now (a .s)) (a .at)) (omega arith) z)
@@ -118,23 +90,16 @@ stands-spec =
     returns-2
     sub-if3
     returns-3
-    four-requires
-    four-requires-2
-    returns-4
-    add-four
-    four-requires-3
-    four-requires-4
-    returns-5
     loop-holds
     sub-loop
     add-eight
     eight-requires
     eight-requires-2
-    returns-6
+    returns-4
     add-i
     loop-less
     loop-again
     add-eight-2
     eight-requires-3
     eight-requires-4
-    returns-7)
+    returns-5)

@@ -47,8 +47,8 @@ returns-3 c =
     let at = looked (args .factor) (args .mask) (drop (args .base) (args .t .now)) (args .w .now) (slot-of .ensures) (k .0) (c .before .before .before .pair-at .ensures .0) in
     (stands-text (args .base) (args .t .now) at (c .before .before .if2 .left) (c .before .stands .ensures (c .if3 .taken)), k .1)
 
-begins-requires : tie.Need-begins-requires
-begins-requires c κs = search needs
+stands-short-requires : tie.Need-stands-short-requires
+stands-short-requires c κs = search needs
 
 returns-4 : tie.Need-returns-4
 returns-4 c =
@@ -58,17 +58,32 @@ returns-4 c =
     let args = c .before .before .before .before .before .before .before .before .before .before .before .args in
     let k = byte-at .ensures in
     let at = looked (args .factor) (args .mask) (drop (args .base) (args .t .now)) (args .w .now) (slot-of .ensures) (k .0) (pair-at .ensures .0) in
-    (stands-text (args .base) (args .t .now) at (c .before .before .before .before .if2 .left) (c .before .begins .ensures .yes (c .if4 .taken)), k .1)
+    (stands-text (args .base) (args .t .now) at (c .before .before .before .before .if2 .left) (c .before .stands-short .ensures (c .if4 .taken)), k .1)
+
+begins-requires : tie.Need-begins-requires
+begins-requires c κs = search needs
 
 returns-5 : tie.Need-returns-5
 returns-5 c =
-    let if1 = c .before .before .before .before .before .before .before .before .if1 in
-    let slot-of = c .before .before .before .before .before .before .before .slot-of in
-    let byte-at = c .before .before .before .before .before .before .byte-at in
-    let pair-at = c .before .before .before .before .before .pair-at in
-    let args = c .before .before .before .before .before .before .before .before .before .before .before .args in
+    let slot-of = c .before .before .before .before .before .before .before .before .before .slot-of in
+    let byte-at = c .before .before .before .before .before .before .before .before .byte-at in
+    let pair-at = c .before .before .before .before .before .before .before .pair-at in
+    let if2 = c .before .before .before .before .before .before .if2 in
+    let args = c .before .before .before .before .before .before .before .before .before .before .before .before .before .args in
+    let k = byte-at .ensures in
+    let at = looked (args .factor) (args .mask) (drop (args .base) (args .t .now)) (args .w .now) (slot-of .ensures) (k .0) (pair-at .ensures .0) in
+    (stands-text (args .base) (args .t .now) at (if2 .left) (c .before .begins .ensures .yes (c .if5 .taken)), k .1)
+
+returns-6 : tie.Need-returns-6
+returns-6 c =
+    let if1 = c .before .before .before .before .before .before .before .before .before .before .if1 in
+    let slot-of = c .before .before .before .before .before .before .before .before .before .slot-of in
+    let byte-at = c .before .before .before .before .before .before .before .before .byte-at in
+    let pair-at = c .before .before .before .before .before .before .before .pair-at in
+    let if2 = c .before .before .before .before .before .before .if2 in
+    let args = c .before .before .before .before .before .before .before .before .before .before .before .before .before .args in
     let at = looked (args .factor) (args .mask) (drop (args .base) (args .t .now)) (args .w .now) (slot-of .ensures) (byte-at .ensures .0) (pair-at .ensures .0) in
-    (other-text (args .base) (args .t .now) at (c .before .before .before .before .if2 .left) (omega (arith, if1 .left)) (c .before .begins .ensures .no (c .if4 .left)), omega arith)
+    (other-text (args .base) (args .t .now) at (if2 .left) (omega (arith, if1 .left)) (c .before .begins .ensures .no (c .if5 .left)), omega arith)
 
 pub find-spec : {M : Type 1} → statement M
 find-spec =
@@ -85,6 +100,8 @@ find-spec =
     add-from
     stands-requires
     returns-3
-    begins-requires
+    stands-short-requires
     returns-4
-    returns-5)
+    begins-requires
+    returns-5
+    returns-6)
