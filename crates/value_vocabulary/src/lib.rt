@@ -41,6 +41,7 @@ pub fn name_of(w: &[u8], words: &[u8; 3498]) -> usize
 // ---- keys
 
 // The place of the row of a key, 0 where it has none. `base`: where the keys stand; `rows`: where in their part the places of the rows do.
+// Whatever number a text has, what is looked up by it lies in the table.
 fn row_in(w: &[u8], words: &[u8; 3498], base: usize, factor: usize, rows: usize) -> usize
     requires { ⌜ factor < 16_777_216 ⌝ }
     requires { ⌜ base + rows + 639 < 3_498 ⌝ }
