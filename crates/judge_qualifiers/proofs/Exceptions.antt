@@ -15,7 +15,8 @@ use Rattle.paper.proofs.Lists.{every}
 use Rattle.paper.proofs.Locate.{locates-once}
 use Rattle.value_words.specs.Reading.{Tells}
 use Rattle.value_words.proofs.Tests.{tells-true, tells-false}
-use Rattle.value_vocabulary.specs.Tables.{PlaceOf, nameTexts}
+use Rattle.value_dictionary.specs.Texts.{PlaceOf}
+use Rattle.value_vocabulary.specs.Tables.{nameTexts}
 use Rattle.value_vocabulary.proofs.Keyed.{number-is, number-not}
 use Rattle.walk_steps.specs.declared.Maybe.{Maybe}
 use Rattle.location_judge.specs.Judging.{JudgedText}

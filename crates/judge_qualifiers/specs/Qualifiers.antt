@@ -21,7 +21,8 @@ use Rattle.value_words.specs.declared.Molecule as code
 use Rattle.value_words.specs.declared.Molecule.the-variants as kind
 use Rattle.walk_steps.specs.Stands.{Stands, MaybeIs}
 use Rattle.walk_steps.specs.declared.Maybe.{Maybe}
-use Rattle.value_vocabulary.specs.Tables.{PlaceOf, nameTexts, standingAt}
+use Rattle.value_dictionary.specs.Texts.{PlaceOf}
+use Rattle.value_vocabulary.specs.Tables.{nameTexts, standingAt}
 use Rattle.judge_faults.specs.Counters.{Capped}
 use Rattle.judge_faults.specs.Sets.{Faults, Firsts, Some}
 use Rattle.location_judge.specs.Judging.{JudgedText}

@@ -1,4 +1,4 @@
--- Words compared eight bytes at a time: eight bytes with one number are the same. And a word that stands is read.
+-- Words compared eight or four bytes at a time: bytes with one number are the same. And a word that stands is read.
 use Prim.Native.Nat.{ℕ, zero, suc, _+_, _*_, _-_, _≤_, _<_}
 use native.Mathlib.Decide.{decLe}
 use native.Mathlib.Omega.{arith}
@@ -12,7 +12,7 @@ use Rattle.read_bytes.specs.Words.{StandsAt}
 use Rattle.read_bytes.proofs.Words.{Alike}
 use Rattle.read_steps.specs.Follow.{anything}
 use Rattle.read_steps.specs.Reads.{Took}
-use Rattle.read_steps.specs.Words.{Eight}
+use Rattle.read_steps.specs.Words.{Eight, Four}
 use Rattle.read_steps.proofs.Leaves.{these-took}
 
 two-once : {a b a′ b′ r r′ : ℕ} → LowFirst a b r → LowFirst a′ b′ r′ → r ≡ r′ → (a ≡ a′) × (b ≡ b′)
@@ -37,7 +37,7 @@ below-eight P a b c d e f g h (suc (suc (suc (suc (suc (suc zero)))))) l = g
 below-eight P a b c d e f g h (suc (suc (suc (suc (suc (suc (suc zero))))))) l = h
 below-eight P a b c d e f g h (suc (suc (suc (suc (suc (suc (suc (suc k)))))))) l = absurd (omega (arith, l))
 
-eight-once : {s x : List ℕ} {m n r : ℕ} → Eight s m r → Eight x n r → (k : ℕ) → k < 8 → getD s (m + k) 0 ≡ getD x (n + k) 0
+pub eight-once : {s x : List ℕ} {m n r : ℕ} → Eight s m r → Eight x n r → (k : ℕ) → k < 8 → getD s (m + k) 0 ≡ getD x (n + k) 0
 eight-once {s} {x} {m} {n} p q =
     let h : p .a + 65536 * (p .b + 65536 * (p .c + 65536 * p .d)) ≡ q .a + 65536 * (q .b + 65536 * (q .c + 65536 * q .d)) = omega (arith, p .is, q .is) in
     let a = digit (two-small (p .first)) (two-small (q .first)) h in
@@ -51,16 +51,38 @@ eight-once {s} {x} {m} {n} p q =
     let n₀ : n + 0 ≡ n = omega arith in
     below-eight (λ (k : ℕ). getD s (m + k) 0 ≡ getD x (n + k) 0) (rw (m₀, n₀) (t .0)) (t .1) (u .0) (u .1) (v .0) (v .1) (w .0) (w .1)
 
+pub four-once : {s x : List ℕ} {m n r : ℕ} → Four s m r → Four x n r → (k : ℕ) → k < 4 → getD s (m + k) 0 ≡ getD x (n + k) 0
+four-once {s} {x} {m} {n} p q = below-four
+  where
+    a : (p .a ≡ q .a) × (p .b ≡ q .b)
+    a = digit (two-small (p .first)) (two-small (q .first)) (omega (arith, p .is, q .is))
+
+    t : (getD s m 0 ≡ getD x n 0) × (getD s (m + 1) 0 ≡ getD x (n + 1) 0)
+    t = two-once (p .first) (q .first) (a .0)
+
+    u : (getD s (m + 2) 0 ≡ getD x (n + 2) 0) × (getD s (m + 3) 0 ≡ getD x (n + 3) 0)
+    u = two-once (p .second) (q .second) (a .1)
+
+    below-four : (k : ℕ) → k < 4 → getD s (m + k) 0 ≡ getD x (n + k) 0
+    below-four zero l = let m₀ : m + 0 ≡ m = omega arith in let n₀ : n + 0 ≡ n = omega arith in rw (m₀, n₀) (t .0)
+    below-four (suc zero) l = t .1
+    below-four (suc (suc zero)) l = u .0
+    below-four (suc (suc (suc zero))) l = u .1
+    below-four (suc (suc (suc (suc k)))) l = absurd (omega (arith, l))
+
 module _ (x s : List ℕ) (at : ℕ) where
-  -- eight bytes more; they may overlap those before
-  pub alike-more : {to m r : ℕ} → Alike x s at to → Eight s (at + m) r → Eight x m r → m ≤ to → Alike x s at (m + 8)
-  alike-more {to} {m} a p q h k j = cases (decLe to k)
+  pub first-four : {r : ℕ} → Four s at r → Four x 0 r → Alike x s at 4
+  first-four p q k h = let e : 0 + k ≡ k = omega arith in four-once p q k h ∙ ap (λ (n : ℕ). getD x n 0) e
+
+  -- some bytes more; they may overlap those before
+  pub alike-more : {to m size : ℕ} → Alike x s at to → ((k : ℕ) → k < size → getD s (at + m + k) 0 ≡ getD x (m + k) 0) → m ≤ to → Alike x s at (m + size)
+  alike-more {to} {m} {size} a same h k j = cases (decLe to k)
     where
       cases : Dec (to ≤ k) → getD s (at + k) 0 ≡ getD x k 0
       cases (yes l) =
           let e : m + (k - m) ≡ k = omega arith in
           let f : at + m + (k - m) ≡ at + k = omega arith in
-          ap (λ (n : ℕ). getD s n 0) (sym f) ∙ eight-once p q (k - m) (omega arith) ∙ ap (λ (n : ℕ). getD x n 0) e
+          ap (λ (n : ℕ). getD s n 0) (sym f) ∙ same (k - m) (omega arith) ∙ ap (λ (n : ℕ). getD x n 0) e
       cases (no l) = a k (omega arith)
 
 pub stands-took : {x s : List ℕ} {at : ℕ} → StandsAt x s at → Took (λ (u : Unit {0}). these x) anything at (drop at s) (length x) (length x)

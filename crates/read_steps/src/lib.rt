@@ -15,7 +15,7 @@ ghost use Rattle.read_steps.specs.declared.Step.the-variants.{Ok};
 ghost use Rattle.read_steps.specs.Parts.{ShowsBytes};
 ghost use Rattle.read_steps.specs.Reads.{Reads, Passes, AtEnd, raised, chosen, stayed};
 ghost use Rattle.read_steps.specs.Follow.{Not, anything, nothing};
-ghost use Rattle.read_steps.specs.Words.{Eight};
+ghost use Rattle.read_steps.specs.Words.{Eight, Four};
 ghost use Rattle.read_steps.specs.Texts.{allowedIn, isPlain, isText, letter, One, ClassTable, Scanned, Passed, Below, Odd, Block};
 
 // The cursor of a listing, how far a reading got: `next` is where the next part starts, `far` the furthest place to which some layout
@@ -145,6 +145,38 @@ pub fn stands(s: &[u8], at: usize, x: &[u8]) -> bool
         i += 8;
     }
     eight(s, at + (n - 8)) == eight(x, n - 8)
+}
+
+// Four bytes as one number.
+fn four(s: &[u8], at: usize) -> u64
+    requires { ⌜ at + 4 ≤ length (now s) ⌝ }
+    ensures { λ r. ⌜ Four (now (s .entry)) at r ⌝ }
+{
+    two(s[at], s[at + 1]) + 65_536 * two(s[at + 2], s[at + 3])
+}
+
+// The same of a word of four to eight bytes: the last four may overlap the first. In a function of its own: with it in `stands`, `word`
+// is no longer inlined.
+pub fn stands_short(s: &[u8], at: usize, x: &[u8]) -> bool
+    ensures { λ r. ⌜ (r ≡ true → StandsAt (now (x .entry)) (now (s .entry)) at) ⌝ }
+{
+    let n = x.len();
+    if n < 4 {
+        return false;
+    }
+    if 8 < n {
+        return false;
+    }
+    if s.len() < at {
+        return false;
+    }
+    if s.len() - at < n {
+        return false;
+    }
+    if four(s, at) != four(x, 0) {
+        return false;
+    }
+    four(s, at + (n - 4)) == four(x, n - 4)
 }
 
 // The word x, as `lit` reads it: eight bytes at a time, and where it isn't there `lit` tells how far it goes.

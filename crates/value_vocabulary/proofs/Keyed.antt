@@ -5,20 +5,21 @@ use native.Mathlib.Omega.{arith}
 use mathlib.Core.Path.{_≡_, refl, sym, ap, _∙_, subst}
 use mathlib.Core.Bool.{Bool, true, false, true≢false, cond}
 use mathlib.Core.List.{List, [], _∷_, _++_, map}
-use lib.ListN.{length, getD, length-map, List·getD-map}
+use lib.ListN.{length, getD, drop, length-map, List·getD-map}
 use lib.Dec.{ltb}
 use borrow.Author.Tests.{ltb-true, ltb-false}
 use Rattle.paper.specs.Bytes.{bytes, raw}
-use Rattle.paper.specs.Lists.{Nth, _∈_}
+use Rattle.paper.specs.Lists.{_∈_}
 use Rattle.paper.specs.Vocabulary.{Row, nucleotideNames, older, isOneOf, lower, counted}
-use Rattle.paper.specs.Rules.{Kind, dna, rna, aa, kindName, upperIn, vocabulary, RowOf, Allows}
+use Rattle.paper.specs.Rules.{Kind, dna, rna, aa, kindName, upperIn, vocabulary, RowOf}
 use Rattle.paper.proofs.Lists.{in-map, in-first, in-second}
 use Rattle.paper.proofs.Once.{name-once}
 use Rattle.paper.proofs.Texts.{raw-once}
 use Rattle.paper.proofs.Words.{one-in, in-one, row-named}
 use Rattle.value_words.specs.declared.Molecule.{Molecule}
 use Rattle.value_words.specs.declared.Molecule.the-variants as kind
-use Rattle.value_vocabulary.specs.Tables.{pairOf, PlaceOf, RowIn, nameTexts, standingOf, crumbAt, standingAt, HasRow, keyTexts, RowFor, Keys, sliceOf, VocabularyTable}
+use Rattle.value_dictionary.specs.Texts.{pairOf, PlaceOf, FindsText}
+use Rattle.value_vocabulary.specs.Tables.{RowIn, nameTexts, standingOf, crumbAt, HasRow, keyTexts, RowFor, Keys, VocabularyTable}
 use Rattle.value_vocabulary.specs.Lookups.{RowStands, RowIs, isAcid, FindsRow}
 use Rattle.value_vocabulary.proofs.InRow.{standing-some, row-few}
 
@@ -59,6 +60,24 @@ counted-in true l v m = go (isOneOf older v) refl m
     go : (b : Bool) → isOneOf older v ≡ b → cond b (map lower v) v ∈ l → v ∈ (l ++ older)
     go true p m = in-second l older v (one-in older v p)
     go false p m = in-first l older v m
+
+-- ---- the row of a key, by its number among the keys
+
+module _ {factor : ℕ} (rows : ℕ) {t w : List ℕ} {k : ℕ} (f : FindsText factor 127 t w k) where
+  -- every text's number is below 255
+  pub no-row : k ≡ 255 → RowIn factor rows t w 0
+  no-row x =
+      record {
+        is = λ l d j h e. absurd (omega (arith, x, d .few, f .looks l d .found j h e));
+        none = λ l d n. refl;
+      }
+
+  pub has-row : {r : ℕ} → ¬ (k ≡ 255) → r ≡ pairOf t (rows + 2 * k) → RowIn factor rows t w r
+  has-row x is =
+      record {
+        is = λ l d j h e. is ∙ ap (λ (n : ℕ). pairOf t (rows + 2 * n)) (f .looks l d .found j h e);
+        none = λ l d n. absurd (n k (f .below l d x) (f .looks l d .is (f .below l d x)));
+      }
 
 -- ---- the row at a place
 
@@ -142,13 +161,13 @@ row-of-kind : (j : Kind) {w t : List ℕ} {row : ℕ} → ((v : List ℕ) → w 
 row-of-kind j {t = t} {row} f k e v h = subst (λ (k : Kind). RowIs k t v row) (sym (name-once k j e)) (f v h)
 
 module _ {t w : List ℕ} (table : VocabularyTable t) {row : ℕ} where
-  pub finds-acid : (c : Molecule) → isAcid c ≡ true → RowIn 4266913 501 (sliceOf 1991 2578 t) w row → FindsRow t w c row
+  pub finds-acid : (c : Molecule) → isAcid c ≡ true → RowIn 4266913 501 (drop 1991 t) w row → FindsRow t w c row
   finds-acid kind.Dna e f = absurd (true≢false (sym e))
   finds-acid kind.Rna e f = absurd (true≢false (sym e))
   finds-acid kind.Aa e f = record { says = row-of-kind aa (row-is aa 4266913 501 (table .acids) f) }
   finds-acid kind.Other e f = absurd (true≢false (sym e))
 
-  pub finds-base : (c : Molecule) → isAcid c ≡ false → RowIn 4094411 657 (sliceOf 1236 1991 t) w row → FindsRow t w c row
+  pub finds-base : (c : Molecule) → isAcid c ≡ false → RowIn 4094411 657 (drop 1236 t) w row → FindsRow t w c row
   finds-base kind.Dna e f = record { says = row-of-kind dna (row-is dna 4094411 657 (table .nucleotides) f) }
   finds-base kind.Rna e f = record { says = row-of-kind rna (row-is rna 4094411 657 (table .nucleotides) f) }
   finds-base kind.Aa e f = absurd (true≢false e)

@@ -2,4 +2,3 @@
 pub mod Right
 pub mod InRow
 pub mod Keyed
-pub mod Lookup

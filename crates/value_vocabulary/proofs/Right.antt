@@ -1,4 +1,4 @@
--- The table's rule, from a few equations that antt computes over the whole table: one for each dictionary, one for the rows of each kind.
+-- The rule of the keys, from one test for the rows of each kind, which antt computes over the whole table.
 use Prim.Native.Nat.{ℕ, zero, suc, _+_, _*_, _-_, _/_, _%_, _^_, _≤_, _<_}
 use native.Mathlib.Omega.{arith}
 use mathlib.Core.Path.{_≡_, refl, sym, ap, _∙_, subst}
@@ -12,44 +12,10 @@ use borrow.Author.Tests.{eqb-true, eqb-false}
 use Rattle.paper.specs.Bytes.{raw, same}
 use Rattle.paper.specs.Lists.{_∈_}
 use Rattle.paper.specs.Vocabulary.{Row, counted}
-use Rattle.paper.proofs.Tables.{listed, each-same, each-element}
 use Rattle.paper.proofs.Texts.{same-is, same-self}
-use Rattle.value_vocabulary.specs.Tables.{byteOf, pairOf, slotOf, startOf, Dictionary, nameTexts, standingOf, needsAt, crumbAt, HasRow, keyTexts, RowFor, Keys}
-
--- ---- dictionaries
-
--- what stands in the table for the text w of number k, and what should
-abbrev pub entryOf : (factor mask : ℕ) → List ℕ → ℕ → List ℕ → List ℕ
-entryOf factor mask t k w =
-    (2 - length w) ∷ byteOf t (slotOf factor mask w) ∷ startOf mask t (k + 1) ∷ take (length w) (drop (startOf mask t k) t)
-
-abbrev pub wantedOf : (mask : ℕ) → List ℕ → ℕ → List ℕ → List ℕ
-wantedOf mask t k w = 0 ∷ k ∷ (startOf mask t k + length w) ∷ w
-
-module _ (factor mask : ℕ) (l : List (List ℕ)) (t : List ℕ) where
-  abbrev pub EntriesTest : Type 0
-  EntriesTest =
-      listed (λ (k : ℕ). entryOf factor mask t k (getD l k [])) 0 (length l) ≡ listed (λ (k : ℕ). wantedOf mask t k (getD l k [])) 0 (length l)
-
-  abbrev pub SlotsTest : Type 0
-  SlotsTest = listed (λ (i : ℕ). byteOf t i + 1 - length l) 0 (mask + 1) ≡ listed (λ (i : ℕ). 0) 0 (mask + 1)
-
-  pub dictionary-right : length l ≤ 255 → SlotsTest → EntriesTest → Dictionary factor mask l t
-  dictionary-right few slots test =
-      record {
-        few = few;
-        full = λ i h. omega (arith, each-same (λ (i : ℕ). byteOf t i + 1 - length l) (λ (i : ℕ). 0) (mask + 1) slots i (omega (arith, h)));
-        long = λ k h. omega (arith, part 0 k h);
-        slot = part 1;
-        size = part 2;
-        text = λ k h. ap (λ (x : List ℕ). drop 3 x) (at k h);
-      }
-    where
-      at : (k : ℕ) → k < length l → entryOf factor mask t k (getD l k []) ≡ wantedOf mask t k (getD l k [])
-      at = each-same (λ (k : ℕ). entryOf factor mask t k (getD l k [])) (λ (k : ℕ). wantedOf mask t k (getD l k [])) (length l) test
-
-      part : (i k : ℕ) → k < length l → getD (entryOf factor mask t k (getD l k [])) i 0 ≡ getD (wantedOf mask t k (getD l k [])) i 0
-      part i k h = ap (λ (x : List ℕ). getD x i 0) (at k h)
+use Rattle.value_dictionary.specs.Texts.{byteOf, pairOf, Dictionary}
+use Rattle.value_dictionary.proofs.Right.{allFrom, each-at}
+use Rattle.value_vocabulary.specs.Tables.{nameTexts, standingOf, needsAt, crumbAt, keyTexts, RowFor, Keys}
 
 -- ---- the rows of the keys
 
@@ -143,30 +109,46 @@ name-here r upper j h =
 wanted-length : (r : Row) (upper : Bool) → length (map (standingOf r) (map (counted upper) nameTexts) ++ (0 ∷ 0 ∷ 0 ∷ [])) ≡ 88
 wanted-length r upper = refl
 
--- what stands at the place of a row, nothing at 0; and what should stand there: the names, and three that are none
-abbrev pub rowShown : List ℕ → ℕ → List ℕ
-rowShown t row = cond (eqb row 0) [] ((row - 65535) ∷ needsAt t row ∷ crumbsOf (take 22 (drop (row + 1) t)))
+-- a byte of the part from `from` on is one of the table
+of-part : (t : List ℕ) (from row i : ℕ) → from ≤ row → byteOf (drop from t) (row - from + i) ≡ byteOf t (row + i)
+of-part t from row i h = getD-drop from t (row - from + i) 0 ∙ ap (byteOf t) (omega (arith, h))
 
+-- what stands at the place of a row, nothing at 0; `rows` is what stands from `from` on, looked up once for all rows
+abbrev pub rowShown : (rows : List ℕ) (from row : ℕ) → List ℕ
+rowShown rows from row =
+    cond (eqb row 0) [] ((from - row) ∷ (row - 65535) ∷ needsAt rows (row - from) ∷ crumbsOf (take 22 (drop (row - from + 1) rows)))
+
+-- and what should stand there: the names, and three that are none
 abbrev pub rowWanted : List (List ℕ) → Option Row → List ℕ
 rowWanted names none = []
-rowWanted names (some r) = 0 ∷ length (r .required) ∷ (map (standingOf r) names ++ (0 ∷ 0 ∷ 0 ∷ []))
+rowWanted names (some r) = 0 ∷ 0 ∷ length (r .required) ∷ (map (standingOf r) names ++ (0 ∷ 0 ∷ 0 ∷ []))
 
-module _ (upper : Bool) (rows : List Row) (places : ℕ) (part t : List ℕ) where
-  abbrev pub RowsTest : Type 0
-  RowsTest =
-      listed (λ (k : ℕ). rowShown t (pairOf part (places + 2 * k))) 0 (length (keyTexts upper rows))
-      ≡ map (λ (v : List ℕ). rowWanted (map (counted upper) nameTexts) (firstRow rows (counted upper v))) (keyTexts upper rows)
+module _ (upper : Bool) (rows : List Row) (places from : ℕ) (part t : List ℕ) where
+  abbrev pub rowRight : List (List ℕ) → List ℕ → ℕ → List ℕ → Bool
+  rowRight names behind k v = same (rowShown behind from (pairOf part (places + 2 * k))) (rowWanted names (firstRow rows (counted upper v)))
 
-  row-for : (v : List ℕ) (row : ℕ) → rowShown t row ≡ rowWanted (map (counted upper) nameTexts) (firstRow rows (counted upper v)) → RowFor upper rows t v row
+  abbrev pub rowsRight : ℕ → List ℕ → Bool
+  rowsRight = rowRight (map (counted upper) nameTexts) (drop from t)
+
+  row-for : (v : List ℕ) (row : ℕ) → rowShown (drop from t) from row ≡ rowWanted (map (counted upper) nameTexts) (firstRow rows (counted upper v)) → RowFor upper rows t v row
   row-for v row e = go (firstRow rows (counted upper v)) refl (eqb row 0) refl e
     where
+      x : ℕ
+      x = row - from
+
+      shown : List ℕ
+      shown = crumbsOf (take 22 (drop (x + 1) (drop from t)))
+
       go : (o : Option Row) → firstRow rows (counted upper v) ≡ o → (b : Bool) → eqb row 0 ≡ b
-          → cond b [] ((row - 65535) ∷ needsAt t row ∷ crumbsOf (take 22 (drop (row + 1) t))) ≡ rowWanted (map (counted upper) nameTexts) o → RowFor upper rows t v row
+          → cond b [] ((from - row) ∷ (row - 65535) ∷ needsAt (drop from t) x ∷ shown) ≡ rowWanted (map (counted upper) nameTexts) o → RowFor upper rows t v row
       go none p true q h = record { known = λ n. absurd (n (eqb-true row 0 q)); unknown = λ z r m. first-none rows (counted upper v) p r m }
       go none p false q h = absurd (cons≢nil h)
       go (some r) p true q h = absurd (cons≢nil (sym h))
       go (some r) p false q h =
           let is = first-some rows (counted upper v) r p in
+          let behind : from - row ≡ 0 = ap (λ (x : List ℕ). getD x 0 0) h in
+          let inside : from ≤ row = omega (arith, behind) in
+          let at : (i : ℕ) → byteOf (drop from t) (x + i) ≡ byteOf t (row + i) = λ i. of-part t from row i inside in
           record {
             known =
                 λ n. (
@@ -174,25 +156,28 @@ module _ (upper : Bool) (rows : List Row) (places : ℕ) (part t : List ℕ) whe
                   is .0,
                   is .1,
                   record {
-                    near = let z : row - 65535 ≡ 0 = ap (λ (x : List ℕ). getD x 0 0) h in omega (arith, z);
-                    needs = ap (λ (x : List ℕ). getD x 1 0) h;
+                    near = let z : row - 65535 ≡ 0 = ap (λ (x : List ℕ). getD x 1 0) h in omega (arith, z);
+                    needs = ap (byteOf t) (omega arith) ∙ sym (at 0) ∙ ap (byteOf (drop from t)) (omega arith) ∙ ap (λ (x : List ℕ). getD x 2 0) h;
                     stands =
                         λ j i.
-                        let n : length (crumbsOf (take 22 (drop (row + 1) t))) ≡ 88 =
-                        ap (λ (x : List ℕ). length (drop 2 x)) h ∙ wanted-length r upper in
-                        crumb-here t row j i n ∙ ap (λ (x : List ℕ). getD x (suc (suc j)) 0) h ∙ name-here r upper j i;
+                        let n : length shown ≡ 88 = ap (λ (x : List ℕ). length (drop 3 x)) h ∙ wanted-length r upper in
+                        ap (λ (b : ℕ). turned j (b / 2 ^ (2 * (j % 4)) % 4))
+                        (ap (byteOf t) (omega arith) ∙ sym (at (1 + j / 4)) ∙ ap (byteOf (drop from t)) (omega arith))
+                        ∙ crumb-here (drop from t) x j i n ∙ ap (λ (x : List ℕ). getD x (suc (suc (suc j))) 0) h ∙ name-here r upper j i;
                   },
                 );
             unknown = λ z. absurd (eqb-false row 0 q z);
           }
 
-  pub keys-right : (factor : ℕ) → Dictionary factor 127 (map raw (keyTexts upper rows)) part → RowsTest → Keys upper rows factor places part t
+  pub keys-right : (factor : ℕ) → Dictionary factor 127 (map raw (keyTexts upper rows)) part → allFrom rowsRight 0 (keyTexts upper rows) ≡ true → Keys upper rows factor places part t
   keys-right factor d test =
       record {
         texts = d;
         placed =
             λ k h.
-            row-for (getD (keyTexts upper rows) k []) (pairOf part (places + 2 * k))
-            (each-element (λ (k : ℕ). rowShown t (pairOf part (places + 2 * k))) (λ (v : List ℕ). rowWanted (map (counted upper) nameTexts) (firstRow rows (counted upper v)))
-            (keyTexts upper rows) [] (length (keyTexts upper rows)) test k h);
+            let v = getD (keyTexts upper rows) k [] in
+            let row = pairOf part (places + 2 * k) in
+            row-for v row
+            (same-is (rowShown (drop from t) from row) (rowWanted (map (counted upper) nameTexts) (firstRow rows (counted upper v)))
+            (each-at rowsRight (keyTexts upper rows) [] test k h));
       }

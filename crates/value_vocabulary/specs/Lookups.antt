@@ -10,7 +10,8 @@ use Rattle.paper.specs.Rules.{Kind, kindName, upperIn, RowOf}
 use Rattle.value_words.specs.Reading.{KindIs}
 use Rattle.value_words.specs.declared.Molecule.{Molecule}
 use Rattle.value_words.specs.declared.Molecule.the-variants as kind
-use Rattle.value_vocabulary.specs.Tables.{PlaceOf, nameTexts, standingOf, needsAt, standingAt, Few}
+use Rattle.value_dictionary.specs.Texts.{PlaceOf}
+use Rattle.value_vocabulary.specs.Tables.{nameTexts, standingOf, needsAt, standingAt, Few}
 
 -- the number of a qualifier's name
 pub record NameNumber (w : List ℕ) (r : ℕ) : Type 0 where

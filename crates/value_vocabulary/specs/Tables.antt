@@ -1,50 +1,14 @@
 -- The lent table of the vocabulary: dictionaries of texts, and rows.
-use Prim.Native.Nat.{ℕ, _+_, _*_, _-_, _/_, _%_, _^_, _<_, _≤_}
+use Prim.Native.Nat.{ℕ, _+_, _*_, _-_, _/_, _%_, _^_, _<_}
 use mathlib.Core.Path.{_≡_}
 use mathlib.Core.Bool.{Bool, true, false, cond}
 use mathlib.Core.List.{List, [], _∷_, _++_, map}
-use lib.ListN.{length, getD, take, drop}
-use lib.Bits.{bitAnd}
+use lib.ListN.{length, getD, drop}
 use lib.Dec.{ltb}
 use Rattle.paper.specs.Bytes.{raw, same}
 use Rattle.paper.specs.Lists.{_∈_}
 use Rattle.paper.specs.Vocabulary.{Row, nucleotideRows, nucleotideNames, aminoRows, older, isOneOf, counted}
-
-abbrev pub byteOf : List ℕ → ℕ → ℕ
-byteOf t i = getD t i 0
-
--- two bytes, the low one first
-abbrev pub pairOf : List ℕ → ℕ → ℕ
-pairOf t i = byteOf t i + 256 * byteOf t (i + 1)
-
--- ---- a dictionary: its slots, one more than its mask; where each text starts, and the last one ends; the texts
-
--- the slot of a text
-abbrev pub slotOf : (factor mask : ℕ) → List ℕ → ℕ
-slotOf factor mask w = bitAnd ((byteOf w 0 + 256 * byteOf w (length w - 2) + 65536 * byteOf w (length w / 2)) * factor / 16777216) mask
-
--- where text k starts
-abbrev pub startOf : (mask : ℕ) → List ℕ → ℕ → ℕ
-startOf mask t k = pairOf t (mask + 1 + 2 * k)
-
--- t has the texts l, and in every slot the number of one of them
-pub record Dictionary (factor mask : ℕ) (l : List (List ℕ)) (t : List ℕ) : Type 0 where
-  pub few : length l ≤ 255
-  pub full : (i : ℕ) → i ≤ mask → byteOf t i < length l
-  pub long : (k : ℕ) → k < length l → 2 ≤ length (getD l k [])
-  pub slot : (k : ℕ) → k < length l → byteOf t (slotOf factor mask (getD l k [])) ≡ k
-  pub size : (k : ℕ) → k < length l → startOf mask t (k + 1) ≡ startOf mask t k + length (getD l k [])
-  pub text : (k : ℕ) → k < length l → take (length (getD l k [])) (drop (startOf mask t k) t) ≡ getD l k []
-
--- r is the number of v among the texts l; above all of them where it is none of them
-pub record PlaceOf (l : List (List ℕ)) (v : List ℕ) (r : ℕ) : Type 0 where
-  pub is : r < length l → v ≡ getD l r []
-  pub found : (k : ℕ) → k < length l → v ≡ getD l k [] → r ≡ k
-
--- whatever texts t is a dictionary of, r is 255 where w is none of them
-pub record FindsText (factor mask : ℕ) (t w : List ℕ) (r : ℕ) : Type 0 where
-  pub looks : (l : List (List ℕ)) → Dictionary factor mask l t → PlaceOf l w r
-  pub below : (l : List (List ℕ)) → Dictionary factor mask l t → ¬ (r ≡ 255) → r < length l
+use Rattle.value_dictionary.specs.Texts.{byteOf, pairOf, Dictionary}
 
 -- r is the number at the place of w's own, 0 where w is none of the dictionary's texts
 pub record RowIn (factor rows : ℕ) (t w : List ℕ) (r : ℕ) : Type 0 where
@@ -108,12 +72,8 @@ pub record Keys (upper : Bool) (rows : List Row) (factor places : ℕ) (part t :
 
 -- ---- the table
 
--- the part of a table between two places
-abbrev pub sliceOf : ℕ → ℕ → List ℕ → List ℕ
-sliceOf from to t = take (to - from) (drop from t)
-
 -- the places and factors are those of src/tables.rt
 pub record VocabularyTable (t : List ℕ) : Type 0 where
-  pub names : Dictionary 13895407 255 (map raw nameTexts) (sliceOf 0 1236 t)
-  pub nucleotides : Keys false nucleotideRows 4094411 657 (sliceOf 1236 1991 t) t
-  pub acids : Keys true aminoRows 4266913 501 (sliceOf 1991 2578 t) t
+  pub names : Dictionary 13895407 255 (map raw nameTexts) t
+  pub nucleotides : Keys false nucleotideRows 4094411 657 (drop 1236 t) t
+  pub acids : Keys true aminoRows 4266913 501 (drop 1991 t) t

@@ -1,24 +1,24 @@
 // The vocabulary: the number of a qualifier's name, the row of a feature's key, and how a name stands in a row. All of it that is looked
-// up is one lent table (tables.rt): dictionaries, each with a slot for a text's hash, and the rows, two bits for each name. A text is
-// found by one slot and one comparison, eight bytes at a time where it is long. Relies on the paper and the values. The table is named once, in the function that hands it out;
-// a public call takes it there and lends it on.
+// up is one lent table (tables.rt): dictionaries of the names and of the keys of each kind, and the rows, two bits for each name. The table
+// is named once, in the function that hands it out; a public call takes it there and lends it on. Relies on the paper, the kinds of
+// value_words and the look-up of value_dictionary.
 mod tables;
 
-use read_steps::stands;
-use tables::AMINO_KEYS_END;
+use tables::AMINO_KEYS;
 use tables::AMINO_KEYS_FACTOR;
 use tables::AMINO_KEYS_ROWS;
-use tables::NAMES_END;
 use tables::NAMES_FACTOR;
-use tables::NUCLEOTIDE_KEYS_END;
+use tables::NUCLEOTIDE_KEYS;
 use tables::NUCLEOTIDE_KEYS_FACTOR;
 use tables::NUCLEOTIDE_KEYS_ROWS;
+use value_dictionary::find;
+use value_dictionary::pair_at;
 use value_words::Molecule;
-use value_words::same;
 ghost use mathlib.Core.Path.{_≡_};
-ghost use Prim.Native.Nat.{_<_, _≤_};
-ghost use lib.ListN.{length};
-ghost use Rattle.value_vocabulary.specs.Tables.{byteOf, pairOf, slotOf, FindsText, RowIn, VocabularyTable, needsAt, standingAt};
+ghost use Prim.Native.Nat.{_+_, _<_};
+ghost use lib.ListN.{drop};
+ghost use Rattle.value_dictionary.specs.Texts.{byteOf};
+ghost use Rattle.value_vocabulary.specs.Tables.{RowIn, VocabularyTable, needsAt, standingAt};
 ghost use Rattle.value_vocabulary.specs.Lookups.{NameNumber, isAcid, FindsRow};
 
 // The table of the vocabulary.
@@ -28,68 +28,6 @@ pub fn vocabulary_table() -> [u8; 3498]
     tables::WORDS
 }
 
-// ---- a dictionary: its slots; where each text starts, in two bytes, and the last one ends; the texts
-
-// The byte at a place, 0 behind the end.
-fn byte_at(t: &[u8], i: usize) -> usize
-    ensures { λ r. ⌜ (r ≡ byteOf (now (t .entry)) i) × (r < 256) ⌝ }
-{
-    if i < t.len() {
-        return t[i] as usize;
-    }
-    0
-}
-
-// Two bytes as a number, the low one first.
-fn pair_at(t: &[u8], i: usize) -> usize
-    requires { ⌜ i ≤ 65_536 ⌝ }
-    ensures { λ r. ⌜ (r ≡ pairOf (now (t .entry)) i) × (r < 65_536) ⌝ }
-{
-    byte_at(t, i) + 256 * byte_at(t, i + 1)
-}
-
-// The slot of a text: three of its bytes, times the dictionary's factor, under its mask.
-fn slot_of(w: &[u8], factor: usize, mask: usize) -> usize
-    requires { ⌜ 2 ≤ length (now w) ⌝ }
-    requires { ⌜ factor < 16_777_216 ⌝ }
-    ensures { λ r. ⌜ (r ≡ slotOf factor mask (now (w .entry))) × (r ≤ mask) ⌝ }
-{
-    let n = w.len();
-    let p = byte_at(w, 0) + 256 * byte_at(w, n - 2) + 65_536 * byte_at(w, n / 2);
-    p * factor / 16_777_216 & mask
-}
-
-// The number of a text in a dictionary, 255 where it is none of its texts: one slot, and one comparison.
-fn find(w: &[u8], t: &[u8], factor: usize, mask: usize) -> usize
-    requires { ⌜ factor < 16_777_216 ⌝ }
-    requires { ⌜ mask < 256 ⌝ }
-    ensures { λ r. ⌜ (FindsText factor mask (now (t .entry)) (now (w .entry)) r) × (r < 256) ⌝ }
-{
-    let n = w.len();
-    if n < 2 {
-        return 255;
-    }
-    let k = byte_at(t, slot_of(w, factor, mask));
-    let from = pair_at(t, mask + 1 + 2 * k);
-    let to = pair_at(t, mask + 3 + 2 * k);
-    if to < from {
-        return 255;
-    }
-    if to - from != n {
-        return 255;
-    }
-    if t.len() < to {
-        return 255;
-    }
-    if stands(t, from, w) {
-        return k;
-    }
-    if same(w, &t[from..to]) {
-        return k;
-    }
-    255
-}
-
 // ---- names
 
 // The number of a qualifier's name: that of its row in section 6, then the older names; 255 where it is none of them.
@@ -97,23 +35,23 @@ pub fn name_of(w: &[u8], words: &[u8; 3498]) -> usize
     requires { ⌜ VocabularyTable (now words) ⌝ }
     ensures { λ r. ⌜ NameNumber (now (w .entry)) r ⌝ }
 {
-    let t = &words[..];
-    find(w, &t[0..NAMES_END], NAMES_FACTOR, 255)
+    find(w, words, 0, NAMES_FACTOR, 255)
 }
 
 // ---- keys
 
-// The place of the row of a key, 0 where it has none. `rows`: where the places of the rows stand.
-fn row_in(w: &[u8], t: &[u8], factor: usize, rows: usize) -> usize
+// The place of the row of a key, 0 where it has none. `base`: where the keys stand; `rows`: where in their part the places of the rows do.
+// Whatever number a text has, what is looked up by it lies in the table.
+fn row_in(w: &[u8], words: &[u8; 3498], base: usize, factor: usize, rows: usize) -> usize
     requires { ⌜ factor < 16_777_216 ⌝ }
-    requires { ⌜ rows ≤ 4_096 ⌝ }
-    ensures { λ r. ⌜ RowIn factor rows (now (t .entry)) (now (w .entry)) r ⌝ }
+    requires { ⌜ base + rows + 639 < 3_498 ⌝ }
+    ensures { λ r. ⌜ RowIn factor rows (drop base (now (words .entry))) (now (w .entry)) r ⌝ }
 {
-    let k = find(w, t, factor, 127);
+    let k = find(w, words, base, factor, 127);
     if k == 255 {
         return 0;
     }
-    pair_at(t, rows + 2 * k)
+    pair_at(words, base, rows + 2 * k)
 }
 
 // Whether the words of AA are meant.
@@ -133,24 +71,29 @@ pub fn row_of(w: &[u8], kind: Molecule, words: &[u8; 3498]) -> usize
     requires { ⌜ VocabularyTable (now words) ⌝ }
     ensures { λ r. ⌜ FindsRow (now (words .entry)) (now (w .entry)) kind r ⌝ }
 {
-    let t = &words[..];
     if is_acid(kind) {
-        return row_in(
-            w,
-            &t[NUCLEOTIDE_KEYS_END..AMINO_KEYS_END],
-            AMINO_KEYS_FACTOR,
-            AMINO_KEYS_ROWS,
-        );
+        return row_in(w, words, AMINO_KEYS, AMINO_KEYS_FACTOR, AMINO_KEYS_ROWS);
     }
     row_in(
         w,
-        &t[NAMES_END..NUCLEOTIDE_KEYS_END],
+        words,
+        NUCLEOTIDE_KEYS,
         NUCLEOTIDE_KEYS_FACTOR,
         NUCLEOTIDE_KEYS_ROWS,
     )
 }
 
 // ---- rows
+
+// The byte at a place, 0 behind the end.
+fn byte_at(t: &[u8], i: usize) -> usize
+    ensures { λ r. ⌜ (r ≡ byteOf (now (t .entry)) i) × (r < 256) ⌝ }
+{
+    if i < t.len() {
+        return t[i] as usize;
+    }
+    0
+}
 
 // How many names the row at a place requires: none, one or two.
 pub fn needs(row: usize, words: &[u8; 3498]) -> usize

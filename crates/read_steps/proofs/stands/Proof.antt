@@ -3,7 +3,7 @@
 use borrow.Author.Needs.{needs}
 use Rattle.read_bytes.proofs.Words.{Alike, alike-none, alike-stands}
 use Rattle.read_steps.specs.Words.{Eight}
-use Rattle.read_steps.proofs.Words.{alike-more}
+use Rattle.read_steps.proofs.Words.{eight-once, alike-more}
 use lib.ListN.{length}
 use denote.Ref.{now}
 use borrow.Author.Tests.{eqb-true}
@@ -62,7 +62,7 @@ loop-again : tie.Need-loop-again Inv-loop μ-loop
 loop-again c = let l = c .before .before .before .before .loop in
     let a = c .before .before .before .before .before .before .before .before .before .before .args in
     let e = subst (Eight (now (a .s)) (a .at + l .i)) (c .if4 .left) (c .before .before .eight .ensures) in
-    (omega arith, alike-more (now (a .x)) (now (a .s)) (a .at) (l .inv .1) e (c .before .eight2 .ensures) (omega arith))
+    (omega arith, alike-more (now (a .x)) (now (a .s)) (a .at) (l .inv .1) (eight-once e (c .before .eight2 .ensures)) (omega arith))
 
 add-eight-2 : tie.Need-add-eight-2 Inv-loop μ-loop
 add-eight-2 c = search needs
@@ -77,7 +77,7 @@ returns-5 : tie.Need-returns-5 Inv-loop μ-loop
 returns-5 c = λ e.
     let a = c .before .before .before .before .before .before .before .before .before .args in
     let h = subst (Eight (now (a .s)) _) (eqb-true _ _ e) (c .before .eight3 .ensures) in
-    let z = alike-more (now (a .x)) (now (a .s)) (a .at) (c .before .before .before .loop .inv .1) h (c .eight4 .ensures) (omega arith) in
+    let z = alike-more (now (a .x)) (now (a .s)) (a .at) (c .before .before .before .loop .inv .1) (eight-once h (c .eight4 .ensures)) (omega arith) in
     alike-stands (now (a .x)) (now (a .s)) (a .at) (omega arith) (subst (Alike (now (a .x)) (now (a .s)) (a .at)) (omega arith) z)
 
 pub stands-spec : {M : Type 1} → statement M

@@ -1,5 +1,5 @@
 -- `value_vocabulary::row_in` meets its contract: a text's number is below 255, and the row is at the place of its number.
-use Rattle.value_vocabulary.proofs.Lookup.{no-row, has-row}
+use Rattle.value_vocabulary.proofs.Keyed.{no-row, has-row}
 use borrow.Author.Needs.{needs}
 use Rattle.value_vocabulary.proofs.row_in.Statement.{statement}
 use Rattle.value_vocabulary.proofs.row_in.Tie as tie
@@ -21,8 +21,8 @@ pair-at-requires c κs = search needs
 
 returns-2 : tie.Need-returns-2
 returns-2 c =
-    let args = c .before .before .before .before .before .args in
-    has-row (args .rows) (c .before .before .find .ensures .0) (c .before .if1 .left) (c .pair-at .ensures .0)
+    let args = c .before .before .before .before .before .before .args in
+    has-row (args .rows) (c .before .before .before .find .ensures .0) (c .before .before .if1 .left) (c .pair-at .ensures .0)
 
 pub row-in-spec : {M : Type 1} → statement M
 row-in-spec =

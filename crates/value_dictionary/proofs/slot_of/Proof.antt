@@ -1,11 +1,11 @@
--- `value_vocabulary::slot_of` meets its contract: the product is below 2 ^ 48, and the slot is under the mask.
+-- `value_dictionary::slot_of` meets its contract: the product is below 2 ^ 48, and the slot is under the mask.
 use Prim.Native.Nat.{_+_, _*_, _/_, _≤_}
 use native.Mathlib.Nat.{mul-le-mul}
 use native.Mathlib.Omega.{arith}
 use lib.Bits.{and-le-r}
 use borrow.Author.Needs.{needs}
-use Rattle.value_vocabulary.proofs.slot_of.Statement.{statement}
-use Rattle.value_vocabulary.proofs.slot_of.Tie as tie
+use Rattle.value_dictionary.proofs.slot_of.Statement.{statement}
+use Rattle.value_dictionary.proofs.slot_of.Tie as tie
 
 byte-at-requires : tie.Need-byte-at-requires
 byte-at-requires c κs = search needs
