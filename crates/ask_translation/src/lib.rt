@@ -26,7 +26,7 @@ pub enum Plan {
     From(usize),
 }
 
-pub fn plan_of(s: &[u8], known: Known, feature: FoundFeature, vocabulary: &[u8; 3498]) -> Plan
+pub fn plan_of(s: &[u8], known: Known, feature: FoundFeature, vocabulary: &[u8; 3492]) -> Plan
     requires { ⌜ VocabularyTable (now vocabulary) ⌝ }
     ensures { λ r. ⌜ Plans (now (s .entry)) known feature r ⌝ }
 {
@@ -61,7 +61,7 @@ pub fn translate(
     known: Known,
     feature: FoundFeature,
     code: &[u8; 5128],
-    vocabulary: &[u8; 3498],
+    vocabulary: &[u8; 3492],
     out: &mut [u8],
 ) -> Written
     requires { ⌜ CodeTable code1 (now code) ⌝ }

@@ -41,7 +41,7 @@ fn line_size(
     feature: FoundFeature,
     room: usize,
     code: &[u8; 5128],
-    vocabulary: &[u8; 3498],
+    vocabulary: &[u8; 3492],
 ) -> Lined
     requires { ⌜ CodeTable code1 (now code) ⌝ }
     requires { ⌜ VocabularyTable (now vocabulary) ⌝ }
@@ -101,7 +101,7 @@ fn lines_size(
     known: Known,
     room: usize,
     code: &[u8; 5128],
-    vocabulary: &[u8; 3498],
+    vocabulary: &[u8; 3492],
 ) -> Lined
     requires { ⌜ CodeTable code1 (now code) ⌝ }
     requires { ⌜ VocabularyTable (now vocabulary) ⌝ }
@@ -131,7 +131,7 @@ fn put_line(
     known: Known,
     feature: FoundFeature,
     code: &[u8; 5128],
-    vocabulary: &[u8; 3498],
+    vocabulary: &[u8; 3492],
     out: &mut [u8],
 ) -> usize
     requires { ⌜ CodeTable code1 (now code) ⌝ }
@@ -154,7 +154,7 @@ fn put_lines(
     first: usize,
     known: Known,
     code: &[u8; 5128],
-    vocabulary: &[u8; 3498],
+    vocabulary: &[u8; 3492],
     out: &mut [u8],
 )
     requires { ⌜ CodeTable code1 (now code) ⌝ }
@@ -185,7 +185,7 @@ pub fn translate_all(
     known: Known,
     found: FoundTable,
     code: &[u8; 5128],
-    vocabulary: &[u8; 3498],
+    vocabulary: &[u8; 3492],
     out: &mut [u8],
 ) -> Written
     requires { ⌜ CodeTable code1 (now code) ⌝ }

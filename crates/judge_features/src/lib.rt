@@ -210,7 +210,7 @@ fn judge_feature(
     at: usize,
     known: Known,
     code: &[u8; 5128],
-    vocabulary: &[u8; 3498],
+    vocabulary: &[u8; 3492],
 ) -> Featured
     requires { ⌜ CodeTable code1 (now code) ⌝ }
     requires { ⌜ VocabularyTable (now vocabulary) ⌝ }
@@ -272,7 +272,7 @@ fn judge_features(
     first: usize,
     known: Known,
     code: &[u8; 5128],
-    vocabulary: &[u8; 3498],
+    vocabulary: &[u8; 3492],
 ) -> Tally
     requires { ⌜ CodeTable code1 (now code) ⌝ }
     requires { ⌜ VocabularyTable (now vocabulary) ⌝ }
@@ -301,7 +301,7 @@ pub fn judge_table(
     found: FoundTable,
     known: Known,
     code: &[u8; 5128],
-    vocabulary: &[u8; 3498],
+    vocabulary: &[u8; 3492],
 ) -> Tabled
     requires { ⌜ CodeTable code1 (now code) ⌝ }
     requires { ⌜ VocabularyTable (now vocabulary) ⌝ }

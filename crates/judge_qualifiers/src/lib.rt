@@ -261,7 +261,7 @@ pub struct Noted {
 }
 
 // `row` is the place of the key's row in the vocabulary, `upper` whether the names of a source are in upper case.
-pub fn note(s: &[u8], first: usize, upper: bool, row: usize, vocabulary: &[u8; 3498]) -> Noted
+pub fn note(s: &[u8], first: usize, upper: bool, row: usize, vocabulary: &[u8; 3492]) -> Noted
     requires { ⌜ VocabularyTable (now vocabulary) ⌝ }
     ensures { λ r. ⌜ Notes (now (s .entry)) first upper row (now (vocabulary .entry)) r ⌝ }
 {
@@ -338,7 +338,7 @@ pub enum Start {
 }
 
 // Of a region that keeps rule 27.
-pub fn start_of(s: &[u8], first: usize, verdict: Judgement, vocabulary: &[u8; 3498]) -> Start
+pub fn start_of(s: &[u8], first: usize, verdict: Judgement, vocabulary: &[u8; 3492]) -> Start
     requires { ⌜ VocabularyTable (now vocabulary) ⌝ }
     ensures { λ r. ⌜ StartsAt (now (s .entry)) first verdict r ⌝ }
 {

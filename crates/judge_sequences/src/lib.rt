@@ -99,7 +99,7 @@ fn judge_sequence(
     k: usize,
     symbols: &[u8; 256],
     code: &[u8; 5128],
-    vocabulary: &[u8; 3498],
+    vocabulary: &[u8; 3492],
 ) -> One
     requires { ⌜ SymbolTable (now symbols) ⌝ }
     requires { ⌜ CodeTable code1 (now code) ⌝ }
@@ -154,7 +154,7 @@ pub fn judge_sequences(
     first: usize,
     symbols: &[u8; 256],
     code: &[u8; 5128],
-    vocabulary: &[u8; 3498],
+    vocabulary: &[u8; 3492],
 ) -> Total
     requires { ⌜ SymbolTable (now symbols) ⌝ }
     requires { ⌜ CodeTable code1 (now code) ⌝ }

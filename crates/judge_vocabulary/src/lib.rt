@@ -22,7 +22,7 @@ fn has_all(needs: usize, first: bool, second: bool) -> bool
 }
 
 // Of a key of DNA, RNA or AA: `key` is its place, `row` that of its row, 0 where it is unknown.
-fn judge_row(key: usize, row: usize, words: Worded, vocabulary: &[u8; 3498]) -> Fault
+fn judge_row(key: usize, row: usize, words: Worded, vocabulary: &[u8; 3492]) -> Fault
     ensures { λ r. ⌜ JudgesRow (now (vocabulary .entry)) key row words r ⌝ }
 {
     if row == 0 {
@@ -58,7 +58,7 @@ pub fn judge_words(
     kind: Molecule,
     row: usize,
     words: Worded,
-    vocabulary: &[u8; 3498],
+    vocabulary: &[u8; 3492],
 ) -> Fault
     ensures { λ r. ⌜ JudgesWords (now (vocabulary .entry)) key kind row words r ⌝ }
 {

@@ -161,15 +161,15 @@ row-of-kind : (j : Kind) {w t : List ℕ} {row : ℕ} → ((v : List ℕ) → w 
 row-of-kind j {t = t} {row} f k e v h = subst (λ (k : Kind). RowIs k t v row) (sym (name-once k j e)) (f v h)
 
 module _ {t w : List ℕ} (table : VocabularyTable t) {row : ℕ} where
-  pub finds-acid : (c : Molecule) → isAcid c ≡ true → RowIn 4266913 501 (drop 1991 t) w row → FindsRow t w c row
+  pub finds-acid : (c : Molecule) → isAcid c ≡ true → RowIn 4266913 499 (drop 1987 t) w row → FindsRow t w c row
   finds-acid kind.Dna e f = absurd (true≢false (sym e))
   finds-acid kind.Rna e f = absurd (true≢false (sym e))
-  finds-acid kind.Aa e f = record { says = row-of-kind aa (row-is aa 4266913 501 (table .acids) f) }
+  finds-acid kind.Aa e f = record { says = row-of-kind aa (row-is aa 4266913 499 (table .acids) f) }
   finds-acid kind.Other e f = absurd (true≢false (sym e))
 
-  pub finds-base : (c : Molecule) → isAcid c ≡ false → RowIn 4094411 657 (drop 1236 t) w row → FindsRow t w c row
-  finds-base kind.Dna e f = record { says = row-of-kind dna (row-is dna 4094411 657 (table .nucleotides) f) }
-  finds-base kind.Rna e f = record { says = row-of-kind rna (row-is rna 4094411 657 (table .nucleotides) f) }
+  pub finds-base : (c : Molecule) → isAcid c ≡ false → RowIn 4094411 655 (drop 1234 t) w row → FindsRow t w c row
+  finds-base kind.Dna e f = record { says = row-of-kind dna (row-is dna 4094411 655 (table .nucleotides) f) }
+  finds-base kind.Rna e f = record { says = row-of-kind rna (row-is rna 4094411 655 (table .nucleotides) f) }
   finds-base kind.Aa e f = absurd (true≢false e)
   -- no kind is the other one
   finds-base kind.Other e f = record { says = λ k n v h. absurd (n k refl) }

@@ -75,5 +75,5 @@ pub record Keys (upper : Bool) (rows : List Row) (factor places : ℕ) (part t :
 -- the places and factors are those of src/tables.rt
 pub record VocabularyTable (t : List ℕ) : Type 0 where
   pub names : Dictionary 13895407 255 (map raw nameTexts) t
-  pub nucleotides : Keys false nucleotideRows 4094411 657 (drop 1236 t) t
-  pub acids : Keys true aminoRows 4266913 501 (drop 1991 t) t
+  pub nucleotides : Keys false nucleotideRows 4094411 655 (drop 1234 t) t
+  pub acids : Keys true aminoRows 4266913 499 (drop 1987 t) t

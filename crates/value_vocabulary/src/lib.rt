@@ -22,7 +22,7 @@ ghost use Rattle.value_vocabulary.specs.Tables.{RowIn, VocabularyTable, 
 ghost use Rattle.value_vocabulary.specs.Lookups.{NameNumber, isAcid, FindsRow};
 
 // The table of the vocabulary.
-pub fn vocabulary_table() -> [u8; 3498]
+pub fn vocabulary_table() -> [u8; 3492]
     ensures { λ r. ⌜ VocabularyTable r ⌝ }
 {
     tables::WORDS
@@ -31,7 +31,7 @@ pub fn vocabulary_table() -> [u8; 3498]
 // ---- names
 
 // The number of a qualifier's name: that of its row in section 6, then the older names; 255 where it is none of them.
-pub fn name_of(w: &[u8], words: &[u8; 3498]) -> usize
+pub fn name_of(w: &[u8], words: &[u8; 3492]) -> usize
     requires { ⌜ VocabularyTable (now words) ⌝ }
     ensures { λ r. ⌜ NameNumber (now (w .entry)) r ⌝ }
 {
@@ -42,9 +42,9 @@ pub fn name_of(w: &[u8], words: &[u8; 3498]) -> usize
 
 // The place of the row of a key, 0 where it has none. `base`: where the keys stand; `rows`: where in their part the places of the rows do.
 // Whatever number a text has, what is looked up by it lies in the table.
-fn row_in(w: &[u8], words: &[u8; 3498], base: usize, factor: usize, rows: usize) -> usize
+fn row_in(w: &[u8], words: &[u8; 3492], base: usize, factor: usize, rows: usize) -> usize
     requires { ⌜ factor < 16_777_216 ⌝ }
-    requires { ⌜ base + rows + 639 < 3_498 ⌝ }
+    requires { ⌜ base + rows + 639 < 3_492 ⌝ }
     ensures { λ r. ⌜ RowIn factor rows (drop base (now (words .entry))) (now (w .entry)) r ⌝ }
 {
     let k = find(w, words, base, factor, 127);
@@ -67,7 +67,7 @@ fn is_acid(kind: Molecule) -> bool
 }
 
 // The place of the row of a key of this kind, 0 where the key is unknown. Where the moltype names no kind nothing is said.
-pub fn row_of(w: &[u8], kind: Molecule, words: &[u8; 3498]) -> usize
+pub fn row_of(w: &[u8], kind: Molecule, words: &[u8; 3492]) -> usize
     requires { ⌜ VocabularyTable (now words) ⌝ }
     ensures { λ r. ⌜ FindsRow (now (words .entry)) (now (w .entry)) kind r ⌝ }
 {
@@ -85,8 +85,8 @@ pub fn row_of(w: &[u8], kind: Molecule, words: &[u8; 3498]) -> usize
 
 // ---- rows
 
-// The byte at a place, 0 behind the end.
-fn byte_at(t: &[u8], i: usize) -> usize
+// A byte of a row, by its place in the table; 0 behind the end.
+fn row_byte(t: &[u8], i: usize) -> usize
     ensures { λ r. ⌜ (r ≡ byteOf (now (t .entry)) i) × (r < 256) ⌝ }
 {
     if i < t.len() {
@@ -96,20 +96,20 @@ fn byte_at(t: &[u8], i: usize) -> usize
 }
 
 // How many names the row at a place requires: none, one or two.
-pub fn needs(row: usize, words: &[u8; 3498]) -> usize
+pub fn needs(row: usize, words: &[u8; 3492]) -> usize
     ensures { λ r. ⌜ r ≡ needsAt (now (words .entry)) row ⌝ }
 {
-    byte_at(words, row)
+    row_byte(words, row)
 }
 
 // How a name stands in the row at a place: 0 not allowed, 1 allowed, 2 the first that is required, 3 the second. Every other byte of a
 // row is turned round: else the rows had long runs of 0, and LLVM would store those twice.
-pub fn standing(row: usize, name: usize, words: &[u8; 3498]) -> usize
+pub fn standing(row: usize, name: usize, words: &[u8; 3492]) -> usize
     ensures { λ r. ⌜ r ≡ standingAt (now (words .entry)) row name ⌝ }
 {
     if name < 85 {
         if row < 65_536 {
-            let bits = (byte_at(words, row + 1 + name / 4) >> (2 * (name % 4))) % 4;
+            let bits = (row_byte(words, row + 1 + name / 4) >> (2 * (name % 4))) % 4;
             if name % 8 < 4 {
                 return bits;
             }

@@ -4,14 +4,14 @@ use borrow.Author.Needs.{needs}
 use Rattle.value_vocabulary.proofs.standing.Statement.{statement}
 use Rattle.value_vocabulary.proofs.standing.Tie as tie
 
-add-byte-at : tie.Need-add-byte-at
-add-byte-at c = search needs
+add-row-byte : tie.Need-add-row-byte
+add-row-byte c = search needs
 
-add-byte-at-2 : tie.Need-add-byte-at-2
-add-byte-at-2 c = search needs
+add-row-byte-2 : tie.Need-add-row-byte-2
+add-row-byte-2 c = search needs
 
-byte-at-requires : tie.Need-byte-at-requires
-byte-at-requires c κs = search needs
+row-byte-requires : tie.Need-row-byte-requires
+row-byte-requires c κs = search needs
 
 mul-bits : tie.Need-mul-bits
 mul-bits c = search needs
@@ -20,13 +20,13 @@ shr-bits : tie.Need-shr-bits
 shr-bits c = search needs
 
 returns : tie.Need-returns
-returns c = rw (lt-ltb _ _ (c .before .before .before .before .if1 .taken), lt-ltb _ _ (c .before .before .before .if2 .taken), c .before .byte-at .ensures .0, lt-ltb _ _ (c .if3 .taken))
+returns c = rw (lt-ltb _ _ (c .before .before .before .before .if1 .taken), lt-ltb _ _ (c .before .before .before .if2 .taken), c .before .row-byte .ensures .0, lt-ltb _ _ (c .if3 .taken))
 
 sub-result : tie.Need-sub-result
 sub-result c = search needs
 
 returns-2 : tie.Need-returns-2
-returns-2 c = rw (lt-ltb _ _ (c .before .before .before .before .if1 .taken), lt-ltb _ _ (c .before .before .before .if2 .taken), c .before .byte-at .ensures .0, le-ltb _ _ (c .if3 .left))
+returns-2 c = rw (lt-ltb _ _ (c .before .before .before .before .if1 .taken), lt-ltb _ _ (c .before .before .before .if2 .taken), c .before .row-byte .ensures .0, le-ltb _ _ (c .if3 .left))
 
 returns-3 : tie.Need-returns-3
 returns-3 c = rw (lt-ltb _ _ (c .before .if1 .taken), le-ltb _ _ (c .if2 .left))
@@ -38,9 +38,9 @@ pub standing-spec : {M : Type 1} → statement M
 standing-spec =
     tie.close
     (tie.spec
-    add-byte-at
-    add-byte-at-2
-    byte-at-requires
+    add-row-byte
+    add-row-byte-2
+    row-byte-requires
     mul-bits
     shr-bits
     returns

@@ -12,8 +12,8 @@ returns : tie.Need-returns
 returns c =
     record {
       names = dictionary-right 13895407 255 _ _ (omega arith) refl refl;
-      nucleotides = keys-right false nucleotideRows 657 2578 _ _ 4094411 (dictionary-right 4094411 127 _ _ (omega arith) refl refl) refl;
-      acids = keys-right true aminoRows 501 2578 _ _ 4266913 (dictionary-right 4266913 127 _ _ (omega arith) refl refl) refl;
+      nucleotides = keys-right false nucleotideRows 655 2572 _ _ 4094411 (dictionary-right 4094411 127 _ _ (omega arith) refl refl) refl;
+      acids = keys-right true aminoRows 499 2572 _ _ 4266913 (dictionary-right 4266913 127 _ _ (omega arith) refl refl) refl;
     }
 
 pub vocabulary-table-spec : {M : Type 1} → statement M

@@ -1,10 +1,10 @@
--- `value_vocabulary::byte_at` meets its contract: a byte is below 256.
+-- `value_vocabulary::row_byte` meets its contract: a byte is below 256.
 use lib.ListN.{List·getD-eq-default}
 use mathlib.Core.Path.{refl, sym}
 use native.Mathlib.Omega.{arith}
 use borrow.Author.Needs.{needs}
-use Rattle.value_vocabulary.proofs.byte_at.Statement.{statement}
-use Rattle.value_vocabulary.proofs.byte_at.Tie as tie
+use Rattle.value_vocabulary.proofs.row_byte.Statement.{statement}
+use Rattle.value_vocabulary.proofs.row_byte.Tie as tie
 
 shared-slice-read-result : tie.Need-shared-slice-read-result
 shared-slice-read-result c = search needs
@@ -18,5 +18,5 @@ returns c = (refl, omega (arith, c .shared-slice-known .given (c .before .before
 returns-2 : tie.Need-returns-2
 returns-2 c = (sym (List·getD-eq-default (c .before .args .t .now) 0 {n = c .before .args .i} (omega arith)), omega arith)
 
-pub byte-at-spec : {M : Type 1} → statement M
-byte-at-spec = tie.close (tie.spec shared-slice-read-result cast-result returns returns-2)
+pub row-byte-spec : {M : Type 1} → statement M
+row-byte-spec = tie.close (tie.spec shared-slice-read-result cast-result returns returns-2)
