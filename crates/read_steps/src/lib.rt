@@ -122,6 +122,14 @@ fn eight(s: &[u8], at: usize) -> u64
         + 281_474_976_710_656 * two(s[at + 6], s[at + 7])
 }
 
+// Four bytes so.
+fn four(s: &[u8], at: usize) -> u64
+    requires { ⌜ at + 4 ≤ length (now s) ⌝ }
+    ensures { λ r. ⌜ Four (now (s .entry)) at r ⌝ }
+{
+    two(s[at], s[at + 1]) + 65_536 * two(s[at + 2], s[at + 3])
+}
+
 // Whether the word x stands here, eight bytes at a time: only a yes says so, and a word of less than eight bytes gets a quick no. The last
 // eight may overlap.
 pub fn stands(s: &[u8], at: usize, x: &[u8]) -> bool
@@ -147,16 +155,8 @@ pub fn stands(s: &[u8], at: usize, x: &[u8]) -> bool
     eight(s, at + (n - 8)) == eight(x, n - 8)
 }
 
-// Four bytes as one number.
-fn four(s: &[u8], at: usize) -> u64
-    requires { ⌜ at + 4 ≤ length (now s) ⌝ }
-    ensures { λ r. ⌜ Four (now (s .entry)) at r ⌝ }
-{
-    two(s[at], s[at + 1]) + 65_536 * two(s[at + 2], s[at + 3])
-}
-
-// The same of a word of four to eight bytes: the last four may overlap the first. In a function of its own: with it in `stands`, `word`
-// is no longer inlined.
+// The same of a word of four to eight bytes, four at a time; the last four may overlap. It stands apart from `stands`, which would be too
+// large then to be inlined in `word`.
 pub fn stands_short(s: &[u8], at: usize, x: &[u8]) -> bool
     ensures { λ r. ⌜ (r ≡ true → StandsAt (now (x .entry)) (now (s .entry)) at) ⌝ }
 {

@@ -36,7 +36,8 @@ fn slot_of(w: &[u8], factor: usize, mask: usize) -> usize
     p * factor / 16_777_216 & mask
 }
 
-// The number of a text, 255 where it is none of the dictionary's. Whatever number a slot has, its two bytes lie in the table.
+// The number of a text, 255 where it is none of the dictionary's. Whatever number a slot has, its two bytes lie in the table. Of the first
+// two comparisons only a yes says something.
 pub fn find(w: &[u8], t: &[u8], base: usize, factor: usize, mask: usize) -> usize
     requires { ⌜ factor < 16_777_216 ⌝ }
     requires { ⌜ mask < 256 ⌝ }
