@@ -29,9 +29,3 @@ pub each-same : {A : Type 0} (f g : ℕ → A) (n : ℕ) → listed f 0 n ≡ li
 each-same f g n same k h =
     let z : k ≡ 0 + k = omega arith in
     ap f z ∙ sym (listed-at f 0 n k (f 0) h) ∙ ap (λ (l : List _). getD l k (f 0)) same ∙ listed-at g 0 n k (f 0) h ∙ ap g (sym z)
-
--- a function of numbers gives what another makes of each element of a list
-pub each-element : {A B : Type 0} (f : ℕ → B) (g : A → B) (l : List A) (d : A) (n : ℕ) → listed f 0 n ≡ map g l → (k : ℕ) → k < n → f k ≡ g (getD l k d)
-each-element f g l d n same k h =
-    let z : k ≡ 0 + k = omega arith in
-    ap f z ∙ sym (listed-at f 0 n k (g d) h) ∙ ap (λ (x : List _). getD x k (g d)) same ∙ List·getD-map g l k d
