@@ -23,7 +23,7 @@ use Rattle.value_words.proofs.Tests.{told}
 use Rattle.location_judge.specs.Judging.{JudgedText, JudgesPart}
 use Rattle.location_judge.specs.declared.judging.Judgement.{Judgement}
 use Rattle.location_judge.proofs.Verdicts.{judged-by}
-use Rattle.value_vocabulary.specs.Lookups.{FindsRow}
+use Rattle.value_vocabulary.specs.Lookups.{isAcid, FindsRow}
 use Rattle.judge_faults.specs.Sets.{Faults, Earlier, Firsts}
 use Rattle.judge_faults.specs.Known.{Knows, CodeOf}
 use Rattle.judge_faults.specs.declared.Known.{Known}
@@ -31,7 +31,7 @@ use Rattle.judge_faults.proofs.Bytes.{part-shows, text-shown}
 use Rattle.judge_faults.proofs.Parts.{_or_}
 use Rattle.judge_faults.proofs.Faults.{firsts-or, firsts-as}
 use Rattle.judge_faults.proofs.Moltypes.{code-is}
-use Rattle.judge_qualifiers.specs.Qualifiers.{inUpper, IsNoted, Notes}
+use Rattle.judge_qualifiers.specs.Qualifiers.{IsNoted, Notes}
 use Rattle.judge_qualifiers.specs.declared.Noted.{Noted}
 use Rattle.judge_vocabulary.specs.Words.{JudgesWords}
 use Rattle.judge_source.specs.Sources.{JudgesSource}
@@ -85,7 +85,7 @@ module _ (v : Judgement) {s : List ℕ} {known : Known} {x : FoundFeature} {q : 
       (placed q (f .location) v (known .kind) judged (k .kind))
 
 -- the names that were counted are those of the paper's kind
-upper-is : (c : code.Molecule) (k : Kind) → CodeOf c k → inUpper c ≡ upperIn k
+upper-is : (c : code.Molecule) (k : Kind) → CodeOf c k → isAcid c ≡ upperIn k
 upper-is kind.Dna k e = rw e refl
 upper-is kind.Rna k e = rw e refl
 upper-is kind.Aa k e = rw e refl
@@ -101,7 +101,7 @@ module _ {s : List ℕ} {x : FoundFeature} {noted : Noted} {upper : Bool} {row :
 
 module _ (v : Judgement) (place words own : Fault) {s wk t : List ℕ} {at n row : ℕ} {known : Known} {x : FoundFeature} {noted : Noted} {upper is-source : Bool} (finds : MeetsFeature s at x)
     (jl : JudgesPart s (x .location .from) (x .location .to) (known .top) v) (sk : ShowsBytes s (x .key .from) (x .key .to) wk) (rows : FindsRow t wk (known .kind) row)
-    (eu : upper ≡ inUpper (known .kind)) (notes : Notes s (x .quals) upper row t noted) (pl : place ≡ placeFault v (known .kind) (x .location .from))
+    (eu : upper ≡ isAcid (known .kind)) (notes : Notes s (x .quals) upper row t noted) (pl : place ≡ placeFault v (known .kind) (x .location .from))
     (jw : JudgesWords t (x .key .from) (known .kind) row (noted .words) words) (eo : Earlier place words own)
     (ends : Ends (featureTail (x .long)) (Not isBlank) s (noted .next) n) (ns : NamesSource wk (known .kind) is-source) where
   -- what location and words break

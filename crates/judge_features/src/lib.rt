@@ -226,7 +226,7 @@ fn judge_feature(
     let verdict = location_judge::judging::judge_location(s, location.from, location.to, known.top);
     let name = read_steps::bytes_of(s, key.from, key.to);
     let row = value_vocabulary::row_of(name, kind, vocabulary);
-    let upper = judge_qualifiers::in_upper(kind);
+    let upper = value_vocabulary::is_acid(kind);
     let noted = judge_qualifiers::note(s, quals, upper, row, vocabulary);
     let place = judge_faults::earlier(
         judge_place(verdict, kind, location.from),

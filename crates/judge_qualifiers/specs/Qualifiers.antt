@@ -3,7 +3,7 @@
 use Prim.Native.Nat.{ℕ}
 use Prim.Native.String.{String}
 use mathlib.Core.Path.{_≡_}
-use mathlib.Core.Bool.{Bool, true, false}
+use mathlib.Core.Bool.{Bool, true}
 use mathlib.Core.Logic.{_⊎_}
 use mathlib.Core.List.{List, [], _∷_, _++_}
 use mathlib.Core.Option.{Option, some}
@@ -17,8 +17,6 @@ use Rattle.paper.specs.Values.{Number}
 use Rattle.paper.specs.Rules.{Named, organismName, molTypeName, valueRead, Unjudged}
 use Rattle.read_steps.specs.Follow.{Starts, closing}
 use Rattle.value_words.specs.Reading.{Tells}
-use Rattle.value_words.specs.declared.Molecule as code
-use Rattle.value_words.specs.declared.Molecule.the-variants as kind
 use Rattle.walk_steps.specs.Stands.{Stands, MaybeIs}
 use Rattle.walk_steps.specs.declared.Maybe.{Maybe}
 use Rattle.value_dictionary.specs.Texts.{PlaceOf}
@@ -111,13 +109,6 @@ pub record LeavesOut (excepted : Bool) (verdict : Judgement) (r : Bool) : Type 0
   pub says : (n : ℕ) (f : Feature ℕ) → Tells excepted (HasExcepted (qualifiersOf f)) → JudgedText n (f .location .read) verdict → Tells r (Unjudged f)
 
 -- ---- rule 22
-
--- whether the names of a source are in upper case
-abbrev pub inUpper : code.Molecule → Bool
-inUpper kind.Dna = false
-inUpper kind.Rna = false
-inUpper kind.Aa = true
-inUpper kind.Other = false
 
 abbrev pub IsOrganism : Bool → List ℕ → Type 0
 IsOrganism upper v = v ≡ bytes (organismName upper)

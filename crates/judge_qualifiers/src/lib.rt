@@ -16,7 +16,7 @@ use walk_steps::Maybe;
 ghost use mathlib.Core.Path.{_≡_};
 ghost use mathlib.Core.Bool.{_||_, cond};
 ghost use Rattle.value_vocabulary.specs.Tables.{VocabularyTable};
-ghost use Rattle.judge_qualifiers.specs.Qualifiers.{inUpper, ValueIs, OfName, States, Frames, Excepted, Excepts, IsOrganism, IsMolType, Meets, WithWord, Notes, LeavesOut};
+ghost use Rattle.judge_qualifiers.specs.Qualifiers.{ValueIs, OfName, States, Frames, Excepted, Excepts, IsOrganism, IsMolType, Meets, WithWord, Notes, LeavesOut};
 ghost use Rattle.judge_qualifiers.specs.Starts.{NamesCoding, StartsAt};
 
 // The numbers of the names that are asked for, in the vocabulary.
@@ -150,18 +150,6 @@ fn excepted_with(s: &[u8], excepted: bool, name: usize, value: Maybe) -> bool
 }
 
 // ---- rule 22
-
-// Whether the names of a source are in upper case, for a kind.
-pub fn in_upper(kind: Molecule) -> bool
-    ensures { λ r. ⌜ r ≡ inUpper kind ⌝ }
-{
-    match kind {
-        Molecule::Dna => false,
-        Molecule::Rna => false,
-        Molecule::Aa => true,
-        Molecule::Other => false,
-    }
-}
 
 fn is_organism(name: usize, upper: bool) -> bool
     ensures { λ r. ⌜ OfName name (IsOrganism upper) r ⌝ }

@@ -1,5 +1,5 @@
-// The sequences of a listing: rules 15 to 29 and 40 to 42, and the counts. Relies on the walk along them, and on the judges of their texts and
-// features.
+// The sequences of a listing: rules 15 to 29 and 40 to 42, and the counts. Relies on the walk along them, and on the judges of their
+// texts and features.
 use judge_faults::Fault;
 use judge_features::Tabled;
 use walk_items::FoundSequence;

@@ -18,7 +18,7 @@ use Rattle.judge_qualifiers.specs.declared.Noted.{Noted}
 pub record TellsOnce (organisms molTypes : ℕ) (r : Bool) : Type 0 where
   pub says : Tells r ((organisms ≡ 1) × (molTypes ≡ 1))
 
--- the feature f of the sequence q is judged as a source, its names in upper case or not, whatever its row is, and its qualifiers end at `stop`
+-- the feature f of the sequence q is judged as a source, its names in upper case or not, whatever its row is; its qualifiers end at `stop`
 pub record Asked (s : List ℕ) (key : ℕ) (location : Range) (noted : Noted) (known : Known) (upper : Bool) (row : ℕ) (t : List ℕ) (q : Sequence ℕ) (f : Feature ℕ) (stop : ℕ) : Type 0 where
   pub knows : Knows s q known
   pub at : key ≡ f .key .place

@@ -1,8 +1,8 @@
 -- Words compared eight or four bytes at a time: bytes with one number are the same. And a word that stands is read.
-use Prim.Native.Nat.{ℕ, zero, suc, _+_, _*_, _-_, _≤_, _<_}
+use Prim.Native.Nat.{ℕ, zero, suc, _+_, _-_, _≤_, _<_}
 use native.Mathlib.Decide.{decLe}
 use native.Mathlib.Omega.{arith}
-use mathlib.Core.Path.{_≡_, ap, sym, _∙_}
+use mathlib.Core.Path.{_≡_, ap, sym, _∙_, subst}
 use mathlib.Core.List.{List}
 use lib.ListN.{length, getD, take, drop}
 use lib.Seq.{take-append-seam, take-length}
@@ -22,53 +22,45 @@ two-once x y e =
 two-small : {a b r : ℕ} → LowFirst a b r → r < 65536
 two-small x = omega (arith, x .is, x .low, x .high)
 
-digit : {a q a′ q′ : ℕ} → a < 65536 → a′ < 65536 → a + 65536 * q ≡ a′ + 65536 * q′ → (a ≡ a′) × (q ≡ q′)
-digit h h′ e = (omega (arith, h, h′, e), omega (arith, h, h′, e))
+pub four-small : {s : List ℕ} {m r : ℕ} → Four s m r → r < 4294967296
+four-small p = omega (arith, p .is, two-small (p .first), two-small (p .second))
 
--- what holds of 0 to 7 holds below 8
-below-eight : (P : ℕ → Type 0) → P 0 → P 1 → P 2 → P 3 → P 4 → P 5 → P 6 → P 7 → (k : ℕ) → k < 8 → P k
-below-eight P a b c d e f g h zero l = a
-below-eight P a b c d e f g h (suc zero) l = b
-below-eight P a b c d e f g h (suc (suc zero)) l = c
-below-eight P a b c d e f g h (suc (suc (suc zero))) l = d
-below-eight P a b c d e f g h (suc (suc (suc (suc zero)))) l = e
-below-eight P a b c d e f g h (suc (suc (suc (suc (suc zero))))) l = f
-below-eight P a b c d e f g h (suc (suc (suc (suc (suc (suc zero)))))) l = g
-below-eight P a b c d e f g h (suc (suc (suc (suc (suc (suc (suc zero))))))) l = h
-below-eight P a b c d e f g h (suc (suc (suc (suc (suc (suc (suc (suc k)))))))) l = absurd (omega (arith, l))
+-- the bytes of four, and of eight, with one number are the same
+module _ {s x : List ℕ} where
+  pub four-once : {m n r : ℕ} → Four s m r → Four x n r → (k : ℕ) → k < 4 → getD s (m + k) 0 ≡ getD x (n + k) 0
+  four-once {m} {n} p q = go
+    where
+      a : (p .low ≡ q .low) × (p .high ≡ q .high)
+      a = (omega (arith, p .is, q .is, two-small (p .first), two-small (q .first)), omega (arith, p .is, q .is, two-small (p .first), two-small (q .first)))
 
-pub eight-once : {s x : List ℕ} {m n r : ℕ} → Eight s m r → Eight x n r → (k : ℕ) → k < 8 → getD s (m + k) 0 ≡ getD x (n + k) 0
-eight-once {s} {x} {m} {n} p q =
-    let h : p .a + 65536 * (p .b + 65536 * (p .c + 65536 * p .d)) ≡ q .a + 65536 * (q .b + 65536 * (q .c + 65536 * q .d)) = omega (arith, p .is, q .is) in
-    let a = digit (two-small (p .first)) (two-small (q .first)) h in
-    let b = digit (two-small (p .second)) (two-small (q .second)) (a .1) in
-    let c = digit (two-small (p .third)) (two-small (q .third)) (b .1) in
-    let t = two-once (p .first) (q .first) (a .0) in
-    let u = two-once (p .second) (q .second) (b .0) in
-    let v = two-once (p .third) (q .third) (c .0) in
-    let w = two-once (p .fourth) (q .fourth) (c .1) in
-    let m₀ : m + 0 ≡ m = omega arith in
-    let n₀ : n + 0 ≡ n = omega arith in
-    below-eight (λ (k : ℕ). getD s (m + k) 0 ≡ getD x (n + k) 0) (rw (m₀, n₀) (t .0)) (t .1) (u .0) (u .1) (v .0) (v .1) (w .0) (w .1)
+      t : (getD s m 0 ≡ getD x n 0) × (getD s (m + 1) 0 ≡ getD x (n + 1) 0)
+      t = two-once (p .first) (q .first) (a .0)
 
-pub four-once : {s x : List ℕ} {m n r : ℕ} → Four s m r → Four x n r → (k : ℕ) → k < 4 → getD s (m + k) 0 ≡ getD x (n + k) 0
-four-once {s} {x} {m} {n} p q = below-four
-  where
-    a : (p .a ≡ q .a) × (p .b ≡ q .b)
-    a = digit (two-small (p .first)) (two-small (q .first)) (omega (arith, p .is, q .is))
+      u : (getD s (m + 2) 0 ≡ getD x (n + 2) 0) × (getD s (m + 3) 0 ≡ getD x (n + 3) 0)
+      u = two-once (p .second) (q .second) (a .1)
 
-    t : (getD s m 0 ≡ getD x n 0) × (getD s (m + 1) 0 ≡ getD x (n + 1) 0)
-    t = two-once (p .first) (q .first) (a .0)
+      go : (k : ℕ) → k < 4 → getD s (m + k) 0 ≡ getD x (n + k) 0
+      go zero l = let m₀ : m + 0 ≡ m = omega arith in let n₀ : n + 0 ≡ n = omega arith in rw (m₀, n₀) (t .0)
+      go (suc zero) l = t .1
+      go (suc (suc zero)) l = u .0
+      go (suc (suc (suc zero))) l = u .1
+      go (suc (suc (suc (suc k)))) l = absurd (omega (arith, l))
 
-    u : (getD s (m + 2) 0 ≡ getD x (n + 2) 0) × (getD s (m + 3) 0 ≡ getD x (n + 3) 0)
-    u = two-once (p .second) (q .second) (a .1)
+  pub eight-once : {m n r : ℕ} → Eight s m r → Eight x n r → (k : ℕ) → k < 8 → getD s (m + k) 0 ≡ getD x (n + k) 0
+  eight-once {m} {n} p q k l = go (decLe 4 k)
+    where
+      low : p .low ≡ q .low
+      low = omega (arith, p .is, q .is, four-small (p .first), four-small (q .first))
 
-    below-four : (k : ℕ) → k < 4 → getD s (m + k) 0 ≡ getD x (n + k) 0
-    below-four zero l = let m₀ : m + 0 ≡ m = omega arith in let n₀ : n + 0 ≡ n = omega arith in rw (m₀, n₀) (t .0)
-    below-four (suc zero) l = t .1
-    below-four (suc (suc zero)) l = u .0
-    below-four (suc (suc (suc zero))) l = u .1
-    below-four (suc (suc (suc (suc k)))) l = absurd (omega (arith, l))
+      high : p .high ≡ q .high
+      high = omega (arith, p .is, q .is, four-small (p .first), four-small (q .first))
+
+      go : Dec (4 ≤ k) → getD s (m + k) 0 ≡ getD x (n + k) 0
+      go (yes h) =
+          let e : m + 4 + (k - 4) ≡ m + k = omega (arith, h) in
+          let f : n + 4 + (k - 4) ≡ n + k = omega (arith, h) in
+          ap (λ (i : ℕ). getD s i 0) (sym e) ∙ four-once (subst (Four s (m + 4)) high (p .second)) (q .second) (k - 4) (omega (arith, h, l)) ∙ ap (λ (i : ℕ). getD x i 0) f
+      go (no h) = four-once (subst (Four s m) low (p .first)) (q .first) k (omega (arith, h))
 
 module _ (x s : List ℕ) (at : ℕ) where
   pub first-four : {r : ℕ} → Four s at r → Four x 0 r → Alike x s at 4

@@ -111,23 +111,20 @@ pub fn lit(s: &[u8], st: Step, x: &[u8]) -> Step
     }
 }
 
-// Eight bytes as one number, the first lowest. It is compiled to one load.
-fn eight(s: &[u8], at: usize) -> u64
-    requires { ⌜ at + 8 ≤ length (now s) ⌝ }
-    ensures { λ r. ⌜ Eight (now (s .entry)) at r ⌝ }
-{
-    two(s[at], s[at + 1])
-        + 65_536 * two(s[at + 2], s[at + 3])
-        + 4_294_967_296 * two(s[at + 4], s[at + 5])
-        + 281_474_976_710_656 * two(s[at + 6], s[at + 7])
-}
-
-// Four bytes so.
+// Four bytes as one number, the first lowest. It is compiled to one load.
 fn four(s: &[u8], at: usize) -> u64
     requires { ⌜ at + 4 ≤ length (now s) ⌝ }
     ensures { λ r. ⌜ Four (now (s .entry)) at r ⌝ }
 {
     two(s[at], s[at + 1]) + 65_536 * two(s[at + 2], s[at + 3])
+}
+
+// Eight bytes so.
+fn eight(s: &[u8], at: usize) -> u64
+    requires { ⌜ at + 8 ≤ length (now s) ⌝ }
+    ensures { λ r. ⌜ Eight (now (s .entry)) at r ⌝ }
+{
+    four(s, at) + 4_294_967_296 * four(s, at + 4)
 }
 
 // Whether the word x stands here, eight bytes at a time: only a yes says so, and a word of less than eight bytes gets a quick no. The last

@@ -54,8 +54,8 @@ fn row_in(w: &[u8], words: &[u8; 3492], base: usize, factor: usize, rows: usize)
     pair_at(words, base, rows + 2 * k)
 }
 
-// Whether the words of AA are meant.
-fn is_acid(kind: Molecule) -> bool
+// Whether the words of AA are meant: its own keys, and the names of its source in upper case.
+pub fn is_acid(kind: Molecule) -> bool
     ensures { λ r. ⌜ r ≡ isAcid kind ⌝ }
 {
     match kind {

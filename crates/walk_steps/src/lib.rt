@@ -220,13 +220,13 @@ pub fn leave(s: &[u8], at: usize, name: &[u8]) -> usize
 }
 
 // An element that may be missing, or written `<X/>`: where its children stand if it is `long`, and what follows it if it isn't.
-// `here` says whether it is there.
 pub struct Opened {
     pub present: bool,
     pub long: bool,
     pub first: usize,
 }
 
+// `here` says whether it is there.
 pub fn children(s: &[u8], at: usize, name: &[u8], here: bool) -> Opened
     ensures { λ r. ⌜ OpensSo (now (name .entry)) here (now (s .entry)) at r ⌝ }
 {

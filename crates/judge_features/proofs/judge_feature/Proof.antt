@@ -16,8 +16,8 @@ bytes-of-requires c κs = search needs
 row-of-requires : tie.Need-row-of-requires
 row-of-requires c κs = search needs
 
-in-upper-requires : tie.Need-in-upper-requires
-in-upper-requires c κs = search needs
+is-acid-requires : tie.Need-is-acid-requires
+is-acid-requires c κs = search needs
 
 note-requires : tie.Need-note-requires
 note-requires c κs = search needs
@@ -46,12 +46,12 @@ returns c =
     let judge-location = c .before .before .before .before .before .before .before .before .before .before .before .judge-location in
     let bytes-of = c .before .before .before .before .before .before .before .before .before .before .bytes-of in
     let row-of = c .before .before .before .before .before .before .before .before .before .row-of in
-    let in-upper = c .before .before .before .before .before .before .before .before .in-upper in
+    let is-acid = c .before .before .before .before .before .before .before .before .is-acid in
     let note = c .before .before .before .before .before .before .before .note in
     let judge-place = c .before .before .before .before .before .before .judge-place in
     let judge-words = c .before .before .before .before .before .judge-words in
     as-source (judge-location .result) (judge-place .result) (judge-words .result) (c .before .before .before .before .earlier .result)
-    (feature .ensures) (judge-location .ensures) (bytes-of .ensures) (row-of .ensures) (in-upper .ensures) (note .ensures)
+    (feature .ensures) (judge-location .ensures) (bytes-of .ensures) (row-of .ensures) (is-acid .ensures) (note .ensures)
     (judge-place .ensures) (judge-words .ensures) (c .before .before .before .before .earlier .ensures)
     (c .before .before .before .feature-end .ensures) (c .before .before .is-source .ensures) (c .before .if1 .taken)
     (c .judge-source .ensures)
@@ -76,7 +76,7 @@ returns-2 c =
     let judge-location = c .before .before .before .before .before .before .before .before .before .before .before .before .before .before .before .judge-location in
     let bytes-of = c .before .before .before .before .before .before .before .before .before .before .before .before .before .before .bytes-of in
     let row-of = c .before .before .before .before .before .before .before .before .before .before .before .before .before .row-of in
-    let in-upper = c .before .before .before .before .before .before .before .before .before .before .before .before .in-upper in
+    let is-acid = c .before .before .before .before .before .before .before .before .before .before .before .before .is-acid in
     let note = c .before .before .before .before .before .before .before .before .before .before .before .note in
     let judge-place = c .before .before .before .before .before .before .before .before .before .before .judge-place in
     let judge-words = c .before .before .before .before .before .before .before .before .before .judge-words in
@@ -85,7 +85,7 @@ returns-2 c =
     let is-source = c .before .before .before .before .before .before .is-source in
     let if1 = c .before .before .before .before .before .if1 in
     as-coding (judge-location .result) (judge-place .result) (judge-words .result) (earlier .result) (feature .ensures)
-    (judge-location .ensures) (bytes-of .ensures) (row-of .ensures) (in-upper .ensures) (note .ensures) (judge-place .ensures)
+    (judge-location .ensures) (bytes-of .ensures) (row-of .ensures) (is-acid .ensures) (note .ensures) (judge-place .ensures)
     (judge-words .ensures) (earlier .ensures) (feature-end .ensures) (is-source .ensures) (if1 .left)
     (c .before .before .before .before .is-coding .ensures) (c .before .earlier2 .result) (c .before .before .before .if2 .taken)
     (c .before .before .judge-coding .ensures) (c .before .earlier2 .ensures) (c .role-of .ensures)
@@ -96,13 +96,13 @@ returns-3 c =
     let judge-location = c .before .before .before .before .before .before .before .before .before .before .before .before .judge-location in
     let bytes-of = c .before .before .before .before .before .before .before .before .before .before .before .bytes-of in
     let row-of = c .before .before .before .before .before .before .before .before .before .before .row-of in
-    let in-upper = c .before .before .before .before .before .before .before .before .before .in-upper in
+    let is-acid = c .before .before .before .before .before .before .before .before .before .is-acid in
     let note = c .before .before .before .before .before .before .before .before .note in
     let judge-place = c .before .before .before .before .before .before .before .judge-place in
     let judge-words = c .before .before .before .before .before .before .judge-words in
     let earlier = c .before .before .before .before .before .earlier in
     as-plain (judge-location .result) (judge-place .result) (judge-words .result) (earlier .result) (feature .ensures)
-    (judge-location .ensures) (bytes-of .ensures) (row-of .ensures) (in-upper .ensures) (note .ensures) (judge-place .ensures)
+    (judge-location .ensures) (bytes-of .ensures) (row-of .ensures) (is-acid .ensures) (note .ensures) (judge-place .ensures)
     (judge-words .ensures) (earlier .ensures) (c .before .before .before .before .feature-end .ensures)
     (c .before .before .before .is-source .ensures) (c .before .before .if1 .left) (c .before .is-coding .ensures) (c .if2 .left)
 
@@ -114,7 +114,7 @@ judge-feature-spec =
     judge-location-requires
     bytes-of-requires
     row-of-requires
-    in-upper-requires
+    is-acid-requires
     note-requires
     judge-place-requires
     judge-words-requires
