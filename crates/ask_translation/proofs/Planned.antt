@@ -8,6 +8,7 @@ use Rattle.paper.specs.Bytes.{raw, all}
 use Rattle.paper.specs.Tree.{Sequence, Feature}
 use Rattle.paper.specs.Translation.{code1}
 use Rattle.paper.specs.Locations.{Location, Locates, breaks25}
+use Rattle.paper.proofs.Leading.{all?}
 use Rattle.paper.specs.Rules.{L, isSymbol, Coding, Judged, residues, rule-18, rule-24, rule-25, rule-27}
 use Rattle.read_steps.specs.Parts.{ShowsBytes}
 use Rattle.value_words.specs.Reading.{Tells}
@@ -35,12 +36,12 @@ use Rattle.ask_translation.specs.declared.Plan.the-variants as plan
 -- ---- what no broken rule gives
 
 module _ {q : Sequence ℕ} {f : Feature ℕ} (keeps : Keeps q f) where
-  symbols : {s : List ℕ} {known : Known} → Knows s q known → (c : Coding q f) → all (isSymbol (c .kind)) (q .residues .read)
-  symbols {known = known} k c = by (known .clean) (k .clean (c .kind) (c .is))
+  symbols : (c : Coding q f) → all (isSymbol (c .kind)) (q .residues .read)
+  symbols c = by (all? (isSymbol (c .kind)) (q .residues .read))
     where
-      by : (b : Bool) → Tells b (all (isSymbol (c .kind)) (q .residues .read)) → all (isSymbol (c .kind)) (q .residues .read)
-      by true t = t
-      by false t = absurd (keeps .texts 18 (q .residues .place) (residues (rule-18 (c .kind) (c .is) t)))
+      by : Dec (all (isSymbol (c .kind)) (q .residues .read)) → all (isSymbol (c .kind)) (q .residues .read)
+      by (yes a) = a
+      by (no n) = absurd (keeps .texts 18 _ (residues (rule-18 (c .kind) (c .is) n)))
 
   location-right : (v : Judgement) → Placed (L q) (f .location .read) v → (t : Location) × Locates t (f .location .read) × (breaks25 (L q) t ≡ false)
   location-right Bad j = absurd (keeps .feature 24 (f .location .place) (inl (rule-24 j)))
@@ -81,7 +82,7 @@ module _ {s wk : List ℕ} {known : Known} {g : FoundFeature} {named : Bool} (sk
                 judged =
                     record {
                       coding = x .0;
-                      symbols = symbols keeps k (x .0);
+                      symbols = symbols keeps (x .0);
                       judged = y .0;
                       codons = record { location = t .0; located = t .1; inside = t .2; start = n; starts = y .1; are = refl };
                     };

@@ -1,5 +1,5 @@
 -- The whole region and its first fault.
-use Prim.Native.Nat.{ℕ, suc}
+use Prim.Native.Nat.{ℕ, suc, _≤_, _<_}
 use native.Mathlib.Omega.{arith}
 use mathlib.Core.Path.{_≡_, refl, sym, ap, _∙_, subst, subst₂}
 use mathlib.Core.Bool.{Bool, true, false, true≢false}
@@ -29,6 +29,7 @@ use Rattle.location_judge.specs.declared.judging.Judgement.the-variants.{Bad, I
 use Rattle.protein_codons.specs.Reading.{Codes}
 use Rattle.protein_codons.specs.Letters.{lettersOf}
 use Rattle.judge_faults.specs.Sets.{Firsts, Some}
+use Rattle.judge_faults.proofs.Symbols.{symbols-all, symbols-not}
 use Rattle.judge_faults.specs.Known.{Knows}
 use Rattle.judge_faults.specs.declared.Known.{Known}
 use Rattle.judge_faults.proofs.Bytes.{part-shows}
@@ -99,12 +100,8 @@ module _ {s : List ℕ} {location : Range} {rest : ℕ} {known : Known} {verdict
   pub region-unjudged : u ≡ true → JudgesRegion s location rest known verdict start u Clean
   region-unjudged e = record { says = λ key q f stop a l c t. none-judged c (λ x j. j .judged (tells-true u e t)) }
 
-  pub region-unclean : known .clean ≡ false → JudgesRegion s location rest known verdict start u Clean
-  region-unclean e =
-      record {
-        says =
-            λ key q f stop a l c t. none-judged c (λ x j. tells-false (known .clean) e (a .knows .clean (j .coding .kind) (j .coding .is)) (j .symbols));
-      }
+  pub region-unclean : known .foreign < known .residues .to → JudgesRegion s location rest known verdict start u Clean
+  region-unclean e = record { says = λ key q f stop a l c t. none-judged c (λ x j. symbols-not (a .knows) (j .coding .kind) (j .coding .is) e (j .symbols)) }
 
   pub region-bad : verdict ≡ Bad → JudgesRegion s location rest known verdict start u Clean
   region-bad e =
@@ -123,7 +120,7 @@ module _ {s : List ℕ} {location : Range} {rest : ℕ} {known : Known} {verdict
               true≢false (sym w ∙ k .2 .wrong ∙ ap (breaks25 (L q)) o ∙ j .codons .inside));
         }
 
-    pub region-judged : {gc : Code} {r loc : List ℕ} {y : Fault} → gc ≡ code1 → u ≡ false → known .clean ≡ true → x .wrong ≡ false
+    pub region-judged : {gc : Code} {r loc : List ℕ} {y : Fault} → gc ≡ code1 → u ≡ false → known .residues .to ≤ known .foreign → x .wrong ≡ false
         → ShowsBytes s (known .residues .from) (known .residues .to) r → ShowsBytes s (location .from) (location .to) loc
         → Rights gc s r loc (known .top) start rest y → JudgesRegion s location rest known verdict start u y
     region-judged {r = r} {loc = loc} {y = y} code d g w shr shl right =
@@ -132,7 +129,7 @@ module _ {s : List ℕ} {location : Range} {rest : ℕ} {known : Known} {verdict
           says =
               λ key q f stop a l c t.
               let k = subst (Placed (L q) (f .location .read)) e (a .judged) in
-              let sy : all (isSymbol (a .coding .kind)) (q .residues .read) = tells-true (known .clean) g (a .knows .clean (a .coding .kind) (a .coding .is)) in
+              let sy : all (isSymbol (a .coding .kind)) (q .residues .read) = symbols-all (a .knows) (a .coding .kind) (a .coding .is) g in
               let er = residues-read (a .knows) shr (a .coding .kind) sy in
               let b : breaks25 (L q) (k .0) ≡ false = sym (k .2 .wrong) ∙ w in
               judged-as c

@@ -184,7 +184,7 @@ fn region_fault(
     if unjudged {
         return Fault::Clean;
     }
-    if !known.clean {
+    if known.foreign < known.residues.to {
         return Fault::Clean;
     }
     match verdict {

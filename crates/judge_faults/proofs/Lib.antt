@@ -5,3 +5,4 @@ pub mod Seen
 pub mod Moltypes
 pub mod Values
 pub mod Counters
+pub mod Symbols

@@ -12,12 +12,12 @@ pub enum Fault {
     At { rule: usize, place: usize },
 }
 
-// What is known of a sequence while its features are judged: the kind that its moltype names, L, whether every residue is a symbol of the
-// kind, and where its residues stand.
+// What is known of a sequence while its features are judged: the kind that its moltype names, L, where the first residue stands that is
+// no symbol of the kind, or behind them all, and where its residues stand.
 pub struct Known {
     pub kind: Molecule,
     pub top: u32,
-    pub clean: bool,
+    pub foreign: usize,
     pub residues: Range,
 }
 

@@ -10,7 +10,7 @@ use Rattle.paper.specs.Tree.{Sequence, Feature, featuresOf}
 use Rattle.paper.specs.Rules.{Kind, dna, rna, aa, IsKind, Keyed, upperIn, sourceName, OneSource, Source, tablePlace, InSource, InFeature, InTable}
 use Rattle.judge_faults.specs.declared.Fault.{Fault}
 use Rattle.judge_faults.specs.declared.Fault.the-variants.{Clean, At}
-use Rattle.paper.proofs.Lists.{count-once}
+use Rattle.paper.proofs.Lists.{count-once, count-as}
 use Rattle.judge_faults.proofs.Parts.{_or_}
 use Rattle.value_words.specs.Reading.{KindIs}
 use Rattle.value_words.specs.declared.Molecule as code
@@ -22,11 +22,6 @@ use Rattle.judge_faults.proofs.Faults.{firsts-or, firsts-as, firsts-one}
 use Rattle.judge_faults.proofs.Moltypes.{kind-once}
 use Rattle.judge_features.specs.Featured.{IsSource, Tallied, WithSource, Finishes}
 use Rattle.judge_features.specs.declared.Tally.{Tally}
-
-count-as : {A : Type 0} (C D : A → Type 0) → ((a : A) → C a → D a) → ((a : A) → D a → C a) → {l : List A} {n : ℕ} → Count C l n → Count D l n
-count-as C D to of end = end
-count-as C D to of (has {a = a} c r) = has (to a c) (count-as C D to of r)
-count-as C D to of (lacks {a = a} c r) = lacks (λ d. c (of a d)) (count-as C D to of r)
 
 -- what is counted is there
 counted-there : {A : Type 0} {C : A → Type 0} (l : List A) (n : ℕ) → Count C l n → 1 ≤ n → (i : ℕ) × (x : A) × Nth l i x × C x

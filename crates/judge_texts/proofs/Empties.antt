@@ -7,11 +7,11 @@ use mathlib.Core.List.{List, [], _∷_}
 use mathlib.Core.Option.{Option, none, some}
 use lib.ListN.{length}
 use Rattle.paper.specs.Bytes.{raw}
+use Rattle.paper.proofs.Texts.{raw-longer}
 use Rattle.value_words.specs.Reading.{Tells}
 use Rattle.walk_steps.specs.Stands.{isThere}
 use Rattle.walk_steps.specs.declared.Range.{Range}
 use Rattle.judge_texts.specs.Texts.{TellsBlank, TellsEmpty}
-use Rattle.judge_texts.proofs.Sizes.{raw-longer}
 
 no-length : (v : List ℕ) → length v ≡ 0 → v ≡ []
 no-length [] e = refl

@@ -1,114 +1,90 @@
 -- The faults of a sequence's texts, put together.
-use Prim.Native.Nat.{ℕ, _≤_, _<_}
+use Prim.Native.Nat.{ℕ, _+_, _≤_, _<_}
 use native.Mathlib.Omega.{arith}
 use mathlib.Core.Path.{_≡_, refl, sym, ap, _∙_, subst}
-use mathlib.Core.Bool.{Bool, true, false}
+use mathlib.Core.Bool.{Bool}
 use mathlib.Core.Logic.{inl, inr}
-use mathlib.Core.List.{List}
-use Rattle.paper.specs.Bytes.{bytes, raw, all}
+use mathlib.Core.List.{List, [], _∷_}
+use lib.ListN.{length}
+use lib.Dec.{leb}
+use Rattle.paper.specs.Bytes.{bytes, spell, raw, all, leading}
 use Rattle.paper.specs.Lists.{Count}
 use Rattle.paper.specs.Tree.{Sequence}
 use Rattle.paper.specs.Values.{Number}
 use Rattle.paper.specs.Rules.{L, Kind, dna, rna, aa, IsKind, isSymbol, undefined, fewest, InResidues, InTexts, rule-16, rule-17, residues, rule-18, rule-19, rule-20}
 use Rattle.judge_faults.specs.declared.Fault.{Fault}
-use Rattle.judge_faults.specs.declared.Fault.the-variants.{Clean, At}
+use Rattle.judge_faults.specs.declared.Fault.the-variants.{Clean}
 use Rattle.paper.proofs.Lists.{count-once}
 use Rattle.judge_faults.proofs.Parts.{_or_}
 use Rattle.read_steps.specs.Parts.{ShowsBytes}
 use Rattle.value_words.specs.Reading.{Tells, OfRead, KindIs, Names}
 use Rattle.value_words.specs.declared.Molecule as code
 use Rattle.value_words.specs.declared.Molecule.the-variants as kind
-use Rattle.value_words.proofs.Read.{tells-word, raw-symbols}
-use Rattle.value_words.proofs.Tests.{told}
+use Rattle.value_words.proofs.Read.{tells-word}
 use Rattle.value_residues.specs.Residues.{HasDefined}
 use Rattle.walk_steps.specs.declared.Range.{Range}
-use Rattle.judge_faults.specs.Sets.{Earlier, Firsts, Bad, unlessOf}
+use Rattle.judge_faults.specs.Sets.{Earlier, Faults, Firsts, Bad, unlessOf}
 use Rattle.judge_faults.specs.declared.Known.{Known}
 use Rattle.judge_faults.proofs.Bytes.{part-shows}
 use Rattle.judge_faults.proofs.Faults.{firsts-or, firsts-as, firsts-none, firsts-unless}
 use Rattle.judge_faults.proofs.Moltypes.{kind-once}
+use Rattle.judge_faults.proofs.Symbols.{symbols-told}
 use Rattle.judge_faults.proofs.Values.{text-fault}
 use Rattle.judge_texts.specs.Texts.{JudgesNumber, TellsSkipped, JudgesSymbols, JudgesResidues, JudgesTexts, namesOne}
 
 -- ---- rules 18 and 19
 
-pub foreign : {w : List ℕ} {none few place : ℕ} {clean : Bool} → clean ≡ false → JudgesSymbols w clean none few place (At 18 place)
-foreign {place = place} h =
+-- both undefined ones are written as they read
+plain : (k : Kind) → spell (undefined k) ≡ undefined k ∷ []
+plain dna = refl
+plain rna = refl
+plain aa = refl
+
+abbrev Strange : Sequence ℕ → Kind → Faults
+Strange q k = Bad 18 (q .residues .place + length (raw (leading (isSymbol k) (q .residues .read)))) (all (isSymbol k) (q .residues .read))
+
+abbrev Few : Sequence ℕ → Kind → ℕ → Faults
+Few q k n = Bad 19 (q .residues .place) (fewest k ≤ n)
+
+pub symbols-judged : {w : List ℕ} {known : Known} {none few : ℕ} (ok : Bool) {a b r : Fault} → HasDefined w none few ok
+    → a ≡ unlessOf (leb (known .residues .to) (known .foreign)) 18 (known .foreign) → b ≡ unlessOf ok 19 (known .residues .from) → Earlier a b r
+    → JudgesSymbols w known none few r
+symbols-judged {known = known} {none} {few} ok d ea eb x =
     record {
       says =
-          λ q k i u f p e t.
-          let t' = subst (λ (c : Bool). Tells c (all (isSymbol k) (q .residues .read))) h t in
-          record {
-            is =
-                record {
-                  broken = subst (λ (a : ℕ). InResidues q 18 a) (sym p) (rule-18 k i t');
-                  least = λ m a x. inr (p ∙ same q m a x, least q m a x);
-                };
-          };
+          λ s q kn e k i u f.
+          let v = q .residues .read in
+          let n = d .says (subst (λ (z : ℕ). spell z ≡ z ∷ []) (sym u) (plain k)) v e in
+          let c = subst (λ (z : ℕ). Count (λ (b : ℕ). ¬ (b ≡ z)) v (n .0)) u (n .1) in
+          let A = Strange q k in
+          let B = Few q k (n .0) in
+          let told = leb (known .residues .to) (known .foreign) in
+          let fa : Firsts A _ = firsts-unless told 18 _ (symbols-told kn k i) (ea ∙ ap (unlessOf told 18) (kn .foreign k i)) in
+          let fb : Firsts B _ = firsts-unless ok 19 _ (subst (λ (z : ℕ). Tells ok (z ≤ n .0)) f (n .2)) (eb ∙ ap (unlessOf ok 19) (kn .residues .first)) in
+          firsts-as (_or_ A B) (InResidues q) (to q k i (n .0) c) (of q k i (n .0) c) (firsts-or A B fa fb x);
     }
   where
-    same : (q : _) (m a : ℕ) → InResidues q m a → q .residues .place ≡ a
-    same q m a (rule-18 k i n) = refl
-    same q m a (rule-19 k i n c l) = refl
+    to : (q : Sequence ℕ) (k : Kind) → IsKind k q → (n : ℕ) → Count (λ (b : ℕ). ¬ (b ≡ undefined k)) (q .residues .read) n → (m p : ℕ) → _or_ (Strange q k) (Few q k n) m p → InResidues q m p
+    to q k i n c m p (inl y) = rw (y .0, y .1) (rule-18 k i (y .2))
+    to q k i n c m p (inr y) = rw (y .0, y .1) (rule-19 k i n c (omega (arith, y .2)))
 
-    least : (q : _) (m a : ℕ) → InResidues q m a → 18 ≤ m
-    least q m a (rule-18 k i n) = omega arith
-    least q m a (rule-19 k i n c l) = omega arith
-
--- then rule 18 holds, and what is left is rule 19
-only-19 : (q : Sequence ℕ) (k : Kind) (n : ℕ) → IsKind k q → all (isSymbol k) (q .residues .read) → Count (λ (b : ℕ). ¬ (b ≡ undefined k)) (q .residues .read) n
-    → (m a : ℕ) → InResidues q m a → (m ≡ 19) × (a ≡ q .residues .place) × (n < fewest k)
-only-19 q k n i t c m a (rule-18 j g x) = absurd (x (subst (λ (y : Kind). all (isSymbol y) (q .residues .read)) (kind-once (q .moltype .read) k j i g) t))
-only-19 q k n i t c m a (rule-19 j g x y l) =
-    let e = kind-once (q .moltype .read) j k g i in
-    let y' = subst (λ (z : Kind). Count (λ (b : ℕ). ¬ (b ≡ undefined z)) (q .residues .read) x) e y in
-    (refl, refl, subst (λ (z : Kind). n < fewest z) e (subst (λ (z : ℕ). z < fewest j) (count-once y' c) l))
-
--- where every residue is a symbol they are written as themselves, so bytes are counted
-counted : (q : Sequence ℕ) (k : Kind) {w : List ℕ} {none n : ℕ} → none ≡ undefined k → w ≡ raw (q .residues .read) → all (isSymbol k) (q .residues .read)
-    → Count (λ (b : ℕ). ¬ (b ≡ none)) w n → Count (λ (b : ℕ). ¬ (b ≡ undefined k)) (q .residues .read) n
-counted q k {w} {n = n} u e t d =
-    subst (λ (v : List ℕ). Count (λ (b : ℕ). ¬ (b ≡ undefined k)) v n) (e ∙ raw-symbols k (q .residues .read) t)
-    (subst (λ (x : ℕ). Count (λ (b : ℕ). ¬ (b ≡ x)) w n) u d)
-
-module _ {w : List ℕ} {none few : ℕ} {clean ok : Bool} (h : clean ≡ true) (d : HasDefined w none few ok) where
-  pub few-defined : {place : ℕ} → ok ≡ false → JudgesSymbols w clean none few place (At 19 place)
-  few-defined no-more =
-      let n = d .count in
-      let l = told (few ≤ n) no-more (d .says) in
-      record {
-        says =
-            λ q k i u f p e t.
-            let a = told (all (isSymbol k) (q .residues .read)) h t in
-            let c = counted q k u e a (d .counts) in
-            record {
-              is =
-                  record {
-                    broken = subst (λ (z : ℕ). InResidues q 19 z) (sym p) (rule-19 k i n c (omega (arith, l, f)));
-                    least = λ m b x. let y = only-19 q k n i a c m b x in inr (p ∙ sym (y .1), omega (arith, y .0));
-                  };
-            };
-      }
-
-  pub enough-defined : {place : ℕ} → ok ≡ true → JudgesSymbols w clean none few place Clean
-  enough-defined so =
-      let n = d .count in
-      let l = told (few ≤ n) so (d .says) in
-      record {
-        says =
-            λ q k i u f p e t.
-            let a = told (all (isSymbol k) (q .residues .read)) h t in
-            let c = counted q k u e a (d .counts) in
-            record { is = λ m b x. omega (arith, l, only-19 q k n i a c m b x .2, f) };
-      }
+    of : (q : Sequence ℕ) (k : Kind) → IsKind k q → (n : ℕ) → Count (λ (b : ℕ). ¬ (b ≡ undefined k)) (q .residues .read) n → (m p : ℕ) → InResidues q m p → _or_ (Strange q k) (Few q k n) m p
+    of q k i n c m p (rule-18 j g h) =
+        subst (λ (z : Kind). _or_ (Strange q z) (Few q k n) m p) (kind-once (q .moltype .read) j k g i) (inl (refl, refl, h))
+    of q k i n c m p (rule-19 j g l d h) =
+        let e = kind-once (q .moltype .read) j k g i in
+        let d' = subst (λ (z : Kind). Count (λ (b : ℕ). ¬ (b ≡ undefined z)) (q .residues .read) l) e d in
+        inr (refl, refl, λ y. omega (arith, y, count-once d' c, subst (λ (z : Kind). l < fewest z) e h))
 
 -- the kind decides what is asked
-pub residues-of : (k : Kind) {w : List ℕ} {none few place : ℕ} {clean : Bool} {r : Fault} {c : code.Molecule} → none ≡ undefined k → few ≡ fewest k
-    → ((v : List ℕ) → KindIs v c → Names v k) → JudgesSymbols w clean none few place r → JudgesResidues w c clean place r
-residues-of k u f named j = record { says = λ q h p e t. let i = named (q .moltype .read) h in j .says q k i u f p e (t k i) }
+pub residues-of : (k : Kind) {s w : List ℕ} {known : Known} {c : code.Molecule} {none few : ℕ} {r : Fault} → known .kind ≡ c → none ≡ undefined k → few ≡ fewest k
+    → ((v : List ℕ) → KindIs v c → Names v k) → ShowsBytes s (known .residues .from) (known .residues .to) w
+    → JudgesSymbols w known none few r → JudgesResidues s known r
+residues-of k {s} z u f named h j =
+    record { says = λ q kn. j .says s q kn (part-shows (kn .residues) h) k (named (q .moltype .read) (subst (KindIs (q .moltype .read)) z (kn .kind))) u f }
 
-pub residues-other : {w : List ℕ} {place : ℕ} {clean : Bool} → JudgesResidues w kind.Other clean place Clean
-residues-other = record { says = λ q h p e t. firsts-none (InResidues q) (λ m a x. none-of q h m a x) }
+pub residues-other : {s : List ℕ} {known : Known} → known .kind ≡ kind.Other → JudgesResidues s known Clean
+residues-other e = record { says = λ q kn. firsts-none (InResidues q) (none-of q (subst (KindIs (q .moltype .read)) e (kn .kind))) }
   where
     none-of : (q : Sequence ℕ) → ((k : Kind) → ¬ Names (q .moltype .read) k) → (m a : ℕ) → ¬ InResidues q m a
     none-of q h m a (rule-18 k i n) = h k i
@@ -130,14 +106,14 @@ named-one v kind.Rna h = (rna, h)
 named-one v kind.Aa h = (aa, h)
 named-one v kind.Other h = λ x. h (x .0) (x .1)
 
-pub texts-judged : {s wb wd wr : List ℕ} {declared moltype division : Range} {known : Known} {one right : Bool} (pat : Bool) {a b c d r : Fault} (e f : Fault)
+pub texts-judged : {s wb wd : List ℕ} {declared moltype division : Range} {known : Known} {one right : Bool} (pat : Bool) {a b c d r : Fault} (e f : Fault)
     → one ≡ namesOne (known .kind)
     → ShowsBytes s (division .from) (division .to) wb → Tells pat (wb ≡ bytes "PAT")
     → ShowsBytes s (declared .from) (declared .to) wd → OfRead wd (Number (known .top)) right
     → a ≡ unlessOf one 16 (moltype .from) → b ≡ unlessOf pat 17 (division .from)
-    → ShowsBytes s (known .residues .from) (known .residues .to) wr → JudgesResidues wr (known .kind) (known .clean) (known .residues .from) c
+    → JudgesResidues s known c
     → d ≡ unlessOf right 20 (declared .from) → Earlier a b e → Earlier c d f → Earlier e f r → JudgesTexts s declared moltype division known r
-texts-judged {known = known} {one} {right} pat {a} {b} {c} {d} {r} e f h1 sb tb sd td ea eb sr jr ed x y z =
+texts-judged {known = known} {one} {right} pat {a} {b} {c} {d} {r} e f h1 sb tb sd td ea eb jr ed x y z =
     record {
       says =
           λ q id im ib k.
@@ -147,7 +123,7 @@ texts-judged {known = known} {one} {right} pat {a} {b} {c} {d} {r} e f h1 sb tb 
           let D = Bad 20 (q .declared .place) (Number (L q) (q .declared .read)) in
           let fa = firsts-unless one 16 (q .moltype .place) {A = (j : Kind) × IsKind j q} (subst (λ (o : Bool). Tells o ((j : Kind) × IsKind j q)) (sym h1) (named-one (q .moltype .read) (known .kind) (k .kind))) (ea ∙ ap (unlessOf one 16) (im .first)) in
           let fb = text-fault 17 (λ (v : List ℕ). v ≡ bytes "PAT") pat ib sb (tells-word (bytes "PAT") refl pat tb) eb in
-          let fc = jr .says q (k .kind) (k .residues .first) (part-shows (k .residues) sr) (k .clean) in
+          let fc = jr .says q k in
           let fd = subst (λ (n : ℕ). Firsts (Bad 20 (q .declared .place) (Number n (q .declared .read))) d) (k .size) (text-fault 20 (Number (known .top)) right id sd td ed) in
           firsts-as (_or_ (_or_ A B) (_or_ C D)) (InTexts q) (to q) (of q) (firsts-or (_or_ A B) (_or_ C D) (firsts-or A B fa fb x) (firsts-or C D fc fd y) z);
     }

@@ -1,21 +1,20 @@
 -- What is promised of the judgement of a sequence's texts.
-use Prim.Native.Nat.{ℕ, _≤_}
+use Prim.Native.Nat.{ℕ, _+_, _≤_}
 use mathlib.Core.Path.{_≡_}
 use mathlib.Core.Bool.{Bool, true, false}
 use mathlib.Core.List.{List, []}
 use mathlib.Core.Option.{none}
-use lib.ListN.{length}
-use Rattle.paper.specs.Bytes.{raw, all}
+use lib.ListN.{length, drop}
+use Rattle.paper.specs.Bytes.{raw, leading}
 use Rattle.paper.specs.Tree.{Text, Sequence}
 use Rattle.paper.specs.Values.{Number}
 use Rattle.paper.specs.Rules.{Skipped, IsKind, isSymbol, undefined, fewest, InResidues, InTexts, Empty}
 use Rattle.paper.specs.Rules as Rules
 use Rattle.paper.specs.Answers.{limit}
 use Rattle.judge_faults.specs.declared.Fault.{Fault}
-use Rattle.value_words.specs.Reading.{Tells, KindIs}
+use Rattle.value_words.specs.Reading.{Tells}
 use Rattle.value_words.specs.declared.Molecule.{Molecule}
 use Rattle.value_words.specs.declared.Molecule.the-variants.{Dna, Rna, Aa, Other}
-use Rattle.value_residues.specs.Residues.{symbolClass}
 use Rattle.walk_steps.specs.Stands.{IsPart, isThere}
 use Rattle.walk_steps.specs.declared.Range.{Range}
 use Rattle.judge_faults.specs.Sets.{Firsts, Bad}
@@ -27,15 +26,15 @@ use Rattle.judge_faults.specs.declared.Known.{Known}
 pub record Sized (n r : ℕ) : Type 0 where
   pub is : n ≤ limit → r ≡ n
 
-pub record LengthOf (w : List ℕ) (clean : Bool) (r : ℕ) : Type 0 where
-  pub says : (v : List ℕ) → w ≡ raw v → (clean ≡ true → v ≡ w) → r ≡ length v
+-- what stands behind the first n bytes is written from the rest of the characters
+pub record LengthOf (w : List ℕ) (n r : ℕ) : Type 0 where
+  pub says : (x : List ℕ) → drop n w ≡ raw x → r ≡ n + length x
 
-pub record AllSymbols (w : List ℕ) (class : ℕ) (r : Bool) : Type 0 where
-  pub says : (k : Rules.Kind) → class ≡ symbolClass k → (v : List ℕ) → w ≡ raw v → Tells r (all (isSymbol k) v) × (r ≡ true → v ≡ w)
-
-pub record Cleans (w : List ℕ) (kind : Molecule) (r : Bool) : Type 0 where
-  pub says : (v : List ℕ) → w ≡ raw v → (k : Rules.Kind) → CodeOf kind k → Tells r (all (isSymbol k) v)
-  pub plain : r ≡ true → (v : List ℕ) → w ≡ raw v → v ≡ w
+-- r bytes are written before the first residue that is no symbol of the kind; they are as many characters, and the others stand behind them
+pub record Scans (w : List ℕ) (kind : Molecule) (r : ℕ) : Type 0 where
+  pub within : r ≤ length w
+  pub says : (v : List ℕ) → w ≡ raw v → (k : Rules.Kind) → CodeOf kind k → r ≡ length (raw (leading (isSymbol k) v))
+  pub rest : (v : List ℕ) → w ≡ raw v → (x : List ℕ) × (drop r w ≡ raw x) × (length v ≡ r + length x)
 
 pub record KnowsOf (s : List ℕ) (moltype residues : Range) (r : Known) : Type 0 where
   pub says : (q : Sequence ℕ) → length s ≤ limit → IsPart s (q .moltype) moltype → IsPart s (q .residues) residues → Knows s q r
@@ -64,13 +63,12 @@ namesOne Aa = true
 namesOne Other = false
 
 -- rules 18 and 19, by what the kind asks
-pub record JudgesSymbols (w : List ℕ) (clean : Bool) (none few place : ℕ) (r : Fault) : Type 0 where
-  pub says : (q : Sequence ℕ) (k : Rules.Kind) → IsKind k q → none ≡ undefined k → few ≡ fewest k → place ≡ q .residues .place → w ≡ raw (q .residues .read)
-      → Tells clean (all (isSymbol k) (q .residues .read)) → Firsts (InResidues q) r
+pub record JudgesSymbols (w : List ℕ) (known : Known) (none few : ℕ) (r : Fault) : Type 0 where
+  pub says : (s : List ℕ) (q : Sequence ℕ) → Knows s q known → w ≡ raw (q .residues .read)
+      → (k : Rules.Kind) → IsKind k q → none ≡ undefined k → few ≡ fewest k → Firsts (InResidues q) r
 
-pub record JudgesResidues (w : List ℕ) (kind : Molecule) (clean : Bool) (place : ℕ) (r : Fault) : Type 0 where
-  pub says : (q : Sequence ℕ) → KindIs (q .moltype .read) kind → place ≡ q .residues .place → w ≡ raw (q .residues .read)
-      → ((k : Rules.Kind) → IsKind k q → Tells clean (all (isSymbol k) (q .residues .read))) → Firsts (InResidues q) r
+pub record JudgesResidues (s : List ℕ) (known : Known) (r : Fault) : Type 0 where
+  pub says : (q : Sequence ℕ) → Knows s q known → Firsts (InResidues q) r
 
 pub record JudgesTexts (s : List ℕ) (declared moltype division : Range) (known : Known) (r : Fault) : Type 0 where
   pub says : (q : Sequence ℕ) → IsPart s (q .declared) declared → IsPart s (q .moltype) moltype → IsPart s (q .division) division → Knows s q known

@@ -4,9 +4,11 @@ use judge_faults::Fault;
 use judge_faults::Known;
 use value_words::Molecule;
 use walk_steps::Range;
+ghost use Prim.Native.Nat.{_≤_};
 ghost use mathlib.Core.Path.{_≡_};
+ghost use lib.ListN.{length};
 ghost use Rattle.value_residues.specs.Residues.{SymbolTable};
-ghost use Rattle.judge_texts.specs.Texts.{Sized, LengthOf, AllSymbols, Cleans, KnowsOf, JudgesNumber, TellsSkipped, TellsEmpty, TellsBlank, JudgesSymbols, JudgesResidues, JudgesTexts, namesOne};
+ghost use Rattle.judge_texts.specs.Texts.{Sized, LengthOf, Scans, KnowsOf, JudgesNumber, TellsSkipped, TellsEmpty, TellsBlank, JudgesSymbols, JudgesResidues, JudgesTexts, namesOne};
 
 // A number of residues, as far as 32 bits hold it: more than a listing has.
 fn size_of(n: usize) -> u32
@@ -18,38 +20,25 @@ fn size_of(n: usize) -> u32
     0
 }
 
-// Whether every residue is a symbol of the class.
-fn all_symbols(w: &[u8], class: u8, t: &[u8; 256]) -> bool
+// How many bytes stand before the first residue that is no symbol of the kind. Of no kind nothing is a symbol.
+fn before_foreign(w: &[u8], kind: Molecule, t: &[u8; 256]) -> usize
     requires { ⌜ SymbolTable (now t) ⌝ }
-    ensures { λ r. ⌜ AllSymbols (now (w .entry)) class r ⌝ }
-{
-    if value_residues::symbols(w, class, t) < w.len() {
-        return false;
-    }
-    true
-}
-
-// Whether every residue is a symbol of the kind.
-fn is_clean(w: &[u8], kind: Molecule, t: &[u8; 256]) -> bool
-    requires { ⌜ SymbolTable (now t) ⌝ }
-    ensures { λ r. ⌜ Cleans (now (w .entry)) kind r ⌝ }
+    ensures { λ r. ⌜ Scans (now (w .entry)) kind r ⌝ }
 {
     match kind {
-        Molecule::Dna => all_symbols(w, 1, t),
-        Molecule::Rna => all_symbols(w, 1, t),
-        Molecule::Aa => all_symbols(w, 2, t),
-        Molecule::Other => false,
+        Molecule::Dna => value_residues::symbols(w, 1, t),
+        Molecule::Rna => value_residues::symbols(w, 1, t),
+        Molecule::Aa => value_residues::symbols(w, 2, t),
+        Molecule::Other => 0,
     }
 }
 
-// L. Symbols are written as themselves.
-fn length_of(w: &[u8], clean: bool) -> usize
-    ensures { λ r. ⌜ LengthOf (now (w .entry)) clean r ⌝ }
+// L, where the first n bytes are as many characters.
+fn length_of(w: &[u8], n: usize) -> usize
+    requires { ⌜ n ≤ length (now w) ⌝ }
+    ensures { λ r. ⌜ LengthOf (now (w .entry)) n r ⌝ }
 {
-    if clean {
-        return w.len();
-    }
-    value_residues::characters(w)
+    n + value_residues::characters(&w[n..])
 }
 
 // What is known of a sequence, from its moltype and its residues.
@@ -59,12 +48,13 @@ pub fn known_of(s: &[u8], moltype: Range, residues: Range, t: &[u8; 256]) -> Kno
 {
     let kind = value_words::kind_of(read_steps::bytes_of(s, moltype.from, moltype.to));
     let w = read_steps::bytes_of(s, residues.from, residues.to);
-    let clean = is_clean(w, kind, t);
-    let top = size_of(length_of(w, clean));
+    let n = before_foreign(w, kind, t);
+    let top = size_of(length_of(w, n));
+    let foreign = std::num::wrapping_add_usize(residues.from, n);
     Known {
         kind,
         top,
-        clean,
+        foreign,
         residues,
     }
 }
@@ -111,27 +101,27 @@ pub fn is_empty(declared: Range, moltype: Range, division: Range, ids: bool, tab
     false
 }
 
-// Rules 18 and 19 for one kind. Where a residue is foreign rule 19 doesn't matter: it has the same place.
-fn judge_symbols(w: &[u8], clean: bool, undefined: u8, fewest: usize, place: usize) -> Fault
-    ensures { λ r. ⌜ JudgesSymbols (now (w .entry)) clean undefined fewest place r ⌝ }
+// Rules 18 and 19 for one kind.
+fn judge_symbols(w: &[u8], known: Known, undefined: u8, fewest: usize) -> Fault
+    ensures { λ r. ⌜ JudgesSymbols (now (w .entry)) known undefined fewest r ⌝ }
 {
-    if clean {
-        if value_residues::has_defined(w, undefined, fewest) {
-            return Fault::Clean;
-        }
-        return Fault::At { rule: 19, place };
-    }
-    Fault::At { rule: 18, place }
+    let foreign = known.foreign;
+    let a = judge_faults::unless(known.residues.to <= foreign, 18, foreign);
+    let enough = value_residues::has_defined(w, undefined, fewest);
+    let b = judge_faults::unless(enough, 19, known.residues.from);
+    judge_faults::earlier(a, b)
 }
 
 // Rules 18 and 19.
-fn judge_residues(w: &[u8], kind: Molecule, clean: bool, place: usize) -> Fault
-    ensures { λ r. ⌜ JudgesResidues (now (w .entry)) kind clean place r ⌝ }
+fn judge_residues(s: &[u8], known: Known) -> Fault
+    ensures { λ r. ⌜ JudgesResidues (now (s .entry)) known r ⌝ }
 {
+    let kind = known.kind;
+    let w = read_steps::bytes_of(s, known.residues.from, known.residues.to);
     match kind {
-        Molecule::Dna => judge_symbols(w, clean, b'n', 10, place),
-        Molecule::Rna => judge_symbols(w, clean, b'n', 10, place),
-        Molecule::Aa => judge_symbols(w, clean, b'X', 4, place),
+        Molecule::Dna => judge_symbols(w, known, b'n', 10),
+        Molecule::Rna => judge_symbols(w, known, b'n', 10),
+        Molecule::Aa => judge_symbols(w, known, b'X', 4),
         Molecule::Other => Fault::Clean,
     }
 }
@@ -158,8 +148,6 @@ pub fn judge_texts(
     ensures { λ r. ⌜ JudgesTexts (now (s .entry)) declared moltype division known r ⌝ }
 {
     let kind = known.kind;
-    let residues = known.residues;
-    let place = residues.from;
     let pat = value_words::same(read_steps::bytes_of(s, division.from, division.to), b"PAT");
     let right = value_words::is_number(
         read_steps::bytes_of(s, declared.from, declared.to),
@@ -168,12 +156,7 @@ pub fn judge_texts(
     let named = is_known(kind);
     let a = judge_faults::unless(named, 16, moltype.from);
     let b = judge_faults::unless(pat, 17, division.from);
-    let c = judge_residues(
-        read_steps::bytes_of(s, place, residues.to),
-        kind,
-        known.clean,
-        place,
-    );
+    let c = judge_residues(s, known);
     let d = judge_faults::unless(right, 20, declared.from);
     judge_faults::earlier(judge_faults::earlier(a, b), judge_faults::earlier(c, d))
 }

@@ -4,6 +4,7 @@ pub mod Bits
 pub mod Forms
 pub mod Firsts
 pub mod Texts
+pub mod Leading
 pub mod Words
 pub mod Decimal
 pub mod Locate

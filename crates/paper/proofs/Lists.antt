@@ -46,6 +46,18 @@ count-once (has c r) (lacks d s) = absurd (d c)
 count-once (lacks c r) (has d s) = absurd (c d)
 count-once (lacks c r) (lacks d s) = count-once r s
 
+-- two properties that each element has both of or none count alike
+pub count-as : {A : Type 0} (C D : A → Type 0) → ((a : A) → C a → D a) → ((a : A) → D a → C a) → {l : List A} {n : ℕ} → Count C l n → Count D l n
+count-as C D to of end = end
+count-as C D to of (has {a = a} c r) = has (to a c) (count-as C D to of r)
+count-as C D to of (lacks {a = a} c r) = lacks (λ d. c (of a d)) (count-as C D to of r)
+
+-- one that each element has counts them all
+pub count-every : {A : Type 0} (C : A → Type 0) → ((a : A) → C a) → {l : List A} {n : ℕ} → Count C l n → n ≡ length l
+count-every C each end = refl
+count-every C each (has c r) = ap suc (count-every C each r)
+count-every C each (lacks {a = a} c r) = absurd (c (each a))
+
 module _ {A B : Type 0} (f : A → B) where
   nth-map : (l : List A) (i : ℕ) (x : A) → Nth l i x → Nth (map f l) i (f x)
   nth-map [] i x h = absurd h

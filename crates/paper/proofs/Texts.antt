@@ -1,10 +1,10 @@
 -- Texts: bytes are written from at most one text.
-use Prim.Native.Nat.{ℕ}
+use Prim.Native.Nat.{ℕ, _≤_}
 use native.Mathlib.Omega.{arith}
 use mathlib.Core.Path.{_≡_, refl, sym, ap, _∙_, subst}
 use mathlib.Core.Bool.{Bool, true, false, cond, and-eq-true-iff, true≢false}
 use mathlib.Core.List.{List, [], _∷_, _++_, append-assoc, cons≢nil}
-use lib.ListN.{getD, drop}
+use lib.ListN.{length, getD, drop, length-append}
 use lib.Dec.{eqb}
 use borrow.Author.Tests.{eqb-true, eq-eqb}
 use Rattle.paper.specs.Bytes.{bytes, same, spell, raw, all}
@@ -91,6 +91,15 @@ pub spell-some : (b : ℕ) (r : List ℕ) → spell b ++ r ≡ [] → ⊥
 spell-some b r e =
     let q : _≡_ {A = ℕ × List ℕ} (7, []) (b, 7 ∷ []) = rw (front-empty (spell b) r e) at (unspell-spell b (7 ∷ [])) in
     cons≢nil (sym (ap (λ (x : ℕ × List ℕ). x .1) q))
+
+-- a text is written with at least as many bytes as it has characters
+pub raw-longer : (v : List ℕ) → length v ≤ length (raw v)
+raw-longer [] = omega arith
+raw-longer (b ∷ v) = omega (arith, raw-longer v, length-append (spell b) (raw v), some (spell b) (λ e. spell-some b [] (ap (λ (w : List ℕ). w ++ []) e)))
+  where
+    some : (w : List ℕ) → ¬ (w ≡ []) → 1 ≤ length w
+    some [] n = absurd (n refl)
+    some (c ∷ w) n = omega arith
 
 -- a written text is read in one way
 pub raw-once : (v w : List ℕ) → raw v ≡ raw w → v ≡ w

@@ -9,19 +9,20 @@ use mathlib.Core.List.{List, [], _∷_, _++_, map, append-nil}
 use mathlib.Core.Option.{none, some}
 use lib.ListN.{length}
 use lib.Dec.{leb}
-use Rattle.paper.specs.Bytes.{bytes, isBlank}
+use Rattle.paper.specs.Bytes.{bytes, raw, all, leading, isBlank}
 use Rattle.paper.specs.Lists.{Count, end, has, lacks}
 use Rattle.paper.specs.Tree.{Text, Sequence, Listing, markText}
 use Rattle.paper.specs.Form.{Form, lit, _·_}
 use Rattle.paper.specs.Layout.{blanks, leaf, root, doctype, LaidOut}
 use Rattle.paper.specs.Locations.{Member, Operator, Location, many, Locates, spans, spanOf, breaks25}
 use Rattle.paper.specs.Vocabulary.{Row, nucleotideRows, nucleotideNames, aminoRows, aminoNames, isOneOf, counted}
-use Rattle.paper.specs.Rules.{L, Skipped, Kind, dna, rna, aa, upperIn, valueRead, vocabulary}
+use Rattle.paper.specs.Rules.{L, Skipped, Kind, dna, rna, aa, isSymbol, upperIn, valueRead, vocabulary, InResidues, rule-18, rule-19}
 use Rattle.paper.specs.Answers.{limit, Checked, Counts, CheckSays, kindNumber, page, Prints}
 use Rattle.paper.specs.declared.Verdict.the-variants.{Accepted, Refused}
 use Rattle.paper.proofs.Accepted.{listing, tree, laid}
 use Rattle.paper.proofs.Locate.{locate-sound}
 use Rattle.paper.proofs.Texts.{front-empty}
+use Rattle.paper.proofs.Leading.{Cut, whole, before, cut, leading-in}
 
 -- a complement of a join or order reverses its members and complements each
 reverses : (op : Operator) (a b c : Member)
@@ -147,3 +148,28 @@ short (w ∷ l) = leb (length w) 15 && short l
 
 keys-short : (short (keysOf dna) ≡ true) × (short (keysOf aa) ≡ true)
 keys-short = (refl, refl)
+
+-- ---- rule 18's place, request 2 of document 02
+
+-- "the first offending residue's own byte (of an entity, its `&`)": so many bytes behind the text's place
+abbrev behind : Kind → String → ℕ
+behind k text = length (raw (leading (isSymbol k) (bytes text)))
+
+foreign-places :
+    (behind dna "acgxtn" ≡ 3) × (behind rna "Acgtx" ≡ 0) × (behind dna "acgtu" ≡ 4) × (behind dna "ac&gx" ≡ 2) × (behind dna "&<acgt" ≡ 0)
+    × (behind aa "MKcXk" ≡ 2) × (behind aa "MK'C" ≡ 2)
+foreign-places = (refl, refl, refl, refl, refl, refl, refl)
+
+-- the residues before p are symbols, and the one that begins there isn't
+abbrev Offends : Sequence ℕ → ℕ → Type 0
+Offends s p =
+    (k : Kind) × (u x : List ℕ) × (b : ℕ)
+    × (s .residues .read ≡ u ++ (b ∷ x)) × all (isSymbol k) u × (isSymbol k b ≡ false) × (p ≡ s .residues .place + length (raw u))
+
+foreign-byte : (s : Sequence ℕ) (n p : ℕ) → InResidues s n p → n ≡ 18 → Offends s p
+foreign-byte s n p (rule-18 k i h) e = by (cut (isSymbol k) (s .residues .read))
+  where
+    by : Cut (isSymbol k) (s .residues .read) → Offends s p
+    by (whole a q) = absurd (h a)
+    by (before b x q o) = (k, leading (isSymbol k) (s .residues .read), x, b, q, leading-in (isSymbol k) (s .residues .read), o, refl)
+foreign-byte s n p (rule-19 k i m c h) e = absurd (omega (arith, e))

@@ -29,6 +29,11 @@ abbrev pub all : (ℕ → Bool) → List ℕ → Type 0
 all f [] = Unit {0}
 all f (b ∷ w) = (f b ≡ true) × all f w
 
+-- what stands before the first byte outside the class; all of it, if none is outside
+abbrev pub leading : (ℕ → Bool) → List ℕ → List ℕ
+leading f [] = []
+leading f (b ∷ w) = cond (f b) (b ∷ leading f w) []
+
 -- "Blanks are space, tab, CR, LF."
 abbrev pub isBlank : ℕ → Bool
 isBlank = among (bytes " \t\r\n")

@@ -25,7 +25,7 @@ pub data Refusal : (number place : ℕ) → Type 0 where
   too-long : Refusal 1 0
   -- "not of the layout | length of the longest beginning .."
   not-laid-out : {p : ℕ} → Refusal 2 p
-  -- the value rules, at the place of a text or tag
+  -- the value rules, at the place of a text, a tag or (18) a residue
   value : {n p : ℕ} → 10 ≤ n → n ≤ 29 → Refusal n p
   -- "Every refusal number that a request adds counts as one of 01's." (02): 40 to 42 "carry their place as 10 to 29 do"
   vocabulary : {n p : ℕ} → 40 ≤ n → n ≤ 42 → Refusal n p

@@ -1,116 +1,132 @@
--- What is left to count in the bytes from a place on.
-use Prim.Native.Nat.{ℕ, suc, _+_, _≤_, _<_}
+-- How many characters begin with another byte than a given one, in the bytes from a place on.
+use Prim.Native.Nat.{ℕ, _+_, _≤_, _<_}
+use native.Mathlib.Decide.{decLe}
 use native.Mathlib.Omega.{arith}
 use mathlib.Core.Path.{_≡_, refl, sym, ap, _∙_, subst}
-use mathlib.Core.Bool.{Bool, true, false, not, cond}
+use mathlib.Core.Bool.{Bool, true, false, not}
 use mathlib.Core.List.{List, [], _∷_, _++_}
 use lib.ListN.{length, drop, getD, drop-of-length-le}
-use lib.Dec.{eqb}
-use borrow.Author.Tests.{eqb-true, eqb-false, eq-eqb, ne-eqb}
+use lib.Dec.{eqb, leb}
+use borrow.Author.Tests.{eqb-true, eqb-false, le-leb}
 use Rattle.paper.specs.Bytes.{spell, raw}
 use Rattle.paper.specs.Lists.{Count, end, has, lacks}
+use Rattle.paper.proofs.Texts.{spell-cases, raw-longer}
+use Rattle.paper.proofs.Lists.{count-as, count-every}
+use Rattle.read_bytes.specs.Numbers.{flag}
+use Rattle.value_words.specs.Reading.{Tells}
 use Rattle.value_words.proofs.Numbers.{suffix}
-use Rattle.value_residues.specs.Residues.{Characters}
+use Rattle.value_words.proofs.Tests.{told, tells-le}
+use Rattle.value_residues.specs.Residues.{goesOn, beginsOther, Others, Characters, HasDefined}
 
--- ---- characters
+-- the byte that a character begins with
+abbrev first : ℕ → ℕ
+first b = getD (spell b) 0 0
 
--- how many characters start in w, from inside an entity or not: one ends at `;`
-abbrev pub chars : Bool → List ℕ → ℕ
-chars true [] = 0
-chars true (b ∷ w) = chars (not (eqb b 59)) w
-chars false [] = 0
-chars false (b ∷ w) = suc (chars (eqb b 38) w)
+module _ (but : ℕ) where
+  -- in w, from inside an entity or not
+  abbrev pub seen : Bool → List ℕ → ℕ
+  seen t [] = 0
+  seen t (b ∷ w) = beginsOther t but b + seen (goesOn t b) w
 
-one : (b : ℕ) (r : List ℕ) → chars false (spell b ++ r) ≡ suc (chars false r)
-one b r = lt (eqb b 60) refl
+  seen-one : (b : ℕ) (r : List ℕ) → seen false (spell b ++ r) ≡ flag (not (eqb (first b) but)) + seen false r
+  seen-one b r =
+      spell-cases (λ (c : ℕ) (w : List ℕ). seen false (w ++ r) ≡ flag (not (eqb (getD w 0 0) but)) + seen false r)
+      (omega arith) (omega arith) (omega arith) (omega arith) (omega arith) (λ c e f g h k. rw g refl) b
+
+  abbrev Other : ℕ → Type 0
+  Other b = ¬ (first b ≡ but)
+
+  seen-raw : (v : List ℕ) → Count Other v (seen false (raw v))
+  seen-raw [] = end
+  seen-raw (b ∷ v) = subst (Count Other (b ∷ v)) (sym (seen-one b (raw v))) (more (eqb (first b) but) refl (seen-raw v))
+    where
+      more : (t : Bool) → eqb (first b) but ≡ t → {n : ℕ} → Count Other v n → Count Other (b ∷ v) (flag (not t) + n)
+      more true e {n} r = subst (Count Other (b ∷ v)) (omega arith) (lacks (λ o. o (eqb-true (first b) but e)) r)
+      more false e {n} r = subst (Count Other (b ∷ v)) (omega arith) (has (eqb-false (first b) but e) r)
+
+-- ---- the loop
+
+pub begins-once : (but : ℕ) (t : Bool) (b : ℕ) → beginsOther t but b ≤ 1
+begins-once but true b = omega arith
+begins-once but false b = at-most (eqb b but)
   where
-    Is : ℕ → Type 0
-    Is c = chars false (spell c ++ r) ≡ suc (chars false r)
-
-    plain : eqb b 60 ≡ false → eqb b 62 ≡ false → eqb b 38 ≡ false → eqb b 34 ≡ false → (t : Bool) → eqb b 39 ≡ t → Is b
-    plain e f g h true k = subst Is (sym (eqb-true b 39 k)) refl
-    plain e f g h false k = rw (e, f, g, h, k, g)
-
-    quot : eqb b 60 ≡ false → eqb b 62 ≡ false → eqb b 38 ≡ false → (t : Bool) → eqb b 34 ≡ t → Is b
-    quot e f g true h = subst Is (sym (eqb-true b 34 h)) refl
-    quot e f g false h = plain e f g h (eqb b 39) refl
-
-    amp : eqb b 60 ≡ false → eqb b 62 ≡ false → (t : Bool) → eqb b 38 ≡ t → Is b
-    amp e f true g = subst Is (sym (eqb-true b 38 g)) refl
-    amp e f false g = quot e f g (eqb b 34) refl
-
-    gt : eqb b 60 ≡ false → (t : Bool) → eqb b 62 ≡ t → Is b
-    gt e true f = subst Is (sym (eqb-true b 62 f)) refl
-    gt e false f = amp e f (eqb b 38) refl
-
-    lt : (t : Bool) → eqb b 60 ≡ t → Is b
-    lt true e = subst Is (sym (eqb-true b 60 e)) refl
-    lt false e = gt e (eqb b 62) refl
-
-pub chars-raw : (v : List ℕ) → chars false (raw v) ≡ length v
-chars-raw [] = refl
-chars-raw (b ∷ v) = one b (raw v) ∙ ap suc (chars-raw v)
-
--- what a byte adds, and whether an entity goes on behind it
-abbrev pub more : Bool → ℕ
-more true = 0
-more false = 1
-
-abbrev pub next : Bool → ℕ → Bool
-next true b = not (eqb b 59)
-next false b = eqb b 38
-
-chars-on : (t : Bool) (b : ℕ) (w : List ℕ) → chars t (b ∷ w) ≡ more t + chars (next t b) w
-chars-on true b w = omega arith
-chars-on false b w = omega arith
-
--- n characters start before i, and the rest from i on
-abbrev pub Left : List ℕ → ℕ → Bool → ℕ → Type 0
-Left w n t i = (n ≤ i) × (n + chars t (drop i w) ≡ chars false w)
-
-pub left-next : (w : List ℕ) (i n : ℕ) (t : Bool) → i < length w → Left w n t i → (m : ℕ) (u : Bool) → m ≡ n + more t → u ≡ next t (getD w i 0)
-    → Left w m u (i + 1)
-left-next w i n t h l m u p q =
-    let b = getD w i 0 in
-    let e : chars t (drop i w) ≡ more t + chars u (drop (i + 1) w)
-    = ap (chars t) (suffix w i h) ∙ chars-on t b (drop (i + 1) w) ∙ ap (λ (v : Bool). more t + chars v (drop (i + 1) w)) (sym q) in
-    (omega (arith, l .0, p, at-most t), omega (arith, l .1, p, e))
-  where
-    at-most : (t : Bool) → more t ≤ 1
+    at-most : (y : Bool) → flag (not y) ≤ 1
     at-most true = omega arith
     at-most false = omega arith
 
-pub left-none : (w : List ℕ) (i n : ℕ) (t : Bool) → length w ≤ i → Left w n t i → n ≡ chars false w
-left-none w i n t h l = omega (arith, l .1, ap (chars t) (drop-of-length-le w h) ∙ none t)
+-- n of them begin before i, and the rest from i on
+pub record Counting (w : List ℕ) (but most n : ℕ) (inside : Bool) (i : ℕ) : Type 0 where
+  pub within : n ≤ most
+  pub in-all : n + seen but inside (drop i w) ≡ seen but false w
+
+module _ {w : List ℕ} {but most n : ℕ} {inside : Bool} {i : ℕ} (c : Counting w but most n inside i) where
+  pub counting-next : {m : ℕ} {x : ℕ} {t : Bool} → i < length w → n < most → x ≡ beginsOther inside but (getD w i 0) → m ≡ n + x → t ≡ goesOn inside (getD w i 0)
+      → Counting w but most m t (i + 1)
+  counting-next {t = t} h l ex em et =
+      let e : seen but inside (drop i w) ≡ beginsOther inside but (getD w i 0) + seen but t (drop (i + 1) w)
+      = ap (seen but inside) (suffix w i h) ∙ ap (λ (u : Bool). beginsOther inside but (getD w i 0) + seen but u (drop (i + 1) w)) (sym et) in
+      record { within = omega (arith, l, ex, em, begins-once but inside (getD w i 0)); in-all = omega (arith, c .in-all, ex, em, e) }
+
+  counted : (seen but false w ≤ most → n ≡ seen but false w) → (most ≤ seen but false w → n ≡ most) → Others w but most n
+  counted few many =
+      record {
+        within = c .within;
+        says =
+            λ v e.
+            let k : seen but false w ≡ seen but false (raw v) = ap (seen but false) e in
+            (seen but false (raw v), seen-raw but v, (λ l. few (omega (arith, l, k)) ∙ k), (λ l. many (omega (arith, l, k))));
+      }
+
+  pub counting-full : most ≤ n → Others w but most n
+  counting-full h = counted (λ l. omega (arith, l, h, c .in-all)) (λ l. omega (arith, h, c .within))
+
+  pub counting-done : length w ≤ i → Others w but most n
+  counting-done h =
+      let e : n ≡ seen but false w = omega (arith, c .in-all, ap (seen but inside) (drop-of-length-le w h)) in
+      counted (λ l. e) (λ l. omega (arith, l, e, c .within))
+
+-- ---- all characters, and those that aren't the undefined one
+
+pub each-character : {w : List ℕ} {r : ℕ} → Others w 60 (length w) r → Characters w r
+each-character {w} {r} o =
+    record {
+      within = o .within;
+      says =
+          λ v e.
+          let x = o .says v e in
+          let n = count-every (λ (b : ℕ). ¬ (first b ≡ 60)) none-begins (x .1) in
+          omega (arith, n, x .2 (omega (arith, n, raw-longer v, ap length e)));
+    }
   where
-    none : (t : Bool) → chars t [] ≡ 0
-    none true = refl
-    none false = refl
+    none-begins : (b : ℕ) → ¬ (first b ≡ 60)
+    none-begins =
+        spell-cases (λ (c : ℕ) (w : List ℕ). ¬ (getD w 0 0 ≡ 60)) (λ h. omega (arith, h)) (λ h. omega (arith, h)) (λ h. omega (arith, h)) (λ h. omega (arith, h)) (λ h. omega (arith, h))
+        (λ b e f g h k. eqb-false b 60 e)
 
-pub counted : {w : List ℕ} {n : ℕ} → n ≡ chars false w → Characters w n
-counted e = record { says = λ v q. e ∙ ap (chars false) q ∙ chars-raw v }
-
--- ---- bytes other than u
-
-abbrev pub others : ℕ → List ℕ → ℕ
-others u [] = 0
-others u (b ∷ w) = cond (eqb b u) (others u w) (suc (others u w))
-
-pub count-others : (u : ℕ) (w : List ℕ) → Count (λ (b : ℕ). ¬ (b ≡ u)) w (others u w)
-count-others u [] = end
-count-others u (b ∷ w) = go (eqb b u) refl (count-others u w)
+pub defined-told : {w : List ℕ} {undefined enough r : ℕ} → Others w undefined enough r → HasDefined w undefined enough (leb enough r)
+defined-told {w} {undefined = u} {enough} {r} o =
+    record {
+      says =
+          λ plain v e.
+          let x = o .says v e in (
+            x .0,
+            count-as (λ (c : ℕ). ¬ (first c ≡ u)) (λ (c : ℕ). ¬ (c ≡ u)) (λ c n q. n (begins plain c q)) (λ c n q. n (is-it plain c q)) (x .1),
+            as-many (decLe (x .0) enough) (x .2) (x .3),
+          );
+    }
   where
-    go : (t : Bool) → eqb b u ≡ t → Count (λ (b : ℕ). ¬ (b ≡ u)) w (others u w)
-        → Count (λ (b : ℕ). ¬ (b ≡ u)) (b ∷ w) (cond t (others u w) (suc (others u w)))
-    go true e r = lacks (λ n. n (eqb-true b u e)) r
-    go false e r = has (eqb-false b u e) r
+    -- the undefined one alone begins with its byte
+    begins : spell u ≡ u ∷ [] → (c : ℕ) → c ≡ u → first c ≡ u
+    begins plain c q = ap first q ∙ ap (λ (z : List ℕ). getD z 0 0) plain
 
-module _ (u : ℕ) (w : List ℕ) (i : ℕ) where
-  pub others-lack : i < length w → getD w i 0 ≡ u → others u (drop i w) ≡ others u (drop (i + 1) w)
-  others-lack h e = rw (suffix w i h, eq-eqb (getD w i 0) u e)
+    no-amp : spell u ≡ u ∷ [] → {A : Type 0} → 38 ≡ u → A
+    no-amp plain q = absurd (omega (arith, ap length (subst (λ (z : ℕ). spell z ≡ z ∷ []) (sym q) plain)))
 
-  pub others-have : i < length w → ¬ (getD w i 0 ≡ u) → others u (drop i w) ≡ suc (others u (drop (i + 1) w))
-  others-have h e = rw (suffix w i h, ne-eqb (getD w i 0) u e)
+    is-it : spell u ≡ u ∷ [] → (c : ℕ) → first c ≡ u → c ≡ u
+    is-it plain =
+        spell-cases (λ (c : ℕ) (z : List ℕ). getD z 0 0 ≡ u → c ≡ u) (no-amp plain) (no-amp plain) (no-amp plain) (no-amp plain) (no-amp plain)
+        (λ c d f g h k q. q)
 
-  pub others-none : length w ≤ i → others u (drop i w) ≡ 0
-  others-none h = ap (others u) (drop-of-length-le w h)
+    as-many : {n : ℕ} → Dec (n ≤ enough) → (n ≤ enough → r ≡ n) → (enough ≤ n → r ≡ enough) → Tells (leb enough r) (enough ≤ n)
+    as-many (yes h) few many = subst (λ (m : ℕ). Tells (leb enough r) (enough ≤ m)) (few h) (tells-le enough r)
+    as-many (no h) few many = told (enough ≤ _) (sym (le-leb enough r (omega (arith, h, many (omega (arith, h)))))) (omega (arith, h))

@@ -1,24 +1,26 @@
--- Residues: what the place of the first byte that is no symbol says of the residues as read.
+-- Residues: the first byte that is no symbol is where the first residue is written that is none.
 use Prim.Native.Nat.{ℕ, _+_, _≤_, _<_}
 use native.Mathlib.Decide.{decLe}
 use native.Mathlib.Omega.{arith}
 use mathlib.Core.Path.{_≡_, refl, sym, ap, _∙_, subst}
 use mathlib.Core.Bool.{true, false, true≢false}
-use mathlib.Core.List.{List}
-use lib.ListN.{length, getD}
+use mathlib.Core.List.{List, _∷_, _++_}
+use lib.ListN.{length, getD, drop, length-append, List·getD-append}
+use lib.Seq.{getD-append-add, drop-append-seam}
 use lib.Dec.{eqb}
 use lib.Bits.{bitOr}
 use borrow.Author.Tests.{le-leb, eq-eqb, ne-eqb}
-use Rattle.paper.specs.Bytes.{bytes, all, raw}
+use Rattle.paper.specs.Bytes.{bytes, spell, raw, all, leading}
 use Rattle.paper.specs.Rules.{dna, rna, aa, isSymbol}
 use Rattle.paper.specs.Rules as Rules
 use Rattle.paper.proofs.Tables.{Test, at-each}
-use Rattle.paper.proofs.Texts.{raw-once}
+use Rattle.paper.proofs.Texts.{spell-cases, raw-append}
+use Rattle.paper.proofs.Leading.{leading-in, leading-rest, Cut, whole, before, cut}
 use Rattle.read_bytes.specs.Numbers.{flag}
 use Rattle.read_bytes.proofs.Numbers.{one-of}
 use Rattle.value_words.proofs.Read.{raw-symbols}
-use Rattle.value_words.proofs.Tests.{all-at, at-all}
-use Rattle.value_residues.specs.Residues.{symbolClass, SymbolTable, OfClass, Strange, Between, Foreign, FirstForeign, Symbols}
+use Rattle.value_words.proofs.Tests.{all-at}
+use Rattle.value_residues.specs.Residues.{symbolClass, SymbolTable, OfClass, Strange, Between, Foreign, Symbols}
 
 -- ---- the table
 
@@ -51,6 +53,66 @@ pub amino-among : {b : ℕ} → 65 ≤ b → b ≤ 90 → OfClass 2 b
 amino-among l h dna k = absurd (omega (arith, k))
 amino-among l h rna k = absurd (omega (arith, k))
 amino-among l h aa k = simp (le-leb _ _ l, le-leb _ _ h)
+
+-- a character whose first byte is a symbol is that symbol
+of-first : (k : Rules.Kind) (b : ℕ) (r : List ℕ) → isSymbol k (getD (spell b ++ r) 0 0) ≡ true → isSymbol k b ≡ true
+of-first k b r =
+    spell-cases (λ (c : ℕ) (w : List ℕ). isSymbol k (getD (w ++ r) 0 0) ≡ true → isSymbol k c ≡ true) (no-amp k) (no-amp k) (no-amp k) (no-amp k) (no-amp k)
+    (λ c e f g h j s. s) b
+  where
+    no-amp : (k : Rules.Kind) {A : Type 0} → isSymbol k 38 ≡ true → A
+    no-amp dna s = absurd (true≢false (sym s))
+    no-amp rna s = absurd (true≢false (sym s))
+    no-amp aa s = absurd (true≢false (sym s))
+
+-- the residues of v before the first that is no symbol, and what stands behind them
+module _ (k : Rules.Kind) (v : List ℕ) where
+  abbrev front : List ℕ
+  front = leading (isSymbol k) v
+
+  raw-front : raw front ≡ front
+  raw-front = raw-symbols k front (leading-in (isSymbol k) v)
+
+  raw-split : (x : List ℕ) → v ≡ front ++ x → raw v ≡ raw front ++ raw x
+  raw-split x q = ap raw q ∙ raw-append front x
+
+  -- a byte of theirs is a symbol
+  in-front : (i : ℕ) → i < length (raw front) → isSymbol k (getD (raw v) i 0) ≡ true
+  in-front i l =
+      let x = leading-rest (isSymbol k) v in
+      ap (λ (z : List ℕ). isSymbol k (getD z i 0)) (raw-split (x .0) (x .1)) ∙ ap (isSymbol k) (List·getD-append (raw front) (raw (x .0)) 0 i l)
+      ∙ all-at (isSymbol k) (raw front) i l (subst (all (isSymbol k)) (sym raw-front) (leading-in (isSymbol k) v))
+
+  -- r bytes are symbols and the next isn't: they are those of the front
+  pub stops-there : (r : ℕ) → r ≤ length (raw v) → ((i : ℕ) → i < r → isSymbol k (getD (raw v) i 0) ≡ true)
+      → (r < length (raw v) → isSymbol k (getD (raw v) r 0) ≡ false) → r ≡ length (raw front)
+  stops-there r p each there = by (cut (isSymbol k) v)
+    where
+      not-less : Dec (length (raw front) ≤ r) → length (raw front) ≤ r
+      not-less (yes h) = h
+      not-less (no h) =
+          let x = leading-rest (isSymbol k) v in
+          let long = ap length (raw-split (x .0) (x .1)) in
+          absurd (true≢false (sym (in-front r (omega (arith, h))) ∙ there (omega (arith, h, long, length-append (raw front) (raw (x .0))))))
+
+      not-more : (b : ℕ) (x : List ℕ) → v ≡ front ++ (b ∷ x) → isSymbol k b ≡ false → Dec (r ≤ length (raw front)) → r ≤ length (raw front)
+      not-more b x q o (yes h) = h
+      not-more b x q o (no h) =
+          let here = ap (λ (z : List ℕ). getD z (length (raw front) + 0) 0) (raw-split (b ∷ x) q) ∙ getD-append-add (raw front) (raw (b ∷ x)) 0 0 in
+          absurd (true≢false (sym (of-first k b (raw x) (sym (ap (isSymbol k) here) ∙ each (length (raw front) + 0) (omega (arith, h)))) ∙ o))
+
+      by : Cut (isSymbol k) v → r ≡ length (raw front)
+      by (whole a q) = omega (arith, p, not-less (decLe (length (raw front)) r), ap (λ (z : List ℕ). length (raw z)) q)
+      by (before b x q o) = omega (arith, not-less (decLe (length (raw front)) r), not-more b x q o (decLe r (length (raw front))))
+
+  -- so many bytes are as many residues, and behind them the others are written
+  pub cut-there : {w : List ℕ} {r : ℕ} → w ≡ raw v → r ≡ length (raw front) → (x : List ℕ) × (drop r w ≡ raw x) × (length v ≡ r + length x)
+  cut-there {w} {r} z n =
+      let x = leading-rest (isSymbol k) v in (
+        x .0,
+        (λ i. drop (n i) ((z ∙ raw-split (x .0) (x .1)) i)) ∙ drop-append-seam (raw front) (raw (x .0)),
+        omega (arith, n, ap length raw-front, ap length (x .1), length-append front (x .0)),
+      )
 
 module _ (w : List ℕ) (class : ℕ) where
   pub between-none : (i : ℕ) → Between w class i i
@@ -85,23 +147,10 @@ module _ (w : List ℕ) (class : ℕ) where
   pub first-foreign : {i end r : ℕ} → Between w class 0 i → Foreign w class i end r → r ≤ length w → (r < length w → r < end) → Symbols w class r
   first-foreign {i} {end} {r} a f p q =
       record {
-        says = λ k e. record {
-          inside = p;
-          before = λ j l. between-join 0 i r a (f .each) j (omega arith) l k e;
-          there = λ l. f .there (q l) k e;
-        };
+        within = p;
+        says =
+            λ k e v z.
+            stops-there k v r (omega (arith, p, ap length z))
+            (λ j l. ap (λ (u : List ℕ). isSymbol k (getD u j 0)) (sym z) ∙ between-join 0 i r a (f .each) j (omega arith) l k e)
+            (λ l. ap (λ (u : List ℕ). isSymbol k (getD u r 0)) (sym z) ∙ f .there (q (omega (arith, l, ap length z))) k e);
       }
-
--- ---- for callers
-
-module _ (k : Rules.Kind) {w : List ℕ} {r : ℕ} (f : FirstForeign k w r) where
-  pub all-symbols : r ≡ length w → (v : List ℕ) → w ≡ raw v → (v ≡ w) × all (isSymbol k) v
-  all-symbols e v q =
-      let a = at-all (isSymbol k) w (λ i h. f .before i (omega arith)) in
-      let s = raw-once w v (raw-symbols k w a ∙ q) in
-      (sym s, subst (all (isSymbol k)) s a)
-
-  pub not-all-symbols : r < length w → (v : List ℕ) → w ≡ raw v → ¬ all (isSymbol k) v
-  not-all-symbols h v q a =
-      let s = sym (q ∙ raw-symbols k v a) in
-      true≢false (sym (all-at (isSymbol k) w r h (subst (all (isSymbol k)) s a)) ∙ f .there h)

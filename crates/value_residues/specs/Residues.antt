@@ -1,18 +1,46 @@
--- What is promised of residues: how many they are, which are symbols of a kind, and how many are defined.
+-- What is promised of residues: how many they are, which is the first that is no symbol of a kind, and how many are defined.
 use Prim.Native.Nat.{ℕ, _+_, _≤_, _<_}
+use Prim.Native.Char.{code}
 use mathlib.Core.Path.{_≡_}
-use mathlib.Core.Bool.{Bool, true, false}
-use mathlib.Core.List.{List}
+use mathlib.Core.Bool.{Bool, true, false, not}
+use mathlib.Core.List.{List, [], _∷_}
 use lib.ListN.{length, getD}
 use lib.Dec.{eqb}
-use Rattle.paper.specs.Bytes.{raw}
+use Rattle.paper.specs.Bytes.{spell, raw, leading}
 use Rattle.paper.specs.Lists.{Count}
 use Rattle.paper.specs.Rules.{dna, rna, aa, isSymbol}
 use Rattle.paper.specs.Rules as Rules
+use Rattle.read_bytes.specs.Numbers.{flag}
 use Rattle.value_words.specs.Reading.{Tells}
 
+-- ---- characters
+
+-- whether an entity goes on behind the byte b: one begins with `&` and ends with `;`
+abbrev pub goesOn : Bool → ℕ → Bool
+goesOn true b = not (eqb b (code ";"))
+goesOn false b = eqb b (code "&")
+
+-- 1 where a character begins with another byte than `but`
+abbrev pub beginsOther : Bool → ℕ → ℕ → ℕ
+beginsOther true but b = 0
+beginsOther false but b = flag (not (eqb b but))
+
+-- r characters are written with another first byte than `but`; where they are more than `most`, r is that
+pub record Others (w : List ℕ) (but most r : ℕ) : Type 0 where
+  pub within : r ≤ most
+  pub says : (v : List ℕ) → w ≡ raw v
+      → (n : ℕ) × Count (λ (b : ℕ). ¬ (getD (spell b) 0 0 ≡ but)) v n × (n ≤ most → r ≡ n) × (most ≤ n → r ≡ most)
+
 pub record Characters (w : List ℕ) (r : ℕ) : Type 0 where
+  pub within : r ≤ length w
   pub says : (v : List ℕ) → w ≡ raw v → r ≡ length v
+
+-- at least so many characters aren't the undefined one, which is written as it reads
+pub record HasDefined (w : List ℕ) (undefined enough : ℕ) (r : Bool) : Type 0 where
+  pub says : spell undefined ≡ undefined ∷ [] → (v : List ℕ) → w ≡ raw v
+      → (n : ℕ) × Count (λ (b : ℕ). ¬ (b ≡ undefined)) v n × Tells r (enough ≤ n)
+
+-- ---- symbols
 
 -- the class of a kind's symbols
 abbrev pub symbolClass : Rules.Kind → ℕ
@@ -23,12 +51,6 @@ symbolClass aa = 2
 -- at each byte the class whose symbol it is
 pub record SymbolTable (t : List ℕ) : Type 0 where
   pub at-byte : (k : Rules.Kind) (b : ℕ) → b < 256 → eqb (getD t b 0) (symbolClass k) ≡ isSymbol k b
-
--- every byte before r is a symbol of the kind, and the one at r, if there is one, isn't
-pub record FirstForeign (k : Rules.Kind) (w : List ℕ) (r : ℕ) : Type 0 where
-  pub inside : r ≤ length w
-  pub before : (i : ℕ) → i < r → isSymbol k (getD w i 0) ≡ true
-  pub there : r < length w → isSymbol k (getD w r 0) ≡ false
 
 -- b is a symbol of each kind of the class
 abbrev pub OfClass : ℕ → ℕ → Type 0
@@ -50,10 +72,7 @@ pub record Foreign (w : List ℕ) (class from end r : ℕ) : Type 0 where
   pub each : Between w class from r
   pub there : r < end → (k : Rules.Kind) → class ≡ symbolClass k → isSymbol k (getD w r 0) ≡ false
 
+-- r bytes are written before the first residue that is no symbol of the kind
 pub record Symbols (w : List ℕ) (class r : ℕ) : Type 0 where
-  pub says : (k : Rules.Kind) → class ≡ symbolClass k → FirstForeign k w r
-
-pub record HasDefined (w : List ℕ) (undefined enough : ℕ) (r : Bool) : Type 0 where
-  pub count : ℕ
-  pub counts : Count (λ (b : ℕ). ¬ (b ≡ undefined)) w count
-  pub says : Tells r (enough ≤ count)
+  pub within : r ≤ length w
+  pub says : (k : Rules.Kind) → class ≡ symbolClass k → (v : List ℕ) → w ≡ raw v → r ≡ length (raw (leading (isSymbol k) v))

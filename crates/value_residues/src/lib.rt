@@ -1,10 +1,11 @@
-// The residues of a sequence: how many characters they are, the first that is no symbol of its kind, and whether enough of them are
-// defined. Relies on the paper, on read_bytes, and on the laws of value_words: what a test tells, and what is written as it reads. It
-// calls none of the functions of value_words.
+// The residues of a sequence: how many characters they are, where the first stands that is no symbol of its kind, and whether enough of
+// them are defined. Relies on the paper, on read_bytes, and on the laws of value_words: what a test tells, and what is written as it
+// reads. It calls none of the functions of value_words.
 use read_bytes::equal;
 ghost use Prim.Native.Nat.{_+_, _≤_};
 ghost use lib.ListN.{length};
-ghost use Rattle.value_residues.specs.Residues.{Characters, SymbolTable, Symbols, Strange, Block, Foreign, HasDefined};
+ghost use mathlib.Core.Path.{_≡_};
+ghost use Rattle.value_residues.specs.Residues.{goesOn, beginsOther, Others, Characters, HasDefined, SymbolTable, Symbols, Strange, Block, Foreign};
 
 // The class of each byte, sixteen to a line: 1 for the symbols of DNA and RNA, 2 for those of AA, 0 for neither.
 const SYMBOLS: [u8; 256] = *b"\
@@ -32,28 +33,57 @@ pub fn symbol_table() -> [u8; 256]
     SYMBOLS
 }
 
-// How many characters it is written from: an entity is one.
-pub fn characters(w: &[u8]) -> usize
-    ensures { λ r. ⌜ Characters (now (w .entry)) r ⌝ }
+// Whether an entity goes on behind this byte.
+fn goes_on(inside: bool, b: u8) -> bool
+    ensures { λ r. ⌜ r ≡ goesOn inside b ⌝ }
+{
+    if inside {
+        return b != b';';
+    }
+    b == b'&'
+}
+
+// 1 where a character begins with another byte than this, else 0.
+fn begins_other(inside: bool, but: u8, b: u8) -> usize
+    ensures { λ r. ⌜ r ≡ beginsOther inside but b ⌝ }
+{
+    if inside {
+        return 0;
+    }
+    if b == but { 0 } else { 1 }
+}
+
+// How many characters begin with another byte than this, up to a limit. An entity is one; no more are read than it takes.
+fn others(w: &[u8], but: u8, most: usize) -> usize
+    ensures { λ r. ⌜ Others (now (w .entry)) but most r ⌝ }
 {
     let mut n: usize = 0;
     let mut inside = false;
     let mut i: usize = 0;
     while i < w.len() {
-        let b = w[i];
-        if inside {
-            if b == b';' {
-                inside = false;
-            }
-        } else {
-            n += 1;
-            if b == b'&' {
-                inside = true;
-            }
+        if most <= n {
+            return n;
         }
+        let b = w[i];
+        n += begins_other(inside, but, b);
+        inside = goes_on(inside, b);
         i += 1;
     }
     n
+}
+
+// How many characters it is written from: none begins with `<`.
+pub fn characters(w: &[u8]) -> usize
+    ensures { λ r. ⌜ Characters (now (w .entry)) r ⌝ }
+{
+    others(w, b'<', w.len())
+}
+
+// Whether at least so many characters aren't the undefined one.
+pub fn has_defined(w: &[u8], undefined: u8, enough: usize) -> bool
+    ensures { λ r. ⌜ HasDefined (now (w .entry)) undefined enough r ⌝ }
+{
+    enough <= others(w, undefined, enough)
 }
 
 // 0 only for the bases and `n`, which most residues are.
@@ -120,7 +150,8 @@ fn foreign(w: &[u8], from: usize, end: usize, class: u8, t: &[u8; 256]) -> usize
     i
 }
 
-// The first byte that is no symbol of the class: by blocks, and by the table where a block has a rarer symbol.
+// How many bytes are written before the first residue that is no symbol of the class: by blocks, and by the table where a block has a
+// rarer symbol.
 pub fn symbols(w: &[u8], class: u8, t: &[u8; 256]) -> usize
     requires { ⌜ SymbolTable (now t) ⌝ }
     ensures { λ r. ⌜ Symbols (now (w .entry)) class r ⌝ }
@@ -136,25 +167,4 @@ pub fn symbols(w: &[u8], class: u8, t: &[u8; 256]) -> usize
         i += 64;
     }
     foreign(w, i, w.len(), class, t)
-}
-
-// Whether at least so many residues aren't the undefined one. No more are read than it takes.
-pub fn has_defined(w: &[u8], undefined: u8, enough: usize) -> bool
-    ensures { λ r. ⌜ HasDefined (now (w .entry)) undefined enough r ⌝ }
-{
-    let mut left = enough;
-    let mut i: usize = 0;
-    while i < w.len() {
-        if left == 0 {
-            return true;
-        }
-        if w[i] != undefined {
-            left -= 1;
-        }
-        i += 1;
-    }
-    if left == 0 {
-        return true;
-    }
-    false
 }

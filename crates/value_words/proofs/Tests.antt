@@ -1,11 +1,13 @@
 -- From tests of the code to what they tell.
-use Prim.Native.Nat.{ℕ, zero, suc, _+_, _<_}
+use Prim.Native.Nat.{ℕ, zero, suc, _+_, _≤_, _<_}
 use native.Mathlib.Decide.{ℕ-discrete}
 use native.Mathlib.Omega.{arith}
 use mathlib.Core.Path.{_≡_, refl, sym, ap, _∙_, subst}
 use mathlib.Core.Bool.{Bool, true, false, true≢false}
 use mathlib.Core.List.{List, [], _∷_}
 use lib.ListN.{length, getD}
+use lib.Dec.{leb}
+use borrow.Author.Tests.{leb-true, leb-false}
 use Rattle.paper.specs.Bytes.{all}
 use Rattle.paper.proofs.Tables.{listed}
 use Rattle.value_words.specs.Reading.{Tells}
@@ -26,6 +28,9 @@ tells-true false e t = absurd (true≢false (sym e))
 pub tells-false : (r : Bool) {A : Type 0} → r ≡ false → Tells r A → ¬ A
 tells-false true e t = absurd (true≢false e)
 tells-false false e t = t
+
+pub tells-le : (a b : ℕ) → Tells (leb a b) (a ≤ b)
+tells-le a b = tells (leb a b) (leb-true a b) (λ e h. omega (arith, h, leb-false a b e))
 
 -- what holds below i and at i holds below i + 1
 pub below-next : (P : ℕ → Type 0) (i : ℕ) → ((j : ℕ) → j < i → P j) → P i → (j : ℕ) → j < i + 1 → P j

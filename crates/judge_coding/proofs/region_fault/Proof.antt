@@ -1,5 +1,4 @@
 -- `judge_coding::region_fault` meets its contract.
-use borrow.Author.Tests.{not-true, not-false}
 use Rattle.protein_code.proofs.Codes.{code-1, coded-1}
 use Rattle.judge_coding.proofs.Regions.{region-unjudged, region-unclean, region-bad, region-outside, region-judged}
 use borrow.Author.Needs.{needs}
@@ -10,7 +9,7 @@ returns : tie.Need-returns
 returns c = region-unjudged (c .if1 .taken)
 
 returns-2 : tie.Need-returns-2
-returns-2 c = region-unclean (not-true _ (c .if2 .taken))
+returns-2 c = region-unclean (c .if2 .taken)
 
 enum-told : tie.Need-enum-told
 enum-told c = search needs
@@ -39,7 +38,7 @@ returns-5 c =
     let if2 = c .before .before .before .before .before .before .before .if2 in
     let verdict = c .before .before .before .before .before .verdict in
     let pre' = c .before .before .before .before .before .before .before .before .before .before .before .pre in
-    region-judged (verdict .given .1) (code-1 pre') (if1 .left) (not-false _ (if2 .left)) (c .before .before .before .if3 .left)
+    region-judged (verdict .given .1) (code-1 pre') (if1 .left) (if2 .left) (c .before .before .before .if3 .left)
     (c .before .before .bytes-of .ensures) (c .before .bytes-of2 .ensures) (c .translations .ensures)
 
 pub region-fault-spec : {M : Type 1} → statement M

@@ -31,9 +31,6 @@ unless-requires c κs = search needs
 unless-requires-2 : tie.Need-unless-requires-2
 unless-requires-2 c κs = search needs
 
-bytes-of-requires-3 : tie.Need-bytes-of-requires-3
-bytes-of-requires-3 c κs = search needs
-
 judge-residues-requires : tie.Need-judge-residues-requires
 judge-residues-requires c κs = search needs
 
@@ -51,16 +48,15 @@ earlier-requires-3 c κs = search needs
 
 returns : tie.Need-returns
 returns c =
-    let bytes-of = c .before .before .before .before .before .before .before .before .before .before .before .before .before .before .bytes-of in
-    let same = c .before .before .before .before .before .before .before .before .before .before .before .before .same in
-    let bytes-of2 = c .before .before .before .before .before .before .before .before .before .before .before .bytes-of2 in
-    let is-number = c .before .before .before .before .before .before .before .before .before .is-number in
-    let is-known = c .before .before .before .before .before .before .before .before .is-known in
-    let unless = c .before .before .before .before .before .before .before .unless in
-    let unless2 = c .before .before .before .before .before .before .unless2 in
-    let bytes-of3 = c .before .before .before .before .before .bytes-of3 in
+    let bytes-of = c .before .before .before .before .before .before .before .before .before .before .before .before .before .bytes-of in
+    let same = c .before .before .before .before .before .before .before .before .before .before .before .same in
+    let bytes-of2 = c .before .before .before .before .before .before .before .before .before .before .bytes-of2 in
+    let is-number = c .before .before .before .before .before .before .before .before .is-number in
+    let is-known = c .before .before .before .before .before .before .before .is-known in
+    let unless = c .before .before .before .before .before .before .unless in
+    let unless2 = c .before .before .before .before .before .unless2 in
     texts-judged (same .result) (c .before .before .earlier .result) (c .before .earlier2 .result) (is-known .ensures) (bytes-of .ensures)
-    (same .ensures) (bytes-of2 .ensures) (is-number .ensures) (unless .ensures) (unless2 .ensures) (bytes-of3 .ensures)
+    (same .ensures) (bytes-of2 .ensures) (is-number .ensures) (unless .ensures) (unless2 .ensures)
     (c .before .before .before .before .judge-residues .ensures) (c .before .before .before .unless3 .ensures)
     (c .before .before .earlier .ensures) (c .before .earlier2 .ensures) (c .earlier3 .ensures)
 
@@ -77,7 +73,6 @@ judge-texts-spec =
     is-known-requires
     unless-requires
     unless-requires-2
-    bytes-of-requires-3
     judge-residues-requires
     unless-requires-3
     earlier-requires

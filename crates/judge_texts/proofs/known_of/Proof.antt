@@ -13,20 +13,25 @@ kind-of-requires c κs = search needs
 bytes-of-requires-2 : tie.Need-bytes-of-requires-2
 bytes-of-requires-2 c κs = search needs
 
-is-clean-requires : tie.Need-is-clean-requires
-is-clean-requires c κs = search needs
+before-foreign-requires : tie.Need-before-foreign-requires
+before-foreign-requires c κs = search needs
 
 length-of-requires : tie.Need-length-of-requires
-length-of-requires c κs = search needs
+length-of-requires c κs = c .before-foreign .ensures .within
 
 size-of-requires : tie.Need-size-of-requires
 size-of-requires c κs = search needs
 
+wrapping-add-usize-requires : tie.Need-wrapping-add-usize-requires
+wrapping-add-usize-requires c κs = search needs
+
 returns : tie.Need-returns
 returns c =
-    let bytes-of = c .before .before .before .before .before .bytes-of in
-    knows (bytes-of .ensures) (c .before .before .before .before .kind-of .ensures) (c .before .before .before .bytes-of2 .ensures)
-    (c .before .before .is-clean .ensures) (c .before .length-of .ensures) (c .size-of .ensures)
+    let bytes-of = c .before .before .before .before .before .before .bytes-of in
+    let kind-of = c .before .before .before .before .before .kind-of in
+    knows (bytes-of .ensures) (kind-of .ensures) (c .before .before .before .before .bytes-of2 .ensures)
+    (c .before .before .before .before-foreign .ensures) (c .before .before .length-of .ensures) (c .before .size-of .ensures)
+    (c .wrapping-add-usize .ensures)
 
 pub known-of-spec : {M : Type 1} → statement M
 known-of-spec =
@@ -35,7 +40,8 @@ known-of-spec =
     bytes-of-requires
     kind-of-requires
     bytes-of-requires-2
-    is-clean-requires
+    before-foreign-requires
     length-of-requires
     size-of-requires
+    wrapping-add-usize-requires
     returns)

@@ -1,18 +1,37 @@
 -- `judge_texts::length_of` meets its contract.
-use mathlib.Core.Path.{sym, ap}
-use lib.ListN.{length}
+use mathlib.Core.Path.{ap, _∙_}
+use Prim.Native.Nat.{_+_}
+use native.Mathlib.Omega.{arith}
+use Rattle.judge_texts.proofs.Sizes.{length-by}
 use borrow.Author.Needs.{needs}
 use Rattle.judge_texts.proofs.length_of.Statement.{statement}
 use Rattle.judge_texts.proofs.length_of.Tie as tie
 
-returns : tie.Need-returns
-returns c = record { says = λ v e h. ap length (sym (h (c .if1 .taken))) }
+sub-characters : tie.Need-sub-characters
+sub-characters c = search needs
+
+part-characters-start : tie.Need-part-characters-start
+part-characters-start c = search needs
+
+part-characters-end : tie.Need-part-characters-end
+part-characters-end c = search needs
 
 characters-requires : tie.Need-characters-requires
 characters-requires c κs = search needs
 
-returns-2 : tie.Need-returns-2
-returns-2 c = record { says = λ v e h. c .characters .ensures .says v e }
+add-result : tie.Need-add-result
+add-result c = search needs
+
+returns : tie.Need-returns
+returns c = length-by (c .before .before .before .args .w .now) (c .before .before .before .args .n) (c .characters .ensures)
 
 pub length-of-spec : {M : Type 1} → statement M
-length-of-spec = tie.close (tie.spec returns characters-requires returns-2)
+length-of-spec =
+    tie.close
+    (tie.spec
+    sub-characters
+    part-characters-start
+    part-characters-end
+    characters-requires
+    add-result
+    returns)
