@@ -17,6 +17,7 @@ pub struct Refusal {
 impl Refusal {
     pub const TOO_LONG: u32 = 1;
     pub const NOT_THE_LAYOUT: u32 = 2;
+    pub const NOT_A_SYMBOL: u32 = 18;
     pub const NO_SEQUENCE: u32 = 30;
     pub const SKIPPED: u32 = 31;
     pub const NO_FEATURE: u32 = 32;
