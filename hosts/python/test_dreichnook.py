@@ -144,6 +144,21 @@ class Explanations(unittest.TestCase):
                 self.assertIsNone(Refusal(number, place, other).explanation)
         self.assertIsNone(Refusal(40, 2120, listing.replace(b"exonn", b"exon")).explanation)
 
+    def test_one_of_forty_thousand_residues(self):
+        listing = specimen("002-p14-uracil-as-u.xml").replace(b">20<", b">40000<").replace(b"1..20", b"1..40000")
+        residues = b"acgt" * 10_000
+        for number, written, told in (
+            (1, b"u", "`u`"),
+            (31_042, b" ", "a blank"),
+            (40_000, b"&quot;", '`"`, written `&quot;`'),
+        ):
+            changed = residues[: number - 1] + written + residues[number:]
+            with self.assertRaises(Refusal) as caught:
+                Listing(listing.replace(b"augaaauuaaaacauaaaag", changed)).check()
+            rule = f"refused by rule 18 at byte {1338 + number}: a residue is outside the kind's symbols"
+            symbols = "the symbols of RNA are acgtmrwsykvhdbn, in lower case, with t for uracil"
+            self.assertEqual(str(caught.exception), f"{rule}: residue {number} of 40000 is {told}; {symbols}")
+
     def test_residues_as_long_as_a_listing(self):
         piece = "<INSDSeq_moltype>AA</INSDSeq_moltype><INSDSeq_sequence>TEXT^x</INSDSeq_sequence>"
         says = self.refused(18, piece.replace("TEXT", "K&gt;" * (LIMIT // 5))).explanation
