@@ -10,7 +10,7 @@ const WORDS: &str = include_str!("../../words/refusals.txt");
 pub struct Refusal {
     /// 1, 2, 10 to 29, 40 to 42: the broken rule. 30 to 37: the listing is accepted, but has no such answer.
     pub number: u32,
-    /// The place of the fault in the listing, from 0; 0 for 30 to 37.
+    /// The place of the fault in the listing, from 0: for 18 the residue's own; 0 for 30 to 37.
     pub place: u64,
 }
 

@@ -67,6 +67,30 @@ fn bytes_that_were_not_refused_so_have_none() {
 }
 
 #[test]
+fn all_but_the_symbols_are_explained() {
+    let kinds = [
+        ("DNA", "acgtmrwsykvhdbn"),
+        ("RNA", "acgtmrwsykvhdbn"),
+        ("AA", "ABCDEFGHIJKLMNOPQRSTUVWXYZ"),
+    ];
+    for (kind, symbols) in kinds {
+        // Of entities there are examples.
+        let characters = (' '..='~').filter(|character| !"<>&\"'".contains(*character));
+        for character in characters {
+            let moltype = format!("<INSDSeq_moltype>{kind}</INSDSeq_moltype>");
+            let sequence = format!("<INSDSeq_sequence>^{character}</INSDSeq_sequence>");
+            let (bytes, refusal) = refused(18, &(moltype + &sequence));
+            let is_explained = refusal.explanation(&bytes).is_some();
+            assert_ne!(
+                is_explained,
+                symbols.contains(character),
+                "{kind} {character}"
+            );
+        }
+    }
+}
+
+#[test]
 fn residues_as_long_as_a_listing() {
     let piece = "<INSDSeq_moltype>AA</INSDSeq_moltype><INSDSeq_sequence>TEXT^x</INSDSeq_sequence>";
     let (bytes, refusal) = refused(18, &piece.replace("TEXT", &"K&gt;".repeat(LIMIT / 5)));
