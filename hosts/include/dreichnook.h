@@ -41,8 +41,9 @@
  *   37          a stop inside the CDS
  *   34          the lent output is shorter than the answer
  *
- * The value at fault is of 40 the unknown feature key, of 41 the name of the qualifier that its key doesn't allow, of 42
- * the key whose required qualifier is missing. Refusals 30 to 37 have place 0. DREICHNOOK_... below names them.
+ * The value at fault is of 18 the first residue outside its kind's symbols (of an entity, its `&`), of 40 the unknown
+ * feature key, of 41 the name of the qualifier that its key doesn't allow, of 42 the key whose required qualifier is
+ * missing. Refusals 30 to 37 have place 0. DREICHNOOK_... below names them.
  */
 #ifndef DREICHNOOK_H
 #define DREICHNOOK_H
@@ -57,11 +58,12 @@ extern "C" {
 /* The longest listing, in bytes. */
 #define DREICHNOOK_LIMIT 16777216
 
-/* What a call returns. The others, 10 to 29, are rules on values, as 40 to 42 are. */
+/* What a call returns. The others of 10 to 29 are rules on values, as 18 and 40 to 42 are. */
 enum {
     DREICHNOOK_ANSWERED = 0,
     DREICHNOOK_TOO_LONG = 1,
     DREICHNOOK_NOT_THE_LAYOUT = 2,
+    DREICHNOOK_NOT_A_SYMBOL = 18,
     DREICHNOOK_NO_SEQUENCE = 30,
     DREICHNOOK_SKIPPED = 31,
     DREICHNOOK_NO_FEATURE = 32,

@@ -28,6 +28,7 @@ OPERATORS = ("none", "join", "order")
 COMPLEMENT, BEFORE, AFTER, SITE = 1, 2, 4, 8
 """The marks of a span: complemented; `<` is written; `>` is written; a site."""
 
+NOT_A_SYMBOL = 18
 NO_SEQUENCE, SKIPPED, NO_FEATURE, NO_QUALIFIER, NO_ROOM, NOT_A_CDS, UNJUDGED, STOP_INSIDE = range(30, 38)
 UNKNOWN_KEY, NOT_ALLOWED, REQUIRED_MISSING = range(40, 43)
 
@@ -45,7 +46,7 @@ WORDS = {int(number): words for number, words in _table("refusals.txt")}
 class Refusal(Exception):
     """Why a question wasn't answered: 1, 2, 10 to 29, 40 to 42, the broken rule with its place; 30 to 37, no such answer.
 
-    For rules 40 to 42 the explanation says what exactly is wrong in the listing, which is the refused one; else it is None.
+    For rules 18 and 40 to 42 the explanation says what exactly is wrong in the listing, the refused one; else it is None.
     """
 
     def __init__(self, number: int, place: int, listing: bytes = b""):
@@ -188,15 +189,17 @@ def _library():
     return library
 
 
-# The explanations of rules 40 to 42, as in hosts/rust/src/explain.rs; the tests of both read hosts/words/examples.txt.
+# The explanations of rules 18 and 40 to 42, as in hosts/rust/src/explain; the tests of both read hosts/words/examples.txt.
 
+_SYMBOLS = {kind.encode(): (kind, symbols.encode(), words) for kind, symbols, words in _table("symbols.txt")}
 _MOLTYPES = {b"DNA": "nucleotides", b"RNA": "nucleotides", b"AA": "AA"}
 
 # The older names, which in AA count as their lower-case ones.
 _OLDER = (b"SOURCE", b"ORGANISM", b"MOL_TYPE", b"NOTE")
 
 # No text of a listing has `<`, so these stand at start tags only. A qualifier belongs to the last key before it.
-_MOLTYPE, _KEY, _NAME = b"<INSDSeq_moltype", b"<INSDFeature_key", b"<INSDQualifier_name"
+_MOLTYPE, _SEQUENCE = b"<INSDSeq_moltype", b"<INSDSeq_sequence"
+_KEY, _NAME = b"<INSDFeature_key", b"<INSDQualifier_name"
 _ELEMENT = re.compile(rb"<[^>]*?(?:/>[^<]*|>([^<]*))<")
 
 _ENTITIES = {b"&lt;": b"<", b"&gt;": b">", b"&amp;": b"&", b"&quot;": b'"', b"&apos;": b"'"}
@@ -230,8 +233,32 @@ def _counted(kind, name):
 
 
 def _explanation(number, place, listing):
-    if not UNKNOWN_KEY <= number <= REQUIRED_MISSING:
+    if number == NOT_A_SYMBOL:
+        return _of_residue(place, listing)
+    if UNKNOWN_KEY <= number <= REQUIRED_MISSING:
+        return _of_vocabulary(number, place, listing)
+    return None
+
+
+def _of_residue(place, listing):
+    kind = _SYMBOLS.get(_text(listing, _last(listing, place, _MOLTYPE)))
+    sequence = _element(listing, _last(listing, place, _SEQUENCE))
+    start, end = sequence.span(1) if sequence else (0, 0)
+    if kind is None or not start <= place < end:
         return None
+    name, symbols, words = kind
+    before, rest = _read(listing[start:place]), _read(listing[place:end])
+    total, residue = len(_read(listing[start:end])), rest[:1]
+    # No residue starts amid an entity, which cut there has more characters.
+    if len(before) + len(rest) != total or residue in symbols:
+        return None
+    entity = _ENTITY.match(listing, place)
+    said = "a blank" if residue == b" " else _quoted(residue)
+    written = f", written {_quoted(entity[0])}" if entity else ""
+    return f"residue {len(before) + 1} of {total} is {said}{written}; the symbols of {name} are {words}"
+
+
+def _of_vocabulary(number, place, listing):
     kind = _MOLTYPES.get(_text(listing, _last(listing, place, _MOLTYPE)))
     feature = _last(listing, place, _KEY)
     key = _text(listing, feature)
@@ -295,10 +322,19 @@ def _last(listing, place, tag):
     return listing.rfind(tag, 0, place + len(tag))
 
 
+def _element(listing, at):
+    """The element there, with its raw text as group 1; of `<X/>` that is None."""
+    return _ELEMENT.match(listing, at) if at >= 0 else None
+
+
 def _text(listing, at):
     """The text, as read, of the element there."""
-    element = _ELEMENT.match(listing, at) if at >= 0 else None
-    return element and _ENTITY.sub(lambda entity: _ENTITIES[entity[0]], element[1] or b"")
+    element = _element(listing, at)
+    return element and _read(element[1] or b"")
+
+
+def _read(raw):
+    return _ENTITY.sub(lambda entity: _ENTITIES[entity[0]], raw)
 
 
 def _quoted(text):

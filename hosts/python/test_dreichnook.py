@@ -110,7 +110,7 @@ class Answers(unittest.TestCase):
 
 
 class Explanations(unittest.TestCase):
-    """Of rules 40 to 42, on the examples that Rust's test reads too."""
+    """Of rules 18 and 40 to 42, on the examples that Rust's test reads too."""
 
     def refused(self, number, listing):
         """The refusal of a specimen, or of a piece of a listing."""
@@ -124,11 +124,11 @@ class Explanations(unittest.TestCase):
     def test_every_example(self):
         examples = (HERE.parent / "words" / "examples.txt").read_text(encoding="utf-8").splitlines()
         rows = [row.split("\t") for row in examples if not row.startswith("#")]
-        self.assertEqual(len(rows), 29)
+        self.assertEqual(len(rows), 64)
         for number, listing, explanation in rows:
             with self.subTest(listing):
                 refusal = self.refused(int(number), listing)
-                self.assertEqual((refusal.number, refusal.explanation), (int(number), explanation))
+                self.assertEqual((refusal.number, refusal.explanation or "-"), (int(number), explanation))
 
     def test_it_ends_the_message(self):
         says = "refused by rule 42 at byte 1327: required qualifier missing: `modified_base` lacks: mod_base"
@@ -143,6 +143,26 @@ class Explanations(unittest.TestCase):
             for other, place in ((b"", 0), (no_moltype, (1 << 64) - 1), (listing, 0), (listing[:2120], 2120)):
                 self.assertIsNone(Refusal(number, place, other).explanation)
         self.assertIsNone(Refusal(40, 2120, listing.replace(b"exonn", b"exon")).explanation)
+
+    def test_one_of_forty_thousand_residues(self):
+        listing = specimen("002-p14-uracil-as-u.xml").replace(b">20<", b">40000<").replace(b"1..20", b"1..40000")
+        residues = b"acgt" * 10_000
+        for number, written, told in (
+            (1, b"u", "`u`"),
+            (31_042, b" ", "a blank"),
+            (40_000, b"&quot;", '`"`, written `&quot;`'),
+        ):
+            changed = residues[: number - 1] + written + residues[number:]
+            with self.assertRaises(Refusal) as caught:
+                Listing(listing.replace(b"augaaauuaaaacauaaaag", changed)).check()
+            rule = f"refused by rule 18 at byte {1338 + number}: a residue is outside the kind's symbols"
+            symbols = "the symbols of RNA are acgtmrwsykvhdbn, in lower case, with t for uracil"
+            self.assertEqual(str(caught.exception), f"{rule}: residue {number} of 40000 is {told}; {symbols}")
+
+    def test_residues_as_long_as_a_listing(self):
+        piece = "<INSDSeq_moltype>AA</INSDSeq_moltype><INSDSeq_sequence>TEXT^x</INSDSeq_sequence>"
+        says = self.refused(18, piece.replace("TEXT", "K&gt;" * (LIMIT // 5))).explanation
+        self.assertEqual(says, "residue 6710887 of 6710887 is `x`; the symbols of AA are A to Z, in upper case")
 
     def test_a_key_as_long_as_a_listing(self):
         piece = "<INSDSeq_moltype>DNA</INSDSeq_moltype><INSDFeature_key>^KEY</INSDFeature_key>"

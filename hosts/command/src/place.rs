@@ -21,18 +21,21 @@ pub fn position(listing: &[u8], place: usize) -> Position {
 /// The bytes shown before and after a place.
 const BESIDE: usize = 48;
 
-/// What stands at the place, to the end of its line.
+/// What stands at the place, to the end of its line, as far as it is near.
 pub fn stretch(listing: &[u8], place: usize) -> String {
-    visible(&listing[place..line_end(listing, place)])
+    let end = line_end(listing, place).min(place + BESIDE);
+    visible(&listing[place..end])
 }
 
-/// The place's line, as far as it is near, and beneath it a line with `^` at the place.
+/// The place's line, as far as it is near, with `..` where it is cut, and beneath it a line with `^` at the place.
 pub fn marked(listing: &[u8], place: usize) -> [String; 2] {
-    let near = place.saturating_sub(BESIDE);
-    let start = line_start(&listing[..place]).max(near);
-    let before = visible(&listing[start..place]);
-    let mark = format!("{}^", " ".repeat(before.chars().count()));
-    [before + &stretch(listing, place), mark]
+    let dots = |is_cut| if is_cut { ".." } else { "" };
+    let line = line_start(&listing[..place])..line_end(listing, place);
+    let start = line.start.max(place.saturating_sub(BESIDE));
+    let before = dots(start > line.start).to_string() + &visible(&listing[start..place]);
+    let mark = " ".repeat(before.chars().count()) + "^";
+    let after = stretch(listing, place) + dots(line.end > place + BESIDE);
+    [before + &after, mark]
 }
 
 fn line_start(before: &[u8]) -> usize {
@@ -43,7 +46,7 @@ fn line_start(before: &[u8]) -> usize {
 fn line_end(listing: &[u8], place: usize) -> usize {
     let rest = &listing[place..];
     let ends = |&byte: &u8| byte == b'\n' || byte == b'\r';
-    place + rest.iter().position(ends).unwrap_or(rest.len()).min(BESIDE)
+    place + rest.iter().position(ends).unwrap_or(rest.len())
 }
 
 #[cfg(test)]
@@ -76,9 +79,21 @@ mod tests {
 
     #[test]
     fn a_long_line_is_shown_near_the_place() {
-        let listing = vec![b'x'; 1_000];
-        let [line, mark] = marked(&listing, 500);
-        assert_eq!((line.len(), mark.len()), (2 * BESIDE, BESIDE + 1));
-        assert_eq!(stretch(&listing, 990).len(), 10);
+        let listing = [b'x'; 40_000];
+        let x = "x".repeat(BESIDE);
+        for (size, place, line, at) in [
+            (40_000, 20_000, format!("..{x}{x}.."), 2 + BESIDE),
+            (40_000, 39_999, format!("..{x}x"), 2 + BESIDE),
+            (40_000, 3, format!("xxx{x}.."), 3),
+            // What just fits isn't cut.
+            (2 * BESIDE, BESIDE, format!("{x}{x}"), BESIDE),
+            (2 * BESIDE + 1, BESIDE, format!("{x}{x}.."), BESIDE),
+            (2 * BESIDE + 1, BESIDE + 1, format!("..{x}{x}"), 2 + BESIDE),
+        ] {
+            let mark = " ".repeat(at) + "^";
+            assert_eq!(marked(&listing[..size], place), [line, mark]);
+        }
+        assert_eq!(stretch(&listing, 20_000), x);
+        assert_eq!(stretch(&listing, 39_990).len(), 10);
     }
 }

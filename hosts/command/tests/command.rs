@@ -350,6 +350,73 @@ byte 2120, line 49, column 28:
     assert!(out.ends_with(&format!("{end}\n")), "{out}");
 }
 
+/// A listing with DNA of 40,000 residues, one of them, of this number, written so.
+fn forty_thousand(number: usize, written: &str) -> Vec<u8> {
+    let listing = fs::read_to_string(format!("{SPECIMENS}/002-p14-uracil-as-u.xml")).unwrap();
+    let residues = "acgt".repeat(10_000);
+    let residues = [&residues[..number - 1], written, &residues[number..]].concat();
+    listing
+        .replace(">RNA<", ">DNA<")
+        .replace(">20<", ">40000<")
+        .replace("1..20", "1..40000")
+        .replace("augaaauuaaaacauaaaag", &residues)
+        .into()
+}
+
+#[test]
+fn of_forty_thousand_residues_the_bad_one_is_shown() {
+    let listing = forty_thousand(31_042, "u");
+    let words = "rule 18: a residue is outside the kind's symbols";
+    let explanation =
+        "residue 31042 of 40000 is `u`; the symbols of DNA are acgtmrwsykvhdbn, in lower case";
+
+    let (out, error, code) = said(run_with_input("show -", &listing));
+    let page = format!(
+        "standard input: refused
+{words}
+byte 32380, line 29, column 31066:
+
+    ..cgtacgtacgtacgtacgtacgtacgtacgtacgtacgtacgtacgtaugtacgtacgtacgtacgtacgtacgtacgtacgtacgtacgtacgta..
+                                                      ^
+
+{explanation}
+"
+    );
+    assert_eq!((out, error, code), (page, String::new(), 1));
+
+    let (_, error, _) = said(run_with_input("check -", &listing));
+    assert_eq!(
+        error,
+        format!("standard input:29:31066: {words}: {explanation}\n")
+    );
+
+    let (out, _, _) = said(run_with_input("check - --json", &listing));
+    let stretch = format!("u{}gta", "gtac".repeat(11));
+    let end = format!(r#""stretch":"{stretch}","explanation":"{explanation}"}}"#);
+    assert!(out.ends_with(&format!("{end}\n")), "{out}");
+}
+
+#[test]
+fn the_mark_stands_below_the_residue() {
+    let cut = format!("..{}", "tacg".repeat(12));
+    let tag = "      <INSDSeq_sequence>";
+    for (number, written, told, before) in [
+        (1, "A", "`A`", tag.to_string()),
+        (3, " ", "a blank", format!("{tag}ac")),
+        (20_000, "&amp;", "`&`, written `&amp;`", cut.clone()),
+        (40_000, "x", "`x`", cut),
+    ] {
+        let (out, _, _) = said(run_with_input("show -", &forty_thousand(number, written)));
+        let lines: Vec<_> = out.lines().collect();
+        let shown = format!("    {before}{written}");
+        assert!(lines[4].starts_with(&shown), "{out}");
+        assert!(lines[4].len() < 120, "{out}");
+        assert_eq!(lines[5].find('^'), Some(4 + before.len()), "{out}");
+        let says = format!("residue {number} of 40000 is {told}; the symbols of DNA are ");
+        assert!(lines[7].starts_with(&says), "{out}");
+    }
+}
+
 #[test]
 fn the_page_shows_everything() {
     let (out, error, code) = said(run("show annex-iii.xml"));

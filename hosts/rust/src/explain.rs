@@ -1,207 +1,26 @@
-//! What exactly breaks rules 40 to 42, in words for people. hosts/python/dreichnook.py says the same; the tests of both
-//! read hosts/words/examples.txt.
+//! What exactly breaks rule 18, 40, 41 or 42, in words for people. hosts/python/dreichnook.py says the same; the tests of
+//! both read hosts/words/examples.txt.
+
+mod element;
+mod residue;
+mod vocabulary;
 
 use crate::{short, Refusal};
 
-/// In a line: a kind, a key, the names that it requires, the others that it allows.
-const VOCABULARY: &str = include_str!("../../words/vocabulary.txt");
-
-const NUCLEOTIDES: &str = "nucleotides";
-const AMINO_ACIDS: &str = "AA";
-
-/// The older names, which in AA count as their lower-case ones.
-const OLDER: [&[u8]; 4] = [b"SOURCE", b"ORGANISM", b"MOL_TYPE", b"NOTE"];
-
-/// How many near keys are named.
-const NEAREST: usize = 3;
-
-// No text of a listing has `<`, so these stand at start tags only. A qualifier belongs to the last key before it.
-const MOLTYPE: &[u8] = b"<INSDSeq_moltype";
-const KEY: &[u8] = b"<INSDFeature_key";
-const NAME: &[u8] = b"<INSDQualifier_name";
-
-const ENTITIES: [(&str, u8); 5] = [
-    ("&lt;", b'<'),
-    ("&gt;", b'>'),
-    ("&amp;", b'&'),
-    ("&quot;", b'"'),
-    ("&apos;", b'\''),
-];
-
 impl Refusal {
-    /// What exactly is wrong, for rules 40 to 42: the unknown key with the nearest known ones, the name that isn't
-    /// allowed with those that are, the missing names. `listing` is the one that was refused.
+    /// What exactly is wrong. For rule 18: the residue, its number, and the symbols of its kind. For 40 to 42: the unknown
+    /// key with the nearest known ones, the name that isn't allowed with those that are, the missing names. `listing` is
+    /// the one that was refused.
     pub fn explanation(&self, listing: &[u8]) -> Option<String> {
-        if !(Refusal::UNKNOWN_KEY..=Refusal::REQUIRED_MISSING).contains(&self.number) {
-            return None;
-        }
         let place = usize::try_from(self.place).ok()?;
-        let kind = match text(last(listing, place, MOLTYPE)?)?.as_slice() {
-            b"DNA" | b"RNA" => NUCLEOTIDES,
-            b"AA" => AMINO_ACIDS,
-            _ => return None,
-        };
-        let feature = last(listing, place, KEY)?;
-        let key = text(feature)?;
-        match (self.number, row(kind, &key)) {
-            (Refusal::UNKNOWN_KEY, None) => Some(unknown_key(kind, &key)),
-            (Refusal::NOT_ALLOWED, Some(row)) => {
-                let name = text(last(listing, place, NAME)?)?;
-                Some(not_allowed(&row, &key, &name))
+        match self.number {
+            Refusal::NOT_A_SYMBOL => residue::explanation(listing, place),
+            Refusal::UNKNOWN_KEY..=Refusal::REQUIRED_MISSING => {
+                vocabulary::explanation(self.number, listing, place)
             }
-            (Refusal::REQUIRED_MISSING, Some(row)) => Some(required_missing(&row, &key, feature)),
             _ => None,
         }
     }
-}
-
-fn unknown_key(kind: &str, key: &[u8]) -> String {
-    let known: Vec<_> = rows().filter(|row| row.kind == kind).collect();
-    let near = |row: &Row| Some((distance(key, row.key)?, row.key));
-    let mut near: Vec<_> = known.iter().filter_map(near).collect();
-    // Stable: at one distance they stay in the vocabulary's order.
-    near.sort_by_key(|&(distance, _)| distance);
-    let near: Vec<_> = near.iter().take(NEAREST).map(|&(_, key)| key).collect();
-    let near = if near.is_empty() {
-        format!("none of the {} keys is near", known.len())
-    } else {
-        format!("nearest: {}", near.join(", "))
-    };
-    let other = if kind == AMINO_ACIDS {
-        NUCLEOTIDES
-    } else {
-        AMINO_ACIDS
-    };
-    let but = row(other, key).map_or(String::new(), |_| format!(", but of {other}"));
-    format!("{} isn't a key of {kind}{but}; {near}", quoted(key))
-}
-
-fn not_allowed(row: &Row, key: &[u8], name: &[u8]) -> String {
-    let required = row.required().map(|name| format!("{name} (required)"));
-    let others = row.others.split_whitespace().map(String::from);
-    let allowed: Vec<_> = required.chain(others).collect();
-    let (key, name) = (quoted(key), quoted(name));
-    format!(
-        "{key} doesn't allow {name}; allowed: {}",
-        allowed.join(", ")
-    )
-}
-
-/// `feature` is the listing from the key's tag on.
-fn required_missing(row: &Row, key: &[u8], feature: &[u8]) -> String {
-    let after = &feature[KEY.len()..];
-    let own = &after[..starts(after, KEY).next().unwrap_or(after.len())];
-    let names = starts(own, NAME).filter_map(|at| text(&own[at..]));
-    let names: Vec<_> = names.map(|name| counted(row.kind, &name)).collect();
-    let is_missing = |name: &&str| !names.iter().any(|there| there == name.as_bytes());
-    let missing: Vec<_> = row.required().filter(is_missing).collect();
-    format!("{} lacks: {}", quoted(key), missing.join(", "))
-}
-
-/// A row of the vocabulary.
-struct Row {
-    kind: &'static str,
-    key: &'static str,
-    required: &'static str,
-    others: &'static str,
-}
-
-impl Row {
-    fn required(&self) -> impl Iterator<Item = &'static str> {
-        self.required.split_whitespace()
-    }
-}
-
-fn rows() -> impl Iterator<Item = Row> {
-    VOCABULARY.lines().filter_map(|line| {
-        let mut cells = line.split('\t');
-        Some(Row {
-            kind: cells.next()?,
-            key: cells.next()?,
-            required: cells.next()?,
-            others: cells.next()?,
-        })
-    })
-}
-
-fn row(kind: &str, key: &[u8]) -> Option<Row> {
-    let key = counted(kind, key);
-    rows().find(|row| row.kind == kind && row.key.as_bytes() == key)
-}
-
-/// The name that it counts as.
-fn counted(kind: &str, name: &[u8]) -> Vec<u8> {
-    if kind == AMINO_ACIDS && OLDER.contains(&name) {
-        name.to_ascii_lowercase()
-    } else {
-        name.to_vec()
-    }
-}
-
-/// How many letters must be changed, dropped or added to turn the one into the other, upper and lower case being the
-/// same; none if more than half of the key's.
-fn distance(key: &[u8], known: &str) -> Option<usize> {
-    let (known, half) = (known.as_bytes(), key.len() / 2);
-    // Of a long text the length tells it.
-    if key.len().abs_diff(known.len()) > half {
-        return None;
-    }
-    // To the beginnings of `known`, from the beginning of `key` that is read so far.
-    let mut distances: Vec<_> = (0..=known.len()).collect();
-    for letter in key {
-        let mut before = distances[0];
-        distances[0] += 1;
-        for (at, other) in (1..).zip(known) {
-            let changed = before + usize::from(!letter.eq_ignore_ascii_case(other));
-            before = distances[at];
-            distances[at] = changed.min(before + 1).min(distances[at - 1] + 1);
-        }
-    }
-    distances.pop().filter(|&distance| distance <= half)
-}
-
-/// Where a tag starts.
-fn starts<'a>(
-    listing: &'a [u8],
-    tag: &'static [u8],
-) -> impl DoubleEndedIterator<Item = usize> + 'a {
-    let windows = listing.windows(tag.len()).enumerate();
-    windows.filter_map(move |(at, window)| (window == tag).then_some(at))
-}
-
-/// The listing from the last such tag on that starts at the place or before.
-fn last<'a>(listing: &'a [u8], place: usize, tag: &'static [u8]) -> Option<&'a [u8]> {
-    let end = place.saturating_add(tag.len()).min(listing.len());
-    let start = starts(&listing[..end], tag).next_back()?;
-    Some(&listing[start..])
-}
-
-/// The text, as read, of the element at the front.
-fn text(element: &[u8]) -> Option<Vec<u8>> {
-    let close = element.iter().position(|&byte| byte == b'>')?;
-    let (tag, after) = element.split_at(close);
-    let end = after.iter().position(|&byte| byte == b'<')?;
-    if tag.ends_with(b"/") {
-        Some(Vec::new())
-    } else {
-        Some(read(&after[1..end]))
-    }
-}
-
-fn read(mut raw: &[u8]) -> Vec<u8> {
-    let mut read = Vec::with_capacity(raw.len());
-    while let Some((&first, rest)) = raw.split_first() {
-        let entity = ENTITIES
-            .iter()
-            .find(|(spelled, _)| raw.starts_with(spelled.as_bytes()));
-        let (byte, after) = match entity {
-            Some((spelled, byte)) => (*byte, &raw[spelled.len()..]),
-            None => (first, rest),
-        };
-        read.push(byte);
-        raw = after;
-    }
-    read
 }
 
 fn quoted(text: &[u8]) -> String {
@@ -209,4 +28,11 @@ fn quoted(text: &[u8]) -> String {
         return "an empty text".into();
     }
     format!("`{}`", short(text))
+}
+
+/// The lines of a file of hosts/words that have so many cells; a comment has one.
+fn table<const N: usize>(file: &'static str) -> impl Iterator<Item = [&'static str; N]> {
+    let cells = |line: &'static str| line.split('\t').collect::<Vec<_>>();
+    file.lines()
+        .filter_map(move |line| cells(line).try_into().ok())
 }

@@ -10,13 +10,14 @@ const WORDS: &str = include_str!("../../words/refusals.txt");
 pub struct Refusal {
     /// 1, 2, 10 to 29, 40 to 42: the broken rule. 30 to 37: the listing is accepted, but has no such answer.
     pub number: u32,
-    /// The place of the fault in the listing, from 0; 0 for 30 to 37.
+    /// The place of the fault in the listing, from 0: for 18 the residue's own; 0 for 30 to 37.
     pub place: u64,
 }
 
 impl Refusal {
     pub const TOO_LONG: u32 = 1;
     pub const NOT_THE_LAYOUT: u32 = 2;
+    pub const NOT_A_SYMBOL: u32 = 18;
     pub const NO_SEQUENCE: u32 = 30;
     pub const SKIPPED: u32 = 31;
     pub const NO_FEATURE: u32 = 32;

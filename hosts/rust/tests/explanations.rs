@@ -1,4 +1,4 @@
-//! The explanations of rules 40 to 42, on the examples that Python's test reads too.
+//! The explanations of rules 18 and 40 to 42, on the examples that Python's test reads too.
 
 use dreichnook::{Listing, Refusal, LIMIT};
 use std::fs;
@@ -33,10 +33,10 @@ fn every_example() {
         let (bytes, refusal) = refused(number, cells[1]);
         assert_eq!(refusal.number, number, "{line}");
         let said = refusal.explanation(&bytes);
-        assert_eq!(said.as_deref(), Some(cells[2]), "{line}");
+        assert_eq!(said.as_deref().unwrap_or("-"), cells[2], "{line}");
         tried += 1;
     }
-    assert_eq!(tried, 29);
+    assert_eq!(tried, 64);
 }
 
 #[test]
@@ -64,6 +64,39 @@ fn bytes_that_were_not_refused_so_have_none() {
     }
     let known = String::from_utf8(bytes).unwrap().replace("exonn", "exon");
     assert_eq!(refusal.explanation(known.as_bytes()), None);
+}
+
+#[test]
+fn all_but_the_symbols_are_explained() {
+    let kinds = [
+        ("DNA", "acgtmrwsykvhdbn"),
+        ("RNA", "acgtmrwsykvhdbn"),
+        ("AA", "ABCDEFGHIJKLMNOPQRSTUVWXYZ"),
+    ];
+    for (kind, symbols) in kinds {
+        // Of entities there are examples.
+        let characters = (' '..='~').filter(|character| !"<>&\"'".contains(*character));
+        for character in characters {
+            let moltype = format!("<INSDSeq_moltype>{kind}</INSDSeq_moltype>");
+            let sequence = format!("<INSDSeq_sequence>^{character}</INSDSeq_sequence>");
+            let (bytes, refusal) = refused(18, &(moltype + &sequence));
+            let is_explained = refusal.explanation(&bytes).is_some();
+            assert_ne!(
+                is_explained,
+                symbols.contains(character),
+                "{kind} {character}"
+            );
+        }
+    }
+}
+
+#[test]
+fn residues_as_long_as_a_listing() {
+    let piece = "<INSDSeq_moltype>AA</INSDSeq_moltype><INSDSeq_sequence>TEXT^x</INSDSeq_sequence>";
+    let (bytes, refusal) = refused(18, &piece.replace("TEXT", &"K&gt;".repeat(LIMIT / 5)));
+    let says = refusal.explanation(&bytes).unwrap();
+    let end = "is `x`; the symbols of AA are A to Z, in upper case";
+    assert_eq!(says, format!("residue 6710887 of 6710887 {end}"));
 }
 
 #[test]
