@@ -7,7 +7,7 @@ use mathlib.Core.Bool.{Bool, true, false, not}
 use mathlib.Core.List.{List, [], _∷_, _++_}
 use lib.ListN.{length, drop, getD, drop-of-length-le}
 use lib.Dec.{eqb, leb}
-use borrow.Author.Tests.{eqb-true, eqb-false, le-leb}
+use borrow.Author.Tests.{eqb-true, eqb-false, eq-eqb, ne-eqb, le-leb}
 use Rattle.paper.specs.Bytes.{spell, raw}
 use Rattle.paper.specs.Lists.{Count, end, has, lacks}
 use Rattle.paper.proofs.Texts.{spell-cases, raw-longer}
@@ -16,65 +16,90 @@ use Rattle.read_bytes.specs.Numbers.{flag}
 use Rattle.value_words.specs.Reading.{Tells}
 use Rattle.value_words.proofs.Numbers.{suffix}
 use Rattle.value_words.proofs.Tests.{told, tells-le}
-use Rattle.value_residues.specs.Residues.{goesOn, beginsOther, Others, Characters, HasDefined}
+use Rattle.value_residues.specs.Residues.{begun, NextCharacter, Others, Characters, HasDefined}
 
 -- the byte that a character begins with
 abbrev first : ℕ → ℕ
 first b = getD (spell b) 0 0
 
 module _ (but : ℕ) where
-  -- in w, from inside an entity or not
-  abbrev pub seen : Bool → List ℕ → ℕ
-  seen t [] = 0
-  seen t (b ∷ w) = beginsOther t but b + seen (goesOn t b) w
-
-  seen-one : (b : ℕ) (r : List ℕ) → seen false (spell b ++ r) ≡ flag (not (eqb (first b) but)) + seen false r
-  seen-one b r =
-      spell-cases (λ (c : ℕ) (w : List ℕ). seen false (w ++ r) ≡ flag (not (eqb (getD w 0 0) but)) + seen false r)
-      (omega arith) (omega arith) (omega arith) (omega arith) (omega arith) (λ c e f g h k. rw g refl) b
+  begun-one : (b : ℕ) (r : List ℕ) → begun but false (spell b ++ r) ≡ flag (not (eqb (first b) but)) + begun but false r
+  begun-one b r =
+      spell-cases (λ (c : ℕ) (w : List ℕ). begun but false (w ++ r) ≡ flag (not (eqb (getD w 0 0) but)) + begun but false r)
+      refl refl refl refl refl (λ c e f g h k. rw g refl) b
 
   abbrev Other : ℕ → Type 0
   Other b = ¬ (first b ≡ but)
 
-  seen-raw : (v : List ℕ) → Count Other v (seen false (raw v))
-  seen-raw [] = end
-  seen-raw (b ∷ v) = subst (Count Other (b ∷ v)) (sym (seen-one b (raw v))) (more (eqb (first b) but) refl (seen-raw v))
+  begun-raw : (v : List ℕ) → Count Other v (begun but false (raw v))
+  begun-raw [] = end
+  begun-raw (b ∷ v) = subst (Count Other (b ∷ v)) (sym (begun-one b (raw v))) (more (eqb (first b) but) refl (begun-raw v))
     where
       more : (t : Bool) → eqb (first b) but ≡ t → {n : ℕ} → Count Other v n → Count Other (b ∷ v) (flag (not t) + n)
       more true e {n} r = subst (Count Other (b ∷ v)) (omega arith) (lacks (λ o. o (eqb-true (first b) but e)) r)
       more false e {n} r = subst (Count Other (b ∷ v)) (omega arith) (has (eqb-false (first b) but e) r)
 
+-- ---- to the next character
+
+module _ (w : List ℕ) (at : ℕ) where
+  -- a character of one byte
+  pub one-byte : at < length w → ¬ (getD w at 0 ≡ 38) → NextCharacter w at (at + 1)
+  one-byte h n = record { onward = omega arith; within = omega (arith, h); same = λ but. rw (ne-eqb (getD w at 0) 38 n) refl }
+
+  -- an entity from `at` on goes on at i
+  pub record Inside (i : ℕ) : Type 0 where
+    pub onward : at < i
+    pub within : i ≤ length w
+    pub same : (but : ℕ) → begun but (eqb (getD w at 0) 38) (drop (at + 1) w) ≡ begun but true (drop i w)
+
+  pub inside-first : at < length w → getD w at 0 ≡ 38 → Inside (at + 1)
+  inside-first h e = record { onward = omega arith; within = omega (arith, h); same = λ but. rw (eq-eqb (getD w at 0) 38 e) refl }
+
+  module _ {i : ℕ} (x : Inside i) where
+    begun-on : i < length w → (t : Bool) → eqb (getD w i 0) 59 ≡ t → (but : ℕ) → begun but (eqb (getD w at 0) 38) (drop (at + 1) w) ≡ begun but (not t) (drop (i + 1) w)
+    begun-on h t e but = x .same but ∙ ap (begun but true) (suffix w i h) ∙ ap (λ (u : Bool). begun but (not u) (drop (i + 1) w)) e
+
+    pub inside-closed : i < length w → getD w i 0 ≡ 59 → NextCharacter w at (i + 1)
+    inside-closed h e = record { onward = omega (arith, x .onward); within = omega (arith, h); same = begun-on h true (eq-eqb (getD w i 0) 59 e) }
+
+    pub inside-next : i < length w → ¬ (getD w i 0 ≡ 59) → Inside (i + 1)
+    inside-next h n = record { onward = omega (arith, x .onward); within = omega (arith, h); same = begun-on h false (ne-eqb (getD w i 0) 59 n) }
+
+    pub inside-end : length w ≤ i → NextCharacter w at i
+    inside-end h =
+        record {
+          onward = x .onward;
+          within = x .within;
+          same = λ but. x .same but ∙ ap (begun but true) (drop-of-length-le w h) ∙ sym (ap (begun but false) (drop-of-length-le w h));
+        }
+
 -- ---- the loop
 
-pub begins-once : (but : ℕ) (t : Bool) (b : ℕ) → beginsOther t but b ≤ 1
-begins-once but true b = omega arith
-begins-once but false b = at-most (eqb b but)
-  where
-    at-most : (y : Bool) → flag (not y) ≤ 1
-    at-most true = omega arith
-    at-most false = omega arith
+pub flag-once : (t : Bool) → flag t ≤ 1
+flag-once true = omega arith
+flag-once false = omega arith
 
 -- n of them begin before i, and the rest from i on
-pub record Counting (w : List ℕ) (but most n : ℕ) (inside : Bool) (i : ℕ) : Type 0 where
+pub record Counting (w : List ℕ) (but most n i : ℕ) : Type 0 where
   pub within : n ≤ most
-  pub in-all : n + seen but inside (drop i w) ≡ seen but false w
+  pub in-all : n + begun but false (drop i w) ≡ begun but false w
 
-module _ {w : List ℕ} {but most n : ℕ} {inside : Bool} {i : ℕ} (c : Counting w but most n inside i) where
-  pub counting-next : {m : ℕ} {x : ℕ} {t : Bool} → i < length w → n < most → x ≡ beginsOther inside but (getD w i 0) → m ≡ n + x → t ≡ goesOn inside (getD w i 0)
-      → Counting w but most m t (i + 1)
-  counting-next {t = t} h l ex em et =
-      let e : seen but inside (drop i w) ≡ beginsOther inside but (getD w i 0) + seen but t (drop (i + 1) w)
-      = ap (seen but inside) (suffix w i h) ∙ ap (λ (u : Bool). beginsOther inside but (getD w i 0) + seen but u (drop (i + 1) w)) (sym et) in
-      record { within = omega (arith, l, ex, em, begins-once but inside (getD w i 0)); in-all = omega (arith, c .in-all, ex, em, e) }
+module _ {w : List ℕ} {but most n i : ℕ} (c : Counting w but most n i) where
+  pub counting-next : {x j : ℕ} → i < length w → n < most → x ≡ flag (not (eqb (getD w i 0) but)) → NextCharacter w i j → Counting w but most (n + x) j
+  counting-next h l ex y =
+      record {
+        within = omega (arith, l, ex, flag-once (not (eqb (getD w i 0) but)));
+        in-all = omega (arith, c .in-all, ex, ap (begun but false) (suffix w i h), y .same but);
+      }
 
-  counted : (seen but false w ≤ most → n ≡ seen but false w) → (most ≤ seen but false w → n ≡ most) → Others w but most n
+  counted : (begun but false w ≤ most → n ≡ begun but false w) → (most ≤ begun but false w → n ≡ most) → Others w but most n
   counted few many =
       record {
         within = c .within;
         says =
             λ v e.
-            let k : seen but false w ≡ seen but false (raw v) = ap (seen but false) e in
-            (seen but false (raw v), seen-raw but v, (λ l. few (omega (arith, l, k)) ∙ k), (λ l. many (omega (arith, l, k))));
+            let k : begun but false w ≡ begun but false (raw v) = ap (begun but false) e in
+            (begun but false (raw v), begun-raw but v, (λ l. few (omega (arith, l, k)) ∙ k), (λ l. many (omega (arith, l, k))));
       }
 
   pub counting-full : most ≤ n → Others w but most n
@@ -82,7 +107,7 @@ module _ {w : List ℕ} {but most n : ℕ} {inside : Bool} {i : ℕ} (c : Counti
 
   pub counting-done : length w ≤ i → Others w but most n
   counting-done h =
-      let e : n ≡ seen but false w = omega (arith, c .in-all, ap (seen but inside) (drop-of-length-le w h)) in
+      let e : n ≡ begun but false w = omega (arith, c .in-all, ap (begun but false) (drop-of-length-le w h)) in
       counted (λ l. e) (λ l. omega (arith, l, e, c .within))
 
 -- ---- all characters, and those that aren't the undefined one

@@ -4,7 +4,7 @@ use Prim.Native.Char.{code}
 use mathlib.Core.Path.{_≡_}
 use mathlib.Core.Bool.{Bool, true, false, not}
 use mathlib.Core.List.{List, [], _∷_}
-use lib.ListN.{length, getD}
+use lib.ListN.{length, drop, getD}
 use lib.Dec.{eqb}
 use Rattle.paper.specs.Bytes.{spell, raw, leading}
 use Rattle.paper.specs.Lists.{Count}
@@ -15,15 +15,17 @@ use Rattle.value_words.specs.Reading.{Tells}
 
 -- ---- characters
 
--- whether an entity goes on behind the byte b: one begins with `&` and ends with `;`
-abbrev pub goesOn : Bool → ℕ → Bool
-goesOn true b = not (eqb b (code ";"))
-goesOn false b = eqb b (code "&")
+-- how many characters begin with another byte than `but` in what is written in w; an entity that has begun before it ends with `;`
+abbrev pub begun : ℕ → Bool → List ℕ → ℕ
+begun but inside [] = 0
+begun but true (b ∷ w) = begun but (not (eqb b (code ";"))) w
+begun but false (b ∷ w) = flag (not (eqb b but)) + begun but (eqb b (code "&")) w
 
--- 1 where a character begins with another byte than `but`
-abbrev pub beginsOther : Bool → ℕ → ℕ → ℕ
-beginsOther true but b = 0
-beginsOther false but b = flag (not (eqb b but))
+-- what begins behind the character at `at` begins from r on
+pub record NextCharacter (w : List ℕ) (at r : ℕ) : Type 0 where
+  pub onward : at < r
+  pub within : r ≤ length w
+  pub same : (but : ℕ) → begun but (eqb (getD w at 0) (code "&")) (drop (at + 1) w) ≡ begun but false (drop r w)
 
 -- r characters are written with another first byte than `but`; where they are more than `most`, r is that
 pub record Others (w : List ℕ) (but most r : ℕ) : Type 0 where

@@ -2,10 +2,13 @@
 // them are defined. Relies on the paper, on read_bytes, and on the laws of value_words: what a test tells, and what is written as it
 // reads. It calls none of the functions of value_words.
 use read_bytes::equal;
-ghost use Prim.Native.Nat.{_+_, _≤_};
+ghost use Prim.Native.Nat.{_+_, _≤_, _<_};
 ghost use lib.ListN.{length};
+ghost use lib.Dec.{eqb};
+ghost use mathlib.Core.Bool.{not};
+ghost use Rattle.read_bytes.specs.Numbers.{flag};
 ghost use mathlib.Core.Path.{_≡_};
-ghost use Rattle.value_residues.specs.Residues.{goesOn, beginsOther, Others, Characters, HasDefined, SymbolTable, Symbols, Strange, Block, Foreign};
+ghost use Rattle.value_residues.specs.Residues.{NextCharacter, Others, Characters, HasDefined, SymbolTable, Symbols, Strange, Block, Foreign};
 
 // The class of each byte, sixteen to a line: 1 for the symbols of DNA and RNA, 2 for those of AA, 0 for neither.
 const SYMBOLS: [u8; 256] = *b"\
@@ -33,24 +36,29 @@ pub fn symbol_table() -> [u8; 256]
     SYMBOLS
 }
 
-// Whether an entity goes on behind this byte.
-fn goes_on(inside: bool, b: u8) -> bool
-    ensures { λ r. ⌜ r ≡ goesOn inside b ⌝ }
+// 1 where two bytes differ, else 0.
+fn differ(a: u8, b: u8) -> usize
+    ensures { λ r. ⌜ r ≡ flag (not (eqb a b)) ⌝ }
 {
-    if inside {
-        return b != b';';
-    }
-    b == b'&'
+    if a == b { 0 } else { 1 }
 }
 
-// 1 where a character begins with another byte than this, else 0.
-fn begins_other(inside: bool, but: u8, b: u8) -> usize
-    ensures { λ r. ⌜ r ≡ beginsOther inside but b ⌝ }
+// Where the next character starts, behind an entity's `;`.
+fn next_character(w: &[u8], at: usize) -> usize
+    requires { ⌜ at < length (now w) ⌝ }
+    ensures { λ r. ⌜ NextCharacter (now (w .entry)) at r ⌝ }
 {
-    if inside {
-        return 0;
+    let mut i = at + 1;
+    if w[at] != b'&' {
+        return i;
     }
-    if b == but { 0 } else { 1 }
+    while i < w.len() {
+        if w[i] == b';' {
+            return i + 1;
+        }
+        i += 1;
+    }
+    i
 }
 
 // How many characters begin with another byte than this, up to a limit. An entity is one; no more are read than it takes.
@@ -58,16 +66,13 @@ fn others(w: &[u8], but: u8, most: usize) -> usize
     ensures { λ r. ⌜ Others (now (w .entry)) but most r ⌝ }
 {
     let mut n: usize = 0;
-    let mut inside = false;
     let mut i: usize = 0;
     while i < w.len() {
         if most <= n {
             return n;
         }
-        let b = w[i];
-        n += begins_other(inside, but, b);
-        inside = goes_on(inside, b);
-        i += 1;
+        n += differ(w[i], but);
+        i = next_character(w, i);
     }
     n
 }

@@ -67,27 +67,25 @@ fn bytes_that_were_not_refused_so_have_none() {
 }
 
 #[test]
-fn all_but_the_symbols_are_explained() {
-    let kinds = [
-        ("DNA", "acgtmrwsykvhdbn"),
-        ("RNA", "acgtmrwsykvhdbn"),
-        ("AA", "ABCDEFGHIJKLMNOPQRSTUVWXYZ"),
-    ];
-    for (kind, symbols) in kinds {
+fn what_the_reader_refuses_as_a_residue_is_explained() {
+    let proved = String::from_utf8(file("tests/specimens/proved.xml")).unwrap();
+    let rna = proved.replacen(">DNA<", ">RNA<", 1);
+    let [dna, aa] = [">ttagcatttcat<", ">MKCL<"].map(|text| proved.find(text).unwrap() + 1);
+    let mut foreign = 0;
+    for (listing, at) in [(&proved, dna), (&rna, dna), (&proved, aa)] {
         // Of entities there are examples.
-        let characters = (' '..='~').filter(|character| !"<>&\"'".contains(*character));
-        for character in characters {
-            let moltype = format!("<INSDSeq_moltype>{kind}</INSDSeq_moltype>");
-            let sequence = format!("<INSDSeq_sequence>^{character}</INSDSeq_sequence>");
-            let (bytes, refusal) = refused(18, &(moltype + &sequence));
-            let is_explained = refusal.explanation(&bytes).is_some();
-            assert_ne!(
-                is_explained,
-                symbols.contains(character),
-                "{kind} {character}"
-            );
+        for character in (b' '..=b'~').filter(|byte| !b"<>&\"'".contains(byte)) {
+            let mut bytes = listing.clone().into_bytes();
+            bytes[at] = character;
+            let (number, place) = (18, at as u64);
+            let is_refused = Listing::new(&bytes).check() == Err(Refusal { number, place });
+            let said = Refusal { number, place }.explanation(&bytes);
+            assert_eq!(said.is_some(), is_refused, "{at} {}", character as char);
+            foreign += u32::from(is_refused);
         }
     }
+    // 90 characters, of which 15, 15 and 26 are symbols.
+    assert_eq!(foreign, 75 + 75 + 64);
 }
 
 #[test]
