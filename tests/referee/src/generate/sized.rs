@@ -1,6 +1,6 @@
 //! Listings of an exact size, and large ones that are traps for a slow reader.
 
-use super::plain::{feature, listing, qualifier, sequence, skipped_sequence, source};
+use super::plain::{feature, listing, qualifier, sequence, sequence_of, skipped_sequence, source};
 use super::rng::Rng;
 use super::valid::CODONS;
 use super::{Case, Expectation};
@@ -312,9 +312,10 @@ fn long_number(name: &str, tag: &str, right: &str, rule: u32) -> Case {
 
 /// Millions of foreign residues, each written as an entity.
 fn entities() -> Case {
-    let residues = "&amp;".repeat(3_000_000);
-    let text = listing("", &[sequence("AA", &source("AA", 3_000_000), &residues)]);
-    let text = text.replace("<INSDSeq_length>15000000</", "<INSDSeq_length>3000000</");
+    let count = 3_000_000;
+    let residues = "&amp;".repeat(count);
+    let source = source("AA", count);
+    let text = listing("", &[sequence_of(count, "AA", Some(&source), &residues)]);
     let place = text.find("&amp;").unwrap_or(0);
     case("3,000,000 entities", text, refused(18, place))
 }
