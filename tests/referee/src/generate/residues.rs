@@ -162,14 +162,14 @@ pub fn every_character() -> impl Iterator<Item = Sample> {
     swept(12, |_, _| (b' '..=b'~').collect()).into_iter()
 }
 
-/// One foreign residue at each place: many in short texts, one or two in turn in texts about multiples of 64.
+/// One foreign residue at each place: half of ours in short texts, one in texts about multiples of 64, in turn.
 pub fn one_foreign() -> impl Iterator<Item = Sample> {
-    let short = (1..=24).map(|length| (length, 1));
+    let short = (1..=24).map(|length| (length, 2));
     let long = (60..=70).chain(127..=130).chain(190..=194);
-    let long = long.map(|length| (length, 9));
+    let long = long.map(|length| (length, 13));
     short.chain(long).flat_map(|(length, step)| {
         swept(length, |alphabet, at| {
-            let foreign = alphabet.foreign.iter().skip(at % step);
+            let foreign = alphabet.foreign.iter().skip((at + length) % step);
             foreign.step_by(step).copied().collect()
         })
     })
