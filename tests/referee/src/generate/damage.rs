@@ -1,7 +1,7 @@
 //! Damaged values: each way to break a rule, with every rule and value that it breaks.
 
 use super::model::{Coding, Feature, Field, Header, Place, Qualifier, Sequence};
-use super::residues::alphabet;
+use super::residues::{alphabet, Alphabet};
 use super::rng::Rng;
 use super::valid;
 use crate::vocabulary::{self, keys, spellings, Key};
@@ -227,11 +227,11 @@ fn foreign_residues(sequence: &mut Sequence, k: usize, rng: &mut Rng) -> Option<
         residues[at] = *rng.pick(foreign);
         first = first.min(at);
     }
-    sequence.residues = text(&residues);
+    sequence.residues = string(&residues);
     Some(vec![(18, Field::Residue(k, first))])
 }
 
-fn text(ascii: &[u8]) -> String {
+fn string(ascii: &[u8]) -> String {
     ascii.iter().copied().map(char::from).collect()
 }
 
@@ -243,8 +243,17 @@ fn exchange_residues(sequence: &mut Sequence, residues: &[u8]) -> Option<()> {
     features.truncate(1);
     features[0].location.text = format!("1..{}", residues.len());
     sequence.length = residues.len().to_string();
-    sequence.residues = text(residues);
+    sequence.residues = string(residues);
     Some(())
+}
+
+/// So many defined and foreign residues, and some unknown ones, in any order.
+fn mixed(rng: &mut Rng, alphabet: &Alphabet, defined: usize, foreign: usize) -> Vec<u8> {
+    let mut residues: Vec<u8> = (0..defined).map(|_| *rng.pick(alphabet.defined)).collect();
+    residues.extend((0..foreign).map(|_| *rng.pick(alphabet.foreign)));
+    residues.resize(residues.len() + rng.between(1, 10), alphabet.unknown);
+    rng.shuffle(&mut residues);
+    residues
 }
 
 fn few_residues(sequence: &mut Sequence, k: usize, rng: &mut Rng) -> Option<Breaks> {
@@ -253,34 +262,18 @@ fn few_residues(sequence: &mut Sequence, k: usize, rng: &mut Rng) -> Option<Brea
     let most = alphabet.least - 1;
     let fewer = rng.below(most);
     let count = *rng.pick(&[most, most, most, fewer]);
-    let mut residues: Vec<u8> = (0..count).map(|_| *rng.pick(alphabet.defined)).collect();
-    residues.resize(count + rng.between(1, 10), alphabet.unknown);
-    rng.shuffle(&mut residues);
-    exchange_residues(sequence, &residues)?;
+    exchange_residues(sequence, &mixed(rng, alphabet, count, 0))?;
     Some(vec![(19, Field::Residues(k))])
 }
 
-/// Some foreign residues, with which there are enough for rule 19 or not, and perhaps no table.
+/// Foreign residues among so few others that rule 19 may be broken too; perhaps without a table.
 fn few_and_foreign(sequence: &mut Sequence, k: usize, rng: &mut Rng) -> Option<Breaks> {
     known(sequence)?;
     let alphabet = alphabet(&sequence.moltype);
     let count = rng.between(alphabet.least - 2, alphabet.least + 1);
     let foreign = rng.between(1, count);
-    let mut residues: Vec<(u8, bool)> = (0..count)
-        .map(|number| {
-            let is_foreign = number < foreign;
-            let characters = if is_foreign {
-                alphabet.foreign
-            } else {
-                alphabet.defined
-            };
-            (*rng.pick(characters), is_foreign)
-        })
-        .collect();
-    residues.resize(count + rng.between(2, 10), (alphabet.unknown, false));
-    rng.shuffle(&mut residues);
-    let first = residues.iter().position(|&(_, is_foreign)| is_foreign)?;
-    let residues: Vec<u8> = residues.into_iter().map(|(residue, _)| residue).collect();
+    let residues = mixed(rng, alphabet, count - foreign, foreign);
+    let first = residues.iter().position(|&r| alphabet.is_foreign(r))?;
     exchange_residues(sequence, &residues)?;
     let mut breaks = vec![(18, Field::Residue(k, first))];
     breaks.extend((count < alphabet.least).then_some((19, Field::Residues(k))));

@@ -30,6 +30,12 @@ const AMINO_ACIDS: Alphabet = Alphabet {
     foreign: b"ax@[-*0 <>&\"'",
 };
 
+impl Alphabet {
+    pub fn is_foreign(&self, residue: u8) -> bool {
+        residue != self.unknown && !self.defined.contains(&residue)
+    }
+}
+
 pub(super) fn alphabet(moltype: &str) -> &'static Alphabet {
     match moltype {
         "AA" => &AMINO_ACIDS,
@@ -38,7 +44,7 @@ pub(super) fn alphabet(moltype: &str) -> &'static Alphabet {
 }
 
 /// The table of a sequence.
-#[derive(Clone, Copy, Debug)]
+#[derive(Clone, Copy, Debug, PartialEq, Eq)]
 enum Table {
     /// Rule 21 at the sequence text.
     Absent,
@@ -72,7 +78,7 @@ fn sample(moltype: &str, table: Table, residues: &[u8]) -> Sample {
     let mut written = Vec::new();
     let mut first_foreign = None;
     for &residue in residues {
-        if residue != alphabet.unknown && !alphabet.defined.contains(&residue) {
+        if alphabet.is_foreign(residue) {
             first_foreign.get_or_insert(written.len());
         }
         escape(&[residue], &mut written);
@@ -89,28 +95,27 @@ fn sample(moltype: &str, table: Table, residues: &[u8]) -> Sample {
 
     let after = |mark: &str| text.find(mark).map_or(0, |at| at + mark.len());
     let place = after("<INSDSeq_sequence>");
-    let known = residues
+    let translation = after(">translation</INSDQualifier_name><INSDQualifier_value>");
+    let unknown = residues
         .iter()
-        .filter(|&&residue| residue != alphabet.unknown);
-    let mut broken = Vec::new();
-    broken.extend(first_foreign.map(|before| (place + before, 18)));
-    broken.extend((known.count() < alphabet.least).then_some((place, 19)));
-    broken.extend(match table {
-        Table::Absent => Some((place, 21)),
-        Table::WrongCds if first_foreign.is_none() => Some((
-            after(">translation</INSDQualifier_name><INSDQualifier_value>"),
-            28,
-        )),
-        Table::Source | Table::WrongCds => None,
-    });
+        .filter(|&&residue| residue == alphabet.unknown);
+    let known = residues.len() - unknown.count();
+    let is_wrong = table == Table::WrongCds && first_foreign.is_none();
+    let mut broken: Vec<Broken> = [
+        first_foreign.map(|before| (18, place + before)),
+        (known < alphabet.least).then_some((19, place)),
+        (table == Table::Absent).then_some((21, place)),
+        is_wrong.then_some((28, translation)),
+    ]
+    .into_iter()
+    .flatten()
+    .map(|(rule, place)| Broken { place, rule })
+    .collect();
     broken.sort_unstable();
     Sample {
         name: format!("{moltype} {written}, table {table:?}"),
         bytes: text.into_bytes(),
-        broken: broken
-            .into_iter()
-            .map(|(place, rule)| Broken { place, rule })
-            .collect(),
+        broken,
     }
 }
 
@@ -162,15 +167,14 @@ pub fn every_character() -> impl Iterator<Item = Sample> {
     swept(12, |_, _| (b' '..=b'~').collect()).into_iter()
 }
 
-/// One foreign residue at each place: half of ours in short texts, one in texts about multiples of 64, in turn.
+/// One foreign residue at each place: every second of ours in short texts, one in those about multiples of 64, in turn.
 pub fn one_foreign() -> impl Iterator<Item = Sample> {
-    let short = (1..=24).map(|length| (length, 2));
-    let long = (60..=70).chain(127..=130).chain(190..=194);
-    let long = long.map(|length| (length, 13));
-    short.chain(long).flat_map(|(length, step)| {
-        swept(length, |alphabet, at| {
-            let foreign = alphabet.foreign.iter().skip((at + length) % step);
-            foreign.step_by(step).copied().collect()
+    let lengths = (1..=24).chain(60..=70).chain(127..=130).chain(190..=194);
+    lengths.flat_map(|length| {
+        swept(length, |Alphabet { foreign, .. }, at| {
+            let step = if length <= 24 { 2 } else { foreign.len() };
+            let some = foreign.iter().skip((at + length) % step);
+            some.step_by(step).copied().collect()
         })
     })
 }

@@ -95,7 +95,7 @@ fn filled(
 }
 
 /// Every trap: valid or invalid listings of nearly the greatest size.
-pub const TRAPS: [fn() -> Case; 20] = [
+pub const TRAPS: [fn() -> Case; 21] = [
     right_translations,
     wrong_translations,
     wide_join,
@@ -116,6 +116,7 @@ pub const TRAPS: [fn() -> Case; 20] = [
     long_position,
     long_site,
     entities,
+    late_foreign_residue,
 ];
 
 /// Many right translations of one join with thousands of members.
@@ -318,6 +319,15 @@ fn entities() -> Case {
     let text = listing("", &[sequence_of(count, "AA", Some(&source), &residues)]);
     let place = text.find("&amp;").unwrap_or(0);
     case("3,000,000 entities", text, refused(18, place))
+}
+
+/// One foreign residue behind millions of symbols.
+fn late_foreign_residue() -> Case {
+    let residues = "acgt".repeat(4_000_000) + "*";
+    let source = source("DNA", residues.len());
+    let text = listing("", &[sequence("DNA", &source, &residues)]);
+    let place = text.find('*').unwrap_or(0);
+    case("16,000,001st residue", text, refused(18, place))
 }
 
 fn case(name: &str, text: String, expectation: Expectation) -> Case {
