@@ -35,26 +35,30 @@ fn generated(count: u64, seed: u64) -> impl Iterator<Item = Input> {
 #[cfg(test)]
 mod tests {
     use super::*;
+    use crate::boundary;
     use crate::check::judged;
-    use crate::layout::root;
-    use crate::report::Comparison;
-    use referee::{broken, Broken, Refusal};
+    use crate::report::{Comparison, Verdict};
+    use referee::{broken, Broken, Counts, Refusal};
 
-    /// How many texts tell the referee from a reader that errs in what is broken, or where.
+    /// How many texts tell the referee from this check.
+    fn differ(proved: impl Fn(&[u8]) -> Verdict<Counts>) -> usize {
+        let mut comparison = Comparison::new(proved, judged, None);
+        for input in two_foreign().map(input).chain(generated(1000, 1)) {
+            let _ = comparison.one(&input);
+        }
+        comparison.count.differ
+    }
+
+    /// How many find a reader that errs in what is broken, or where.
     fn found(error: impl Fn(&[u8], &mut Vec<Broken>)) -> usize {
-        let wrong = |input: &[u8]| {
+        differ(|input| {
             let mut list = broken(input)?;
             error(input, &mut list);
             let least = list.into_iter().min();
             least.map_or(judged(input), |Broken { place, rule }| {
                 Err(Refusal { rule, place })
             })
-        };
-        let mut comparison = Comparison::new(wrong, judged, None);
-        for input in two_foreign().map(input).chain(generated(1000, 1)) {
-            let _ = comparison.one(&input);
-        }
-        comparison.count.differ
+        })
     }
 
     /// The same, where it errs in rule 18's place only.
@@ -124,6 +128,6 @@ mod tests {
 
     #[test]
     fn the_proved_check_agrees() {
-        assert_eq!(run(200, 1, root()), Ok(true));
+        assert_eq!(differ(boundary::check), 0);
     }
 }

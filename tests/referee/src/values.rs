@@ -149,8 +149,8 @@ impl Judge<'_> {
             Kind::Aa => (|residue| residue.is_ascii_uppercase(), b'X', 4),
             Kind::Dna | Kind::Rna => (coding::is_symbol, b'n', 10),
         };
-        let mut residues = text.placed_characters(self.listing);
-        let foreign = residues.find(|&(_, residue)| !is_symbol(residue));
+        let mut placed = text.placed_characters(self.listing);
+        let foreign = placed.find(|&(_, residue)| !is_symbol(residue));
         let residues = text.characters(self.listing);
         let known = residues.filter(|&residue| residue != unknown).count();
         if let Some((place, _)) = foreign {

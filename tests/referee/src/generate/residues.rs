@@ -96,10 +96,8 @@ fn sample(moltype: &str, table: Table, residues: &[u8]) -> Sample {
     let after = |mark: &str| text.find(mark).map_or(0, |at| at + mark.len());
     let place = after("<INSDSeq_sequence>");
     let translation = after(">translation</INSDQualifier_name><INSDQualifier_value>");
-    let unknown = residues
-        .iter()
-        .filter(|&&residue| residue == alphabet.unknown);
-    let known = residues.len() - unknown.count();
+    let is_known = |&&residue: &&u8| residue != alphabet.unknown;
+    let known = residues.iter().filter(is_known).count();
     let is_wrong = table == Table::WrongCds && first_foreign.is_none();
     let mut broken: Vec<Broken> = [
         first_foreign.map(|before| (18, place + before)),

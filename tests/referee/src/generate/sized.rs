@@ -327,7 +327,11 @@ fn late_foreign_residue() -> Case {
     let source = source("DNA", residues.len());
     let text = listing("", &[sequence("DNA", &source, &residues)]);
     let place = text.find('*').unwrap_or(0);
-    case("16,000,001st residue", text, refused(18, place))
+    case(
+        "foreign residue behind 16,000,000",
+        text,
+        refused(18, place),
+    )
 }
 
 fn case(name: &str, text: String, expectation: Expectation) -> Case {

@@ -23,11 +23,9 @@ impl Written {
     /// The place of a field of this model; a residue stands behind those before it, each as it is written.
     pub fn place(&self, model: &Model, field: Field) -> usize {
         if let Field::Residue(k, number) = field {
+            let residues = model.sequences[k].residues.as_bytes();
             let mut before = Vec::new();
-            escape(
-                &model.sequences[k].residues.as_bytes()[..number],
-                &mut before,
-            );
+            escape(&residues[..number], &mut before);
             self.spots[&Field::Residues(k)].place + before.len()
         } else {
             self.spots[&field].place
