@@ -10,6 +10,7 @@ mod lookups;
 mod mutants;
 mod proved;
 mod report;
+mod residues;
 mod translation;
 mod vocabulary;
 mod xmllint;
@@ -24,6 +25,7 @@ compare location COUNT [SEED]    every short location text, and COUNT generated 
 compare translation COUNT [SEED] every codon, and COUNT generated coding regions
 compare check COUNT [SEED]       the whole check on COUNT generated listings, COUNT damages, COUNT mutants, and more
 compare vocabulary COUNT [SEED]  the check of every key with every name, of near misses, and of COUNT generated feature tables
+compare residues COUNT [SEED]    the check of every character and of foreign residues at each place, and of COUNT generated texts
 compare lookups COUNT [SEED]     every public call, with any numbers and any room, on COUNT generated listings, and more
 compare make KIND SIZE FILE      writes a listing of this size, or nearly, for measuring";
 
@@ -59,6 +61,7 @@ fn compare(what: &str, count: &str, seed: &str, root: &Path) -> Result<bool, Str
         "translation" => translation::run(count, seed),
         "check" => check::run(count, seed, root),
         "vocabulary" => vocabulary::run(count, seed, root),
+        "residues" => residues::run(count, seed, root),
         "lookups" => lookups::run(count, seed, root),
         _ => Err(usage()),
     }?;

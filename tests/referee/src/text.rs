@@ -31,6 +31,19 @@ impl Text {
         characters(self.part.of(listing))
     }
 
+    /// The same, each with the offset of its first raw byte: of an entity, its `&`.
+    pub fn placed_characters<'a>(
+        &self,
+        listing: &'a [u8],
+    ) -> impl Iterator<Item = (usize, u8)> + 'a {
+        let end = self.part.start + self.part.size;
+        let mut characters = self.characters(listing);
+        std::iter::from_fn(move || {
+            let place = end - characters.rest.len();
+            Some((place, characters.next()?))
+        })
+    }
+
     /// Whether the text reads as exactly this.
     pub fn is(&self, listing: &[u8], wanted: impl AsRef<[u8]>) -> bool {
         self.characters(listing).eq(wanted.as_ref().iter().copied())

@@ -144,15 +144,20 @@ impl Judge<'_> {
 
     /// Rules 18 and 19; says whether 18 holds.
     fn residues(&mut self, kind: Kind, sequence: &Sequence) -> bool {
-        let residues = || sequence.residues.characters(self.listing);
-        let (symbols_hold, unknown, least) = match kind {
-            Kind::Aa => (residues().all(|r| r.is_ascii_uppercase()), b'X', 4),
-            Kind::Dna | Kind::Rna => (residues().all(coding::is_symbol), b'n', 10),
+        let text = &sequence.residues;
+        let (is_symbol, unknown, least): (fn(u8) -> bool, u8, usize) = match kind {
+            Kind::Aa => (|residue| residue.is_ascii_uppercase(), b'X', 4),
+            Kind::Dna | Kind::Rna => (coding::is_symbol, b'n', 10),
         };
-        let known = residues().filter(|&residue| residue != unknown).count();
-        self.rule(18, sequence.residues.place, symbols_hold);
-        self.rule(19, sequence.residues.place, known >= least);
-        symbols_hold
+        let mut placed = text.placed_characters(self.listing);
+        let foreign = placed.find(|&(_, residue)| !is_symbol(residue));
+        let residues = text.characters(self.listing);
+        let known = residues.filter(|&residue| residue != unknown).count();
+        if let Some((place, _)) = foreign {
+            self.rule(18, place, false);
+        }
+        self.rule(19, text.place, known >= least);
+        foreign.is_none()
     }
 
     /// Rules 21 to 23.

@@ -1,6 +1,7 @@
 //! Damaged values: each way to break a rule, with every rule and value that it breaks.
 
 use super::model::{Coding, Feature, Field, Header, Place, Qualifier, Sequence};
+use super::residues::{alphabet, Alphabet};
 use super::rng::Rng;
 use super::valid;
 use crate::vocabulary::{self, keys, spellings, Key};
@@ -19,7 +20,7 @@ pub enum Damage {
 
 /// Every damage, with the rule that it is meant to break.
 /// They are made for the rich listings, in which everything optional is there.
-pub const DAMAGES: [(u32, Damage); 34] = [
+pub const DAMAGES: [(u32, Damage); 35] = [
     (10, Damage::Header(dtd_version)),
     (11, Damage::Header(production_date)),
     (11, Damage::Header(application_date)),
@@ -33,7 +34,8 @@ pub const DAMAGES: [(u32, Damage); 34] = [
     (15, Damage::Sequence(id)),
     (16, Damage::Sequence(moltype)),
     (17, Damage::Sequence(division)),
-    (18, Damage::Sequence(foreign_residue)),
+    (18, Damage::Sequence(foreign_residues)),
+    (18, Damage::Sequence(few_and_foreign)),
     (19, Damage::Sequence(few_residues)),
     (19, Damage::Sequence(no_residues)),
     (20, Damage::Sequence(length)),
@@ -214,17 +216,23 @@ fn nucleic(sequence: &Sequence) -> Option<()> {
     sequence.is_nucleic().then_some(())
 }
 
-fn foreign_residue(sequence: &mut Sequence, k: usize, rng: &mut Rng) -> Option<Breaks> {
+/// Exchanges one residue or some.
+fn foreign_residues(sequence: &mut Sequence, k: usize, rng: &mut Rng) -> Option<Breaks> {
     known(sequence)?;
-    let wrong: &[&str] = if sequence.is_nucleic() {
-        &["u", "x", "A", "N", "-", "*", "0", " ", "<", "&", "'"]
-    } else {
-        &["a", "x", "-", "*", "0", " ", ">", "&", "\"", "[", "@"]
-    };
-    let at = rng.below(sequence.residues.len());
-    let residue = *rng.pick(wrong);
-    sequence.residues.replace_range(at..=at, residue);
-    Some(vec![(18, Field::Residues(k))])
+    let foreign = alphabet(&sequence.moltype).foreign;
+    let mut residues = sequence.residues.clone().into_bytes();
+    let mut first = residues.len();
+    for _ in 0..*rng.pick(&[1, 1, 2, 5]) {
+        let at = rng.below(residues.len());
+        residues[at] = *rng.pick(foreign);
+        first = first.min(at);
+    }
+    sequence.residues = string(&residues);
+    Some(vec![(18, Field::Residue(k, first))])
+}
+
+fn string(ascii: &[u8]) -> String {
+    ascii.iter().copied().map(char::from).collect()
 }
 
 /// Exchanges the residues, with a length and a source that fit.
@@ -235,24 +243,44 @@ fn exchange_residues(sequence: &mut Sequence, residues: &[u8]) -> Option<()> {
     features.truncate(1);
     features[0].location.text = format!("1..{}", residues.len());
     sequence.length = residues.len().to_string();
-    sequence.residues = residues.iter().copied().map(char::from).collect();
+    sequence.residues = string(residues);
     Some(())
+}
+
+/// So many defined and foreign residues, and some unknown ones, in any order.
+fn mixed(rng: &mut Rng, alphabet: &Alphabet, defined: usize, foreign: usize) -> Vec<u8> {
+    let mut residues: Vec<u8> = (0..defined).map(|_| *rng.pick(alphabet.defined)).collect();
+    residues.extend((0..foreign).map(|_| *rng.pick(alphabet.foreign)));
+    residues.resize(residues.len() + rng.between(1, 10), alphabet.unknown);
+    rng.shuffle(&mut residues);
+    residues
 }
 
 fn few_residues(sequence: &mut Sequence, k: usize, rng: &mut Rng) -> Option<Breaks> {
     known(sequence)?;
-    let (unknown, symbols, most) = if sequence.is_nucleic() {
-        (b'n', "acgtmrwsykvhdb", 9)
-    } else {
-        (b'X', "ABCDEFGHIJKLMNOPQRSTUVWYZ", 3)
-    };
+    let alphabet = alphabet(&sequence.moltype);
+    let most = alphabet.least - 1;
     let fewer = rng.below(most);
     let count = *rng.pick(&[most, most, most, fewer]);
-    let mut residues: Vec<u8> = (0..count).map(|_| *rng.pick(symbols.as_bytes())).collect();
-    residues.resize(count + rng.between(1, 10), unknown);
-    rng.shuffle(&mut residues);
-    exchange_residues(sequence, &residues)?;
+    exchange_residues(sequence, &mixed(rng, alphabet, count, 0))?;
     Some(vec![(19, Field::Residues(k))])
+}
+
+/// Foreign residues among so few others that rule 19 may be broken too; perhaps without a table.
+fn few_and_foreign(sequence: &mut Sequence, k: usize, rng: &mut Rng) -> Option<Breaks> {
+    known(sequence)?;
+    let alphabet = alphabet(&sequence.moltype);
+    let count = rng.between(alphabet.least - 2, alphabet.least + 1);
+    let foreign = rng.between(1, count);
+    let residues = mixed(rng, alphabet, count - foreign, foreign);
+    let first = residues.iter().position(|&r| alphabet.is_foreign(r))?;
+    exchange_residues(sequence, &residues)?;
+    let mut breaks = vec![(18, Field::Residue(k, first))];
+    breaks.extend((count < alphabet.least).then_some((19, Field::Residues(k))));
+    if rng.chance(30) {
+        breaks.extend(no_table(sequence, k, rng)?);
+    }
+    Some(breaks)
 }
 
 /// With L = 0 no text is the number L, and `1..0` is no range.

@@ -4,6 +4,7 @@ pub mod damage;
 pub mod model;
 mod mutate;
 pub mod plain;
+pub mod residues;
 mod rng;
 mod sentences;
 pub mod sized;
@@ -176,7 +177,7 @@ fn damaged(rng: &mut Rng, model: &Model, breaks: &Breaks) -> Damaged {
     let mut broken: Vec<Broken> = breaks
         .iter()
         .map(|&(rule, field)| Broken {
-            place: written.spots[&field].place,
+            place: written.place(model, field),
             rule,
         })
         .collect();

@@ -109,6 +109,7 @@ pub enum Field {
     Division(usize),
     Table(usize),
     Residues(usize),
+    Residue(usize, usize),
     Key(usize, usize),
     Location(usize, usize),
     QualifierName(usize, usize, usize),

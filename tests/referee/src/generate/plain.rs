@@ -21,14 +21,20 @@ pub fn listing(title: &str, sequences: &[String]) -> String {
     text + "</ST26SequenceListing>\n"
 }
 
-/// A sequence with these features; the residues are written as they stand.
+/// A sequence with these features; the residues are written as they stand, one byte for each.
 pub fn sequence(moltype: &str, table: &str, residues: &str) -> String {
+    sequence_of(residues.len(), moltype, Some(table), residues)
+}
+
+/// A sequence of this length with these features or without a table; the residues may have entities.
+pub fn sequence_of(length: usize, moltype: &str, table: Option<&str>, residues: &str) -> String {
+    let table = table.map_or(String::new(), |table| {
+        format!("<INSDSeq_feature-table>{table}</INSDSeq_feature-table>")
+    });
     format!(
-        "<INSDSeq><INSDSeq_length>{}</INSDSeq_length>\
+        "<INSDSeq><INSDSeq_length>{length}</INSDSeq_length>\
          <INSDSeq_moltype>{moltype}</INSDSeq_moltype><INSDSeq_division>PAT</INSDSeq_division>\
-         <INSDSeq_feature-table>{table}</INSDSeq_feature-table>\
-         <INSDSeq_sequence>{residues}</INSDSeq_sequence></INSDSeq>",
-        residues.len()
+         {table}<INSDSeq_sequence>{residues}</INSDSeq_sequence></INSDSeq>"
     )
 }
 

@@ -1,6 +1,6 @@
 //! Listings of an exact size, and large ones that are traps for a slow reader.
 
-use super::plain::{feature, listing, qualifier, sequence, skipped_sequence, source};
+use super::plain::{feature, listing, qualifier, sequence, sequence_of, skipped_sequence, source};
 use super::rng::Rng;
 use super::valid::CODONS;
 use super::{Case, Expectation};
@@ -95,7 +95,7 @@ fn filled(
 }
 
 /// Every trap: valid or invalid listings of nearly the greatest size.
-pub const TRAPS: [fn() -> Case; 20] = [
+pub const TRAPS: [fn() -> Case; 21] = [
     right_translations,
     wrong_translations,
     wide_join,
@@ -116,6 +116,7 @@ pub const TRAPS: [fn() -> Case; 20] = [
     long_position,
     long_site,
     entities,
+    late_foreign_residue,
 ];
 
 /// Many right translations of one join with thousands of members.
@@ -312,11 +313,25 @@ fn long_number(name: &str, tag: &str, right: &str, rule: u32) -> Case {
 
 /// Millions of foreign residues, each written as an entity.
 fn entities() -> Case {
-    let residues = "&amp;".repeat(3_000_000);
-    let text = listing("", &[sequence("AA", &source("AA", 3_000_000), &residues)]);
-    let text = text.replace("<INSDSeq_length>15000000</", "<INSDSeq_length>3000000</");
+    let count = 3_000_000;
+    let residues = "&amp;".repeat(count);
+    let source = source("AA", count);
+    let text = listing("", &[sequence_of(count, "AA", Some(&source), &residues)]);
     let place = text.find("&amp;").unwrap_or(0);
     case("3,000,000 entities", text, refused(18, place))
+}
+
+/// One foreign residue behind millions of symbols.
+fn late_foreign_residue() -> Case {
+    let residues = "acgt".repeat(4_000_000) + "*";
+    let source = source("DNA", residues.len());
+    let text = listing("", &[sequence("DNA", &source, &residues)]);
+    let place = text.find('*').unwrap_or(0);
+    case(
+        "foreign residue behind 16,000,000",
+        text,
+        refused(18, place),
+    )
 }
 
 fn case(name: &str, text: String, expectation: Expectation) -> Case {

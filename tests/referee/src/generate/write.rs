@@ -19,6 +19,20 @@ pub struct Spot {
     pub part: Part,
 }
 
+impl Written {
+    /// The place of a field of this model; a residue stands behind those before it, each as it is written.
+    pub fn place(&self, model: &Model, field: Field) -> usize {
+        if let Field::Residue(k, number) = field {
+            let residues = model.sequences[k].residues.as_bytes();
+            let mut before = Vec::new();
+            escape(&residues[..number], &mut before);
+            self.spots[&Field::Residues(k)].place + before.len()
+        } else {
+            self.spots[&field].place
+        }
+    }
+}
+
 /// Writes the listing; optional blanks stand this many times in a hundred.
 pub fn write(model: &Model, blank_percent: usize, rng: &mut Rng) -> Written {
     let mut writer = Writer {

@@ -80,6 +80,12 @@ const FIRST: Edit = residues("atgaaatgctaa");
 /// Makes the CDS an ordinary feature.
 pub const GENE: Edit = instead_of_cds!("gene");
 
+/// Takes the DNA's table away.
+const NO_TABLE: Edit = (
+    "</INSDSeq_other-seqids>…</INSDSeq_feature-table>",
+    "</INSDSeq_other-seqids>",
+);
+
 /// Takes the translation away.
 const NO_TRANSLATION: Edit = (
     "<INSDQualifier><INSDQualifier_name>translation…</INSDQualifier>\n",
@@ -95,6 +101,21 @@ pub(super) const fn location(text: &'static str) -> Edit {
 pub(super) const fn residues(text: &'static str) -> Edit {
     ("ttagcatttcat", text)
 }
+
+/// Other residues of the AA.
+const fn amino(text: &'static str) -> Edit {
+    ("MKCWX", text)
+}
+
+/// What is one character and no symbol of DNA and RNA.
+const FOREIGN: &[&str] = &[
+    "u", "x", "z", "T", "N", "0", "-", " ", "&lt;", "&gt;", "&amp;", "&quot;", "&apos;",
+];
+
+/// What is one character and no symbol of AA.
+const AMINO_FOREIGN: &[&str] = &[
+    "m", "x", "1", "*", "-", " ", "&lt;", "&gt;", "&amp;", "&quot;", "&apos;",
+];
 
 pub(super) const fn refused(
     name: &'static str,
@@ -496,19 +517,29 @@ pub const SEQUENCES: &[Case] = &[
         ],
         &[(16, 2577, "aa<"), (24, 3136, "complement(2<")],
     ),
-    refused("residues", &[], &[(18, 2232, "@")]).each(
-        ("ttagcatttcat", "@"),
-        &[
-            "ttagcatttcau",
-            "ttagcatttcaT",
-            "ttagcatttca ",
-            "ttagcatttca-",
-            "ttagcatttca&amp;",
-            "&lt;tagcatttcat",
-            "tta0catttcat",
-            "ttagcatttcaz",
-            "&lt;&gt;&amp;&quot;&apos;acgtacg",
-        ],
+    refused("first residue", &[], &[(18, 2232, "@tagcatttcat<")])
+        .each(residues("@tagcatttcat"), FOREIGN),
+    refused("seventh residue", &[], &[(18, 2238, "@ttcat<")])
+        .each(residues("ttagca@ttcat"), FOREIGN),
+    refused("last residue", &[], &[(18, 2243, "@<")]).each(residues("ttagcatttca@"), FOREIGN),
+    refused(
+        "residue of RNA",
+        &[(">DNA<", ">RNA<")],
+        &[(18, 2238, "@ttcat<")],
+    )
+    .each(residues("ttagca@ttcat"), FOREIGN),
+    refused(
+        "of several the first counts",
+        &[],
+        &[(18, 2236, "@attt-at<")],
+    )
+    .each(residues("ttag@attt-at"), FOREIGN),
+    refused("the first of two", &[], &[(18, 2237, "-ttt@at<")])
+        .each(residues("ttagc-ttt@at"), FOREIGN),
+    refused(
+        "each sequence has its first",
+        &[residues("ttagcatttca-"), amino("MK-WX")],
+        &[(18, 2243, "-<"), (18, 3216, "-WX<")],
     ),
     accepted(
         "every symbol",
@@ -521,22 +552,20 @@ pub const SEQUENCES: &[Case] = &[
         ],
         [3, 1, 4, 1, 0],
     ),
-    refused("amino residues", &[], &[(18, 3214, "@")]).each(
-        ("MKCWX", "@"),
-        &[
-            "MKCWx",
-            "MKCWa",
-            "MKCW-",
-            "MKCW*",
-            "MKCW ",
-            "MKC&amp;X",
-            "MKC1W",
-        ],
-    ),
+    refused("first amino residue", &[], &[(18, 3214, "@KCWX<")])
+        .each(amino("@KCWX"), AMINO_FOREIGN),
+    refused("third amino residue", &[], &[(18, 3216, "@WX<")]).each(amino("MK@WX"), AMINO_FOREIGN),
+    refused("last amino residue", &[], &[(18, 3218, "@<")]).each(amino("MKCW@"), AMINO_FOREIGN),
+    refused(
+        "of several in AA the first counts",
+        &[],
+        &[(18, 3215, "@-WX<")],
+    )
+    .each(amino("M@-WX"), AMINO_FOREIGN),
     accepted(
         "every amino symbol",
         &[
-            ("MKCWX", "ABCDEFGHIJKLMNOPQRSTUVWXYZ"),
+            amino("ABCDEFGHIJKLMNOPQRSTUVWXYZ"),
             (">5<", ">26<"),
             (">1..5<", ">1..26<"),
         ],
@@ -544,43 +573,137 @@ pub const SEQUENCES: &[Case] = &[
     ),
     refused(
         "three amino residues",
-        &[("MKCWX", "MKCXX")],
+        &[amino("MKCXX")],
         &[(19, 3214, "MKCXX<")],
     ),
-    accepted(
-        "four amino residues",
-        &[("MKCWX", "XMKCW")],
-        [3, 1, 4, 1, 0],
-    ),
+    accepted("four amino residues", &[amino("XMKCW")], [3, 1, 4, 1, 0]),
     refused(
-        "a foreign residue counts for rule 19",
-        &[GENE, residues("acgtacgtaNnn")],
-        &[(18, 1934, "acgtacgtaNnn<")],
-    ),
+        "a foreign residue is the tenth for rule 19",
+        &[GENE],
+        &[(18, 1943, "@nn<")],
+    )
+    .each(residues("acgtacgta@nn"), FOREIGN),
     refused(
-        "a foreign amino residue counts for rule 19",
-        &[("MKCWX", "MKCxX")],
-        &[(18, 3214, "MKCxX<")],
-    ),
+        "a foreign amino residue is the fourth for rule 19",
+        &[],
+        &[(18, 3217, "@X<")],
+    )
+    .each(amino("MKC@X"), AMINO_FOREIGN),
     refused(
         "18 and 19 at one place",
-        &[GENE, residues("acgtacgt-nnn")],
-        &[(18, 1934, "acgtacgt-nnn<"), (19, 1934, "acgtacgt-nnn<")],
+        &[GENE],
+        &[(18, 1934, "@cgtacgtannn<"), (19, 1934, "@cgtacgtannn<")],
+    )
+    .each(residues("@cgtacgtannn"), FOREIGN),
+    refused(
+        "19 before 18",
+        &[GENE],
+        &[(19, 1934, "acgtacgt@nnn<"), (18, 1942, "@nnn<")],
+    )
+    .each(residues("acgtacgt@nnn"), FOREIGN),
+    refused(
+        "19 before 18 at the end",
+        &[GENE],
+        &[(19, 1934, "nnnacgtacgt@<"), (18, 1945, "@<")],
+    )
+    .each(residues("nnnacgtacgt@"), FOREIGN),
+    refused(
+        "18 and 19 of AA at one place",
+        &[],
+        &[(18, 3214, "@KCXX<"), (19, 3214, "@KCXX<")],
+    )
+    .each(amino("@KCXX"), AMINO_FOREIGN),
+    refused(
+        "19 before 18 in AA",
+        &[],
+        &[(19, 3214, "MKX@X<"), (18, 3217, "@X<")],
+    )
+    .each(amino("MKX@X"), AMINO_FOREIGN),
+    refused(
+        "nine with five entities",
+        &[GENE, residues("acgt&lt;&gt;&amp;&quot;&apos;nnn")],
+        &[(19, 1934, "acgt&lt;"), (18, 1938, "&lt;&gt;&amp;")],
+    ),
+    refused(
+        "ten with five entities",
+        &[GENE, residues("acgta&apos;&quot;&amp;&gt;&lt;nn")],
+        &[(18, 1939, "&apos;&quot;&amp;")],
+    ),
+    refused(
+        "three amino residues with two entities",
+        &[amino("M&amp;&amp;XX")],
+        &[(19, 3214, "M&amp;"), (18, 3215, "&amp;&amp;XX<")],
+    ),
+    refused(
+        "four amino residues with two entities",
+        &[amino("MX&quot;&lt;W")],
+        &[(18, 3216, "&quot;&lt;W<")],
     ),
     refused(
         "18, 19 and 21 at one place",
+        &[NO_TABLE],
         &[
-            residues("acgtacgt-nnn"),
-            (
-                "</INSDSeq_other-seqids>…</INSDSeq_feature-table>",
-                "</INSDSeq_other-seqids>",
-            ),
+            (18, 1326, "@cgtacgtannn<"),
+            (19, 1326, "@cgtacgtannn<"),
+            (21, 1326, "@cgtacgtannn<"),
+        ],
+    )
+    .each(residues("@cgtacgtannn"), FOREIGN),
+    refused(
+        "19 and 21 before 18",
+        &[NO_TABLE],
+        &[
+            (19, 1326, "acgtacgt@nnn<"),
+            (21, 1326, "acgtacgt@nnn<"),
+            (18, 1334, "@nnn<"),
+        ],
+    )
+    .each(residues("acgtacgt@nnn"), FOREIGN),
+    refused(
+        "18 and 21 at one place",
+        &[NO_TABLE],
+        &[(18, 1326, "@tagcatttcat<"), (21, 1326, "@tagcatttcat<")],
+    )
+    .each(residues("@tagcatttcat"), FOREIGN),
+    refused(
+        "21 before 18 at the next place",
+        &[NO_TABLE],
+        &[(21, 1326, "t@agcatttcat<"), (18, 1327, "@agcatttcat<")],
+    )
+    .each(residues("t@agcatttcat"), FOREIGN),
+    refused(
+        "21 at the table before 18",
+        &[instead_of_cds!("source"), residues("-tagcatttcat")],
+        &[
+            (21, 1308, "<INSDSeq_feature-table>"),
+            (42, 1791, "source<"),
+            (18, 1936, "-tagcatttcat<"),
+        ],
+    ),
+    refused(
+        "L counts an entity as one character",
+        &[
+            residues("ttagcattt&amp;at"),
+            (">12</INSDSeq_length>", ">16</INSDSeq_length>"),
+            (">1..12<", ">1..16<"),
         ],
         &[
-            (18, 1326, "acgtacgt-nnn<"),
-            (19, 1326, "acgtacgt-nnn<"),
-            (21, 1326, "acgtacgt-nnn<"),
+            (20, 1128, "16<"),
+            (23, 1409, "1..16<"),
+            (25, 1409, "1..16<"),
+            (18, 2241, "&amp;at<"),
         ],
+    ),
+    refused(
+        "0000 is four foreign residues",
+        &[
+            GENE,
+            residues("0000"),
+            (">12</INSDSeq_length>", ">4</INSDSeq_length>"),
+            (">1..12<", ">1..4<"),
+            location("1"),
+        ],
+        &[(18, 1916, "0000<"), (19, 1916, "0000<")],
     ),
     refused("length", &[], &[(20, 1128, "@")]).each(
         (">12<", ">@<"),
@@ -634,14 +757,7 @@ pub const SEQUENCES: &[Case] = &[
             (19, 1897, "<INSDSeq_sequence/>"),
         ],
     ),
-    refused(
-        "no table",
-        &[(
-            "</INSDSeq_other-seqids>…</INSDSeq_feature-table>",
-            "</INSDSeq_other-seqids>",
-        )],
-        &[(21, 1326, "ttagcatttcat<")],
-    ),
+    refused("no table", &[NO_TABLE], &[(21, 1326, "ttagcatttcat<")]),
     refused(
         "no source",
         &[(">source<", ">sources<")],
@@ -974,7 +1090,7 @@ pub const FEATURES: &[Case] = &[
         "1^1 is true at L = 1",
         &[
             ("&lt;2..3", "1^1"),
-            ("MKCWX", "M"),
+            amino("M"),
             (">5<", ">1<"),
             (">1..5<", ">1..1<"),
         ],
@@ -1081,8 +1197,26 @@ pub const FEATURES: &[Case] = &[
     ),
     refused(
         "28 is not judged where 18 is broken",
-        &[residues("ttagcatttca-"), (">MKC<", ">wrong<")],
-        &[(18, 2234, "ttagcatttca-<")],
+        &[(">MKC<", ">wrong<")],
+        &[(18, 2245, "@<")],
+    )
+    .each(residues("ttagcatttca@"), FOREIGN),
+    refused(
+        "28 is not judged where 18 is broken behind the CDS",
+        &[location("complement(1..9)"), (">MKC<", ">wrong<")],
+        &[(18, 2244, "@<")],
+    )
+    .each(residues("ttagcatttca@"), FOREIGN),
+    refused(
+        "28 is not judged where 18 is broken before the CDS",
+        &[location("4..12"), (">MKC<", ">wrong<")],
+        &[(18, 2222, "@tagcatttcat<")],
+    )
+    .each(residues("@tagcatttcat"), FOREIGN),
+    refused(
+        "28 is judged where another sequence breaks 18",
+        &[amino("MK-WX"), (">MKC<", ">wrong<")],
+        &[(28, 2111, "wrong<"), (18, 3218, "-WX<")],
     ),
     refused(
         "28 is judged where 17 and 19 to 21 are broken",
