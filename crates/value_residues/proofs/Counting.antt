@@ -1,5 +1,5 @@
 -- How many characters begin with another byte than a given one, in the bytes from a place on.
-use Prim.Native.Nat.{ℕ, _+_, _≤_, _<_}
+use Prim.Native.Nat.{ℕ, _+_, _-_, _≤_, _<_}
 use native.Mathlib.Decide.{decLe}
 use native.Mathlib.Omega.{arith}
 use mathlib.Core.Path.{_≡_, refl, sym, ap, _∙_, subst}
@@ -7,16 +7,19 @@ use mathlib.Core.Bool.{Bool, true, false, not}
 use mathlib.Core.List.{List, [], _∷_, _++_}
 use lib.ListN.{length, drop, getD, drop-of-length-le}
 use lib.Dec.{eqb, leb}
+use lib.Bits.{bitOr}
 use borrow.Author.Tests.{eqb-true, eqb-false, eq-eqb, ne-eqb, le-leb}
 use Rattle.paper.specs.Bytes.{spell, raw}
 use Rattle.paper.specs.Lists.{Count, end, has, lacks}
+use Rattle.paper.proofs.Bits.{or-none}
 use Rattle.paper.proofs.Texts.{spell-cases, raw-longer}
 use Rattle.paper.proofs.Lists.{count-as, count-every}
 use Rattle.read_bytes.specs.Numbers.{flag}
 use Rattle.value_words.specs.Reading.{Tells}
 use Rattle.value_words.proofs.Numbers.{suffix}
 use Rattle.value_words.proofs.Tests.{told, tells-le}
-use Rattle.value_residues.specs.Residues.{begun, NextCharacter, Others, Characters, HasDefined}
+use Rattle.value_residues.specs.Residues.{begun, NextCharacter, SameOf64, Passes, Others, Characters, HasDefined}
+use Rattle.value_residues.specs.declared.Passed.{Passed}
 
 -- the byte that a character begins with
 abbrev first : ℕ → ℕ
@@ -73,42 +76,97 @@ module _ (w : List ℕ) (at : ℕ) where
           same = λ but. x .same but ∙ ap (begun but true) (drop-of-length-le w h) ∙ sym (ap (begun but false) (drop-of-length-le w h));
         }
 
+-- ---- some characters at once
+
+-- the byte at i begins a character
+begun-at : (w : List ℕ) (i but : ℕ) {j : ℕ} → i < length w → NextCharacter w i j → (t : Bool) → eqb (getD w i 0) but ≡ t
+    → begun but false (drop i w) ≡ flag (not t) + begun but false (drop j w)
+begun-at w i but h y t e = ap (begun but false) (suffix w i h) ∙ (λ k. flag (not (e k)) + y .same but k)
+
+pub flag-most : (t : Bool) → flag t ≤ 1
+flag-most true = omega arith
+flag-most false = omega arith
+
+-- j of 64 bytes, so many of which are b; where `amp` is 0 no entity has begun
+pub record Summed (w : List ℕ) (at b same amp j : ℕ) : Type 0 where
+  pub end : j ≤ 64
+  pub few : same ≤ j
+  pub is : amp ≡ 0 → begun b false (drop at w) + same ≡ j + begun b false (drop (at + j) w)
+
+pub summed-none : (w : List ℕ) (at b : ℕ) → Summed w at b 0 0 0
+summed-none w at b =
+    let q : at + 0 ≡ at = omega arith in
+    record { end = omega arith; few = omega arith; is = λ z. omega (arith, ap (λ (k : ℕ). begun b false (drop k w)) q) }
+
+module _ {w : List ℕ} {at b same amp j : ℕ} (s : Summed w at b same amp j) where
+  pub summed-next : {x y : ℕ} → at + j < length w → j < 64 → x ≡ flag (eqb (getD w (at + j) 0) b) → y ≡ flag (eqb (getD w (at + j) 0) 38)
+      → Summed w at b (same + x) (bitOr amp y) (j + 1)
+  summed-next {x} {y} h l ex ey =
+      record {
+        end = omega (arith, l);
+        few = omega (arith, s .few, ex, flag-most (eqb (getD w (at + j) 0) b));
+        is =
+            λ z.
+            let o = or-none amp y z in
+            let n = no-flag (eqb (getD w (at + j) 0) 38) (sym ey ∙ o .1) in
+            let on = begun-at w (at + j) b h (one-byte w (at + j) h (eqb-false (getD w (at + j) 0) 38 n)) (eqb (getD w (at + j) 0) b) refl in
+            let q : at + j + 1 ≡ at + (j + 1) = omega arith in
+            omega (arith, s .is (o .0), on, ex, either (eqb (getD w (at + j) 0) b), ap (λ (k : ℕ). begun b false (drop k w)) q);
+      }
+    where
+      either : (t : Bool) → flag (not t) + flag t ≡ 1
+      either true = omega arith
+      either false = omega arith
+
+      no-flag : (t : Bool) → flag t ≡ 0 → t ≡ false
+      no-flag true e = absurd (omega (arith, e))
+      no-flag false e = refl
+
+  pub summed-all : 64 ≤ j → amp ≡ 0 → SameOf64 w at b same
+  summed-all h z =
+      let q : j ≡ 64 = omega (arith, h, s .end) in
+      record { is = λ l. subst (λ (k : ℕ). begun b false (drop at w) + same ≡ k + begun b false (drop (at + k) w)) q (s .is z) }
+
+module _ {w : List ℕ} {at but : ℕ} where
+  pub ahead-64 : {same : ℕ} → at + 64 ≤ length w → same ≤ 64 → SameOf64 w at but same → Passes w at but (record { count = 64 - same; next = at + 64 })
+  ahead-64 h l s = record { onward = omega arith; within = h; each = omega (arith, l); is = omega (arith, l, s .is l) }
+
+  module _ {next : ℕ} (h : at < length w) (y : NextCharacter w at next) where
+    pub ahead-same : getD w at 0 ≡ but → Passes w at but (record { count = 0; next = next })
+    ahead-same e = record { onward = y .onward; within = y .within; each = omega (arith, y .onward); is = begun-at w at but h y true (eq-eqb (getD w at 0) but e) }
+
+    pub ahead-other : ¬ (getD w at 0 ≡ but) → Passes w at but (record { count = 1; next = next })
+    ahead-other o = record { onward = y .onward; within = y .within; each = omega (arith, y .onward); is = begun-at w at but h y false (ne-eqb (getD w at 0) but o) }
+
 -- ---- the loop
 
-pub flag-once : (t : Bool) → flag t ≤ 1
-flag-once true = omega arith
-flag-once false = omega arith
-
 -- n of them begin before i, and the rest from i on
-pub record Counting (w : List ℕ) (but most n i : ℕ) : Type 0 where
-  pub within : n ≤ most
+pub record Counting (w : List ℕ) (but n i : ℕ) : Type 0 where
+  pub within : i ≤ length w
+  pub few : n ≤ i
   pub in-all : n + begun but false (drop i w) ≡ begun but false w
 
-module _ {w : List ℕ} {but most n i : ℕ} (c : Counting w but most n i) where
-  pub counting-next : {x j : ℕ} → i < length w → n < most → x ≡ flag (not (eqb (getD w i 0) but)) → NextCharacter w i j → Counting w but most (n + x) j
-  counting-next h l ex y =
-      record {
-        within = omega (arith, l, ex, flag-once (not (eqb (getD w i 0) but)));
-        in-all = omega (arith, c .in-all, ex, ap (begun but false) (suffix w i h), y .same but);
-      }
+module _ {w : List ℕ} {but n i : ℕ} (c : Counting w but n i) where
+  pub counting-next : {x : Passed} → Passes w i but x → Counting w but (n + x .count) (x .next)
+  counting-next x = record { within = x .within; few = omega (arith, c .few, x .each); in-all = omega (arith, c .in-all, x .is) }
 
-  counted : (begun but false w ≤ most → n ≡ begun but false w) → (most ≤ begun but false w → n ≡ most) → Others w but most n
-  counted few many =
+  counted : {most r : ℕ} → r ≤ most → (begun but false w ≤ most → r ≡ begun but false w) → (most ≤ begun but false w → r ≡ most) → Others w but most r
+  counted l few many =
       record {
-        within = c .within;
+        within = l;
         says =
             λ v e.
             let k : begun but false w ≡ begun but false (raw v) = ap (begun but false) e in
             (begun but false (raw v), begun-raw but v, (λ l. few (omega (arith, l, k)) ∙ k), (λ l. many (omega (arith, l, k))));
       }
 
-  pub counting-full : most ≤ n → Others w but most n
-  counting-full h = counted (λ l. omega (arith, l, h, c .in-all)) (λ l. omega (arith, h, c .within))
+  pub counting-full : {most : ℕ} → most ≤ n → Others w but most most
+  counting-full h = counted (omega arith) (λ l. omega (arith, l, h, c .in-all)) (λ l. refl)
 
-  pub counting-done : length w ≤ i → Others w but most n
-  counting-done h =
+  pub counting-done : {most : ℕ} → length w ≤ i → n < most → Others w but most n
+  counting-done h l =
       let e : n ≡ begun but false w = omega (arith, c .in-all, ap (begun but false) (drop-of-length-le w h)) in
-      counted (λ l. e) (λ l. omega (arith, l, e, c .within))
+      counted (omega (arith, l)) (λ l. e) (λ m. omega (arith, m, e, l))
 
 -- ---- all characters, and those that aren't the undefined one
 

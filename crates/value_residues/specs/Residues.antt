@@ -12,6 +12,7 @@ use Rattle.paper.specs.Rules.{dna, rna, aa, isSymbol}
 use Rattle.paper.specs.Rules as Rules
 use Rattle.read_bytes.specs.Numbers.{flag}
 use Rattle.value_words.specs.Reading.{Tells}
+use Rattle.value_residues.specs.declared.Passed.{Passed}
 
 -- ---- characters
 
@@ -26,6 +27,16 @@ pub record NextCharacter (w : List ℕ) (at r : ℕ) : Type 0 where
   pub onward : at < r
   pub within : r ≤ length w
   pub same : (but : ℕ) → begun but (eqb (getD w at 0) (code "&")) (drop (at + 1) w) ≡ begun but false (drop r w)
+
+-- 64 bytes, r of which are b, and no entity begins among them; above 64 nothing is said
+pub record SameOf64 (w : List ℕ) (at b r : ℕ) : Type 0 where
+  pub is : r ≤ 64 → begun b false (drop at w) + r ≡ 64 + begun b false (drop (at + 64) w)
+
+pub record Passes (w : List ℕ) (at but : ℕ) (r : Passed) : Type 0 where
+  pub onward : at < r .next
+  pub within : r .next ≤ length w
+  pub each : at + r .count ≤ r .next
+  pub is : begun but false (drop at w) ≡ r .count + begun but false (drop (r .next) w)
 
 -- r characters are written with another first byte than `but`; where they are more than `most`, r is that
 pub record Others (w : List ℕ) (but most r : ℕ) : Type 0 where

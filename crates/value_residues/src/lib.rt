@@ -4,11 +4,13 @@
 use read_bytes::equal;
 ghost use Prim.Native.Nat.{_+_, _≤_, _<_};
 ghost use lib.ListN.{length};
-ghost use lib.Dec.{eqb};
-ghost use mathlib.Core.Bool.{not};
-ghost use Rattle.read_bytes.specs.Numbers.{flag};
-ghost use mathlib.Core.Path.{_≡_};
-ghost use Rattle.value_residues.specs.Residues.{NextCharacter, Others, Characters, HasDefined, SymbolTable, Symbols, Strange, Block, Foreign};
+ghost use Rattle.value_residues.specs.Residues.{NextCharacter, SameOf64, Passes, Others, Characters, HasDefined, SymbolTable, Symbols, Strange, Block, Foreign};
+
+// Some characters, counted: those that begin with another byte than a given one, and where the next character starts.
+pub struct Passed {
+    pub count: usize,
+    pub next: usize,
+}
 
 // The class of each byte, sixteen to a line: 1 for the symbols of DNA and RNA, 2 for those of AA, 0 for neither.
 const SYMBOLS: [u8; 256] = *b"\
@@ -36,13 +38,6 @@ pub fn symbol_table() -> [u8; 256]
     SYMBOLS
 }
 
-// 1 where two bytes differ, else 0.
-fn differ(a: u8, b: u8) -> usize
-    ensures { λ r. ⌜ r ≡ flag (not (eqb a b)) ⌝ }
-{
-    if a == b { 0 } else { 1 }
-}
-
 // Where the next character starts, behind an entity's `;`.
 fn next_character(w: &[u8], at: usize) -> usize
     requires { ⌜ at < length (now w) ⌝ }
@@ -61,7 +56,44 @@ fn next_character(w: &[u8], at: usize) -> usize
     i
 }
 
-// How many characters begin with another byte than this, up to a limit. An entity is one; no more are read than it takes.
+// How many of 64 bytes are this one; 255 where an entity begins among them. With no branch: it is compiled to vector code.
+fn same_of_64(w: &[u8], at: usize, b: u8) -> u8
+    requires { ⌜ at + 64 ≤ length (now w) ⌝ }
+    ensures { λ r. ⌜ SameOf64 (now (w .entry)) at b r ⌝ }
+{
+    let mut same: u8 = 0;
+    let mut amp: u8 = 0;
+    let mut j: usize = 0;
+    while j < 64 {
+        same += equal(w[at + j], b);
+        amp = amp | equal(w[at + j], b'&');
+        j += 1;
+    }
+    if amp == 0 { same } else { 255 }
+}
+
+// Some characters: how many of them begin with another byte than this, and where the next one starts. 64 bytes, or one character.
+fn ahead(w: &[u8], at: usize, but: u8) -> Passed
+    requires { ⌜ at < length (now w) ⌝ }
+    ensures { λ r. ⌜ Passes (now (w .entry)) at but r ⌝ }
+{
+    if 64 <= w.len() - at {
+        let same = same_of_64(w, at, but);
+        if same <= 64 {
+            return Passed {
+                count: 64 - same as usize,
+                next: at + 64,
+            };
+        }
+    }
+    let next = next_character(w, at);
+    if w[at] == but {
+        return Passed { count: 0, next };
+    }
+    Passed { count: 1, next }
+}
+
+// How many characters begin with another byte than this, up to a limit. An entity is one; little more is read than it takes.
 fn others(w: &[u8], but: u8, most: usize) -> usize
     ensures { λ r. ⌜ Others (now (w .entry)) but most r ⌝ }
 {
@@ -69,10 +101,14 @@ fn others(w: &[u8], but: u8, most: usize) -> usize
     let mut i: usize = 0;
     while i < w.len() {
         if most <= n {
-            return n;
+            return most;
         }
-        n += differ(w[i], but);
-        i = next_character(w, i);
+        let Passed { count, next } = ahead(w, i, but);
+        n += count;
+        i = next;
+    }
+    if most <= n {
+        return most;
     }
     n
 }
