@@ -3,7 +3,7 @@
 use crate::large::Make;
 
 /// The kinds, and how each is made.
-pub const HEAVY: [(&str, Make); 17] = [
+pub const HEAVY: [(&str, Make); 20] = [
     // Right translations, all of one join of 3,000 members of one residue each.
     ("right-translations", |size| {
         let value = "A".repeat(1_000);
@@ -91,6 +91,16 @@ pub const HEAVY: [(&str, Make); 17] = [
             one(&feature("gene", "1..9", &qualifier(&"e".repeat(n), None)))
         })
     }),
+    // Residues: a foreign one behind all others, none that is defined, entities only.
+    ("late-foreign", |size| {
+        filled(size, |n| residues(n, &("g".repeat(n - 1) + "u")))
+    }),
+    ("undefined-residues", |size| {
+        filled(size, |n| residues(n, &"n".repeat(n)))
+    }),
+    ("entity-residues", |size| {
+        filled(size, |n| residues(n, &"&amp;".repeat(n)))
+    }),
     // Long numbers, as the total and as a position.
     ("digits-in-total", |size| {
         filled(size, |n| {
@@ -143,14 +153,18 @@ fn feature(key: &str, location: &str, qualifiers: &str) -> String {
 }
 
 /// The sequence number k, of so many residues, a multiple of three: alanine codons.
-fn sequence(k: usize, residues: usize, features: &str) -> String {
+fn sequence(k: usize, length: usize, features: &str) -> String {
+    sequence_of(k, length, features, &"gct".repeat(length / 3))
+}
+
+/// The sequence number k, whose residues are so many and written so.
+fn sequence_of(k: usize, length: usize, features: &str, residues: &str) -> String {
     let source = qualifier("organism", Some("x")) + &qualifier("mol_type", Some("y"));
-    let source = feature("source", &format!("1..{residues}"), &source);
+    let source = feature("source", &format!("1..{length}"), &source);
     format!(
-        "<SequenceData sequenceIDNumber=\"{k}\"><INSDSeq><INSDSeq_length>{residues}</INSDSeq_length>\
+        "<SequenceData sequenceIDNumber=\"{k}\"><INSDSeq><INSDSeq_length>{length}</INSDSeq_length>\
          <INSDSeq_moltype>DNA</INSDSeq_moltype><INSDSeq_division>PAT</INSDSeq_division><INSDSeq_feature-table>{source}\
-         {features}</INSDSeq_feature-table><INSDSeq_sequence>{}</INSDSeq_sequence></INSDSeq></SequenceData>",
-        "gct".repeat(residues / 3)
+         {features}</INSDSeq_feature-table><INSDSeq_sequence>{residues}</INSDSeq_sequence></INSDSeq></SequenceData>"
     )
 }
 
@@ -166,6 +180,11 @@ fn listing(sequences: &str, total: usize) -> String {
 /// A listing of one sequence of 3,000 residues with these features.
 fn one(features: &str) -> String {
     listing(&sequence(1, 3_000, features), 1)
+}
+
+/// A listing of one sequence without other features.
+fn residues(length: usize, residues: &str) -> String {
+    listing(&sequence_of(1, length, "", residues), 1)
 }
 
 fn coding(location: &str, qualifiers: &str) -> String {
@@ -192,6 +211,8 @@ mod tests {
                 "wrong-translations" | "one-letter" | "late-codon-start" => 28,
                 "digits-in-total" => 14,
                 "digits-in-location" => 25,
+                "late-foreign" | "entity-residues" => 18,
+                "undefined-residues" => 19,
                 "unknown-keys" | "near-keys" | "long-key" => 40,
                 "unknown-names" | "near-names" | "long-name" => 41,
                 _ => 0,
