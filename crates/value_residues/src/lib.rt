@@ -7,9 +7,9 @@ ghost use lib.ListN.{length};
 ghost use Rattle.value_residues.specs.Residues.{NextCharacter, SameOf64, Passes, Others, Characters, HasDefined, SymbolTable, Symbols, Strange, Block, Foreign};
 
 // Some characters, counted: those that begin with another byte than a given one, and where the next character starts.
-pub struct Passed {
-    pub count: usize,
-    pub next: usize,
+struct Passed {
+    count: usize,
+    next: usize,
 }
 
 // The class of each byte, sixteen to a line: 1 for the symbols of DNA and RNA, 2 for those of AA, 0 for neither.
