@@ -11,7 +11,6 @@ use Rattle.paper.specs.Locations.{Location, Locates, breaks25}
 use Rattle.paper.proofs.Leading.{all?}
 use Rattle.paper.specs.Rules.{L, isSymbol, Coding, Judged, residues, rule-18, rule-24, rule-25, rule-27}
 use Rattle.read_steps.specs.Parts.{ShowsBytes}
-use Rattle.value_words.specs.Reading.{Tells}
 use Rattle.value_words.proofs.Tests.{tells-true, tells-false}
 use Rattle.walk_items.specs.Items.{IsFeature}
 use Rattle.walk_items.specs.declared.FoundFeature.{FoundFeature}

@@ -1,7 +1,7 @@
 -- L, and the first residue that is no symbol: what is known of a sequence.
 use Prim.Native.Nat.{ℕ, _+_, _-_, _≤_, _%_}
 use native.Mathlib.Omega.{arith}
-use mathlib.Core.Path.{_≡_, refl, sym, ap, _∙_, subst}
+use mathlib.Core.Path.{_≡_, sym, ap, _∙_, subst}
 use mathlib.Core.List.{List}
 use lib.ListN.{length, take, drop, length-append, length-drop}
 use lib.Seq.{take-all}

@@ -40,41 +40,43 @@ plain dna = refl
 plain rna = refl
 plain aa = refl
 
-abbrev Strange : Sequence ℕ → Kind → Faults
-Strange q k = Bad 18 (q .residues .place + length (raw (leading (isSymbol k) (q .residues .read)))) (all (isSymbol k) (q .residues .read))
+abbrev Breaks18 : Sequence ℕ → Kind → Faults
+Breaks18 q k = Bad 18 (q .residues .place + length (raw (leading (isSymbol k) (q .residues .read)))) (all (isSymbol k) (q .residues .read))
 
-abbrev Few : Sequence ℕ → Kind → ℕ → Faults
-Few q k n = Bad 19 (q .residues .place) (fewest k ≤ n)
+abbrev Breaks19 : Sequence ℕ → Kind → ℕ → Faults
+Breaks19 q k n = Bad 19 (q .residues .place) (fewest k ≤ n)
+
+-- of a sequence of the kind k with n defined residues they are all
+module _ (q : Sequence ℕ) (k : Kind) (i : IsKind k q) {n : ℕ} (c : Count (λ (b : ℕ). ¬ (b ≡ undefined k)) (q .residues .read) n) where
+  to-residues : (m p : ℕ) → _or_ (Breaks18 q k) (Breaks19 q k n) m p → InResidues q m p
+  to-residues m p (inl y) = rw (y .0, y .1) (rule-18 k i (y .2))
+  to-residues m p (inr y) = rw (y .0, y .1) (rule-19 k i n c (omega (arith, y .2)))
+
+  of-residues : (m p : ℕ) → InResidues q m p → _or_ (Breaks18 q k) (Breaks19 q k n) m p
+  of-residues m p (rule-18 j g h) =
+      subst (λ (z : Kind). _or_ (Breaks18 q z) (Breaks19 q k n) m p) (kind-once (q .moltype .read) j k g i) (inl (refl, refl, h))
+  of-residues m p (rule-19 j g l d h) =
+      let e = kind-once (q .moltype .read) j k g i in
+      let d' = subst (λ (z : Kind). Count (λ (b : ℕ). ¬ (b ≡ undefined z)) (q .residues .read) l) e d in
+      inr (refl, refl, λ y. omega (arith, y, count-once d' c, subst (λ (z : Kind). l < fewest z) e h))
 
 pub symbols-judged : {w : List ℕ} {known : Known} {none few : ℕ} (ok : Bool) {a b r : Fault} → HasDefined w none few ok
     → a ≡ unlessOf (leb (known .residues .to) (known .foreign)) 18 (known .foreign) → b ≡ unlessOf ok 19 (known .residues .from) → Earlier a b r
     → JudgesSymbols w known none few r
-symbols-judged {known = known} {none} {few} ok d ea eb x =
+symbols-judged {known = known} ok d ea eb x =
     record {
       says =
           λ s q kn e k i u f.
           let v = q .residues .read in
           let n = d .says (subst (λ (z : ℕ). spell z ≡ z ∷ []) (sym u) (plain k)) v e in
           let c = subst (λ (z : ℕ). Count (λ (b : ℕ). ¬ (b ≡ z)) v (n .0)) u (n .1) in
-          let A = Strange q k in
-          let B = Few q k (n .0) in
-          let told = leb (known .residues .to) (known .foreign) in
-          let fa : Firsts A _ = firsts-unless told 18 _ (symbols-told kn k i) (ea ∙ ap (unlessOf told 18) (kn .foreign k i)) in
+          let A = Breaks18 q k in
+          let B = Breaks19 q k (n .0) in
+          let all-are = leb (known .residues .to) (known .foreign) in
+          let fa : Firsts A _ = firsts-unless all-are 18 _ (symbols-told kn k i) (ea ∙ ap (unlessOf all-are 18) (kn .foreign k i)) in
           let fb : Firsts B _ = firsts-unless ok 19 _ (subst (λ (z : ℕ). Tells ok (z ≤ n .0)) f (n .2)) (eb ∙ ap (unlessOf ok 19) (kn .residues .first)) in
-          firsts-as (_or_ A B) (InResidues q) (to q k i (n .0) c) (of q k i (n .0) c) (firsts-or A B fa fb x);
+          firsts-as (_or_ A B) (InResidues q) (to-residues q k i c) (of-residues q k i c) (firsts-or A B fa fb x);
     }
-  where
-    to : (q : Sequence ℕ) (k : Kind) → IsKind k q → (n : ℕ) → Count (λ (b : ℕ). ¬ (b ≡ undefined k)) (q .residues .read) n → (m p : ℕ) → _or_ (Strange q k) (Few q k n) m p → InResidues q m p
-    to q k i n c m p (inl y) = rw (y .0, y .1) (rule-18 k i (y .2))
-    to q k i n c m p (inr y) = rw (y .0, y .1) (rule-19 k i n c (omega (arith, y .2)))
-
-    of : (q : Sequence ℕ) (k : Kind) → IsKind k q → (n : ℕ) → Count (λ (b : ℕ). ¬ (b ≡ undefined k)) (q .residues .read) n → (m p : ℕ) → InResidues q m p → _or_ (Strange q k) (Few q k n) m p
-    of q k i n c m p (rule-18 j g h) =
-        subst (λ (z : Kind). _or_ (Strange q z) (Few q k n) m p) (kind-once (q .moltype .read) j k g i) (inl (refl, refl, h))
-    of q k i n c m p (rule-19 j g l d h) =
-        let e = kind-once (q .moltype .read) j k g i in
-        let d' = subst (λ (z : Kind). Count (λ (b : ℕ). ¬ (b ≡ undefined z)) (q .residues .read) l) e d in
-        inr (refl, refl, λ y. omega (arith, y, count-once d' c, subst (λ (z : Kind). l < fewest z) e h))
 
 -- the kind decides what is asked
 pub residues-of : (k : Kind) {s w : List ℕ} {known : Known} {c : code.Molecule} {none few : ℕ} {r : Fault} → known .kind ≡ c → none ≡ undefined k → few ≡ fewest k

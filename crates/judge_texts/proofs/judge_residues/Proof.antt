@@ -1,7 +1,5 @@
 -- `judge_texts::judge_residues` meets its contract, by kinds.
 use mathlib.Core.Path.{refl}
-use mathlib.Core.List.{List}
-use Prim.Native.Nat.{ℕ}
 use Rattle.paper.specs.Rules.{dna, rna, aa}
 use Rattle.judge_texts.proofs.Sums.{residues-of, residues-other}
 use borrow.Author.Needs.{needs}

@@ -1,7 +1,4 @@
 -- `judge_texts::length_of` meets its contract.
-use mathlib.Core.Path.{ap, _∙_}
-use Prim.Native.Nat.{_+_}
-use native.Mathlib.Omega.{arith}
 use Rattle.judge_texts.proofs.Sizes.{length-by}
 use borrow.Author.Needs.{needs}
 use Rattle.judge_texts.proofs.length_of.Statement.{statement}
