@@ -50,6 +50,7 @@ pub fn known_of(s: &[u8], moltype: Range, residues: Range, t: &[u8; 256]) -> Kno
     let w = read_steps::bytes_of(s, residues.from, residues.to);
     let n = before_foreign(w, kind, t);
     let top = size_of(length_of(w, n));
+    // It doesn't wrap where the residues stand in a listing.
     let foreign = std::num::wrapping_add_usize(residues.from, n);
     Known {
         kind,

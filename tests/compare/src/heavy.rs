@@ -91,15 +91,17 @@ pub const HEAVY: [(&str, Make); 20] = [
             one(&feature("gene", "1..9", &qualifier(&"e".repeat(n), None)))
         })
     }),
-    // Residues: a foreign one behind all others, none that is defined, entities only.
+    // Residues, by the hundred bytes: a foreign one behind all others, none that is defined, entities only.
     ("late-foreign", |size| {
-        filled(size, |n| residues(n, &("g".repeat(n - 1) + "u")))
+        filled(size, |n| {
+            residues(100 * n, &("g".repeat(100 * n - 1) + "u"))
+        })
     }),
     ("undefined-residues", |size| {
-        filled(size, |n| residues(n, &"n".repeat(n)))
+        filled(size, |n| residues(100 * n, &"n".repeat(100 * n)))
     }),
     ("entity-residues", |size| {
-        filled(size, |n| residues(n, &"&amp;".repeat(n)))
+        filled(size, |n| residues(20 * n, &"&amp;".repeat(20 * n)))
     }),
     // Long numbers, as the total and as a position.
     ("digits-in-total", |size| {
