@@ -50,22 +50,22 @@ module _ (w : List ℕ) (at : ℕ) where
   one-byte h n = record { onward = omega arith; within = omega (arith, h); same = λ but. rw (ne-eqb (getD w at 0) 38 n) refl }
 
   -- an entity from `at` on goes on at i
-  pub record Inside (i : ℕ) : Type 0 where
+  pub record InEntity (i : ℕ) : Type 0 where
     pub onward : at < i
     pub within : i ≤ length w
     pub same : (but : ℕ) → begun but (eqb (getD w at 0) 38) (drop (at + 1) w) ≡ begun but true (drop i w)
 
-  pub inside-first : at < length w → getD w at 0 ≡ 38 → Inside (at + 1)
+  pub inside-first : at < length w → getD w at 0 ≡ 38 → InEntity (at + 1)
   inside-first h e = record { onward = omega arith; within = omega (arith, h); same = λ but. rw (eq-eqb (getD w at 0) 38 e) refl }
 
-  module _ {i : ℕ} (x : Inside i) where
+  module _ {i : ℕ} (x : InEntity i) where
     begun-on : i < length w → (t : Bool) → eqb (getD w i 0) 59 ≡ t → (but : ℕ) → begun but (eqb (getD w at 0) 38) (drop (at + 1) w) ≡ begun but (not t) (drop (i + 1) w)
     begun-on h t e but = x .same but ∙ ap (begun but true) (suffix w i h) ∙ ap (λ (u : Bool). begun but (not u) (drop (i + 1) w)) e
 
     pub inside-closed : i < length w → getD w i 0 ≡ 59 → NextCharacter w at (i + 1)
     inside-closed h e = record { onward = omega (arith, x .onward); within = omega (arith, h); same = begun-on h true (eq-eqb (getD w i 0) 59 e) }
 
-    pub inside-next : i < length w → ¬ (getD w i 0 ≡ 59) → Inside (i + 1)
+    pub inside-next : i < length w → ¬ (getD w i 0 ≡ 59) → InEntity (i + 1)
     inside-next h n = record { onward = omega (arith, x .onward); within = omega (arith, h); same = begun-on h false (ne-eqb (getD w i 0) 59 n) }
 
     pub inside-end : length w ≤ i → NextCharacter w at i

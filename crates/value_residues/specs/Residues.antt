@@ -32,6 +32,7 @@ pub record NextCharacter (w : List ℕ) (at r : ℕ) : Type 0 where
 pub record SameOf64 (w : List ℕ) (at b r : ℕ) : Type 0 where
   pub is : r ≤ 64 → begun b false (drop at w) + r ≡ 64 + begun b false (drop (at + 64) w)
 
+-- from a character on so many begin with another byte than `but`, and then it goes on at `next`
 pub record Passes (w : List ℕ) (at but : ℕ) (r : Passed) : Type 0 where
   pub onward : at < r .next
   pub within : r .next ≤ length w

@@ -55,7 +55,3 @@ pub all-at : (f : ℕ → Bool) (w : List ℕ) (i : ℕ) → i < length w → al
 all-at f [] i h a = absurd (omega arith)
 all-at f (b ∷ w) zero h a = a .0
 all-at f (b ∷ w) (suc i) h a = all-at f w i (omega arith) (a .1)
-
-pub at-all : (f : ℕ → Bool) (w : List ℕ) → ((i : ℕ) → i < length w → f (getD w i 0) ≡ true) → all f w
-at-all f [] h = tt
-at-all f (b ∷ w) h = (h 0 (omega arith), at-all f w (λ i k. h (suc i) (omega arith)))

@@ -3,12 +3,12 @@ use Prim.Native.Nat.{_-_}
 use native.Mathlib.Omega.{arith}
 use lib.ListN.{length}
 use borrow.Author.Needs.{needs}
-use Rattle.value_residues.proofs.Counting.{Inside, one-byte, inside-first, inside-closed, inside-next, inside-end}
+use Rattle.value_residues.proofs.Counting.{InEntity, one-byte, inside-first, inside-closed, inside-next, inside-end}
 use Rattle.value_residues.proofs.next_character.Statement.{statement}
 use Rattle.value_residues.proofs.next_character.Tie as tie
 
 abbrev Inv-loop : tie.InvT-loop
-Inv-loop w at i₀ i = Inside w at i
+Inv-loop w at i₀ i = InEntity w at i
 
 abbrev μ-loop : tie.MeasureT-loop
 μ-loop w at i₀ i = length w - i
