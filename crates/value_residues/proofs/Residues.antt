@@ -3,24 +3,21 @@ use Prim.Native.Nat.{ℕ, _+_, _≤_, _<_}
 use native.Mathlib.Decide.{decLe}
 use native.Mathlib.Omega.{arith}
 use mathlib.Core.Path.{_≡_, refl, sym, ap, _∙_, subst}
-use mathlib.Core.Bool.{true, false, true≢false}
+use mathlib.Core.Bool.{Bool, true, false, true≢false, _&&_, cond}
 use mathlib.Core.List.{List, _∷_, _++_}
 use lib.ListN.{length, getD, drop, length-append, List·getD-append}
 use lib.Seq.{getD-append-add, drop-append-seam}
 use lib.Dec.{eqb}
-use lib.Bits.{bitOr}
-use borrow.Author.Tests.{le-leb, eq-eqb, ne-eqb}
+use borrow.Author.Tests.{eq-eqb, ne-eqb}
 use Rattle.paper.specs.Bytes.{bytes, spell, raw, all, leading}
 use Rattle.paper.specs.Rules.{dna, rna, aa, isSymbol}
 use Rattle.paper.specs.Rules as Rules
-use Rattle.paper.proofs.Tables.{Test, at-each}
+use Rattle.paper.proofs.Tables.{Test, at-each, listed, each-same}
 use Rattle.paper.proofs.Texts.{spell-cases, raw-append}
 use Rattle.paper.proofs.Leading.{leading-in, leading-rest, Cut, whole, before, cut}
-use Rattle.read_bytes.specs.Numbers.{flag}
-use Rattle.read_bytes.proofs.Numbers.{one-of}
 use Rattle.value_words.proofs.Read.{raw-symbols}
 use Rattle.value_words.proofs.Tests.{all-at}
-use Rattle.value_residues.specs.Residues.{symbolClass, SymbolTable, OfClass, Strange, Between, Foreign, Symbols}
+use Rattle.value_residues.specs.Residues.{symbolClass, SymbolTable, OfClass, Strange, Between, Reach, Foreign, Symbols}
 
 -- ---- the table
 
@@ -32,27 +29,30 @@ symbols-right t low high = record { at-byte = at-byte }
     at-byte rna b h = at-each (λ (x : ℕ). eqb x 1) (isSymbol dna) t 256 low b h
     at-byte aa b h = at-each (λ (x : ℕ). eqb x 2) (isSymbol aa) t 256 high b h
 
+-- ---- tests of a byte
+
+-- the symbols of a class
+abbrev symbolOf : ℕ → ℕ → Bool
+symbolOf class b = cond (eqb class 1) (isSymbol dna b) (isSymbol aa b)
+
+of-symbol : (class b : ℕ) → symbolOf class b ≡ true → OfClass class b
+of-symbol class b y dna e = subst (λ (c : ℕ). symbolOf c b ≡ true) e y
+of-symbol class b y rna e = subst (λ (c : ℕ). symbolOf c b ≡ true) e y
+of-symbol class b y aa e = subst (λ (c : ℕ). symbolOf c b ≡ true) e y
+
+-- what a test f passes are symbols of the class, if that holds for all 256 bytes: one equation that antt computes
+pub passes-symbols : (class : ℕ) (f : ℕ → ℕ)
+    → listed (λ (b : ℕ). eqb (f b) 0 && symbolOf class b) 0 256 ≡ listed (λ (b : ℕ). eqb (f b) 0) 0 256
+    → {b n : ℕ} → b < 256 → n ≡ f b → Strange b class n
+passes-symbols class f same {b} {n} h e =
+    record {
+      none = λ z.
+          let passed = eq-eqb (f b) 0 (sym e ∙ z) in
+          of-symbol class b
+          (ap (λ (x : Bool). x && symbolOf class b) (sym passed) ∙ each-same (λ (b : ℕ). eqb (f b) 0 && symbolOf class b) (λ (b : ℕ). eqb (f b) 0) 256 same b h ∙ passed);
+    }
+
 -- ---- the walk
-
--- most residues are a base or `n`
-pub base-among : (b : ℕ) {p q r s u n : ℕ} → p ≡ flag (eqb b 97) → q ≡ flag (eqb b 99) → r ≡ flag (eqb b 103) → s ≡ flag (eqb b 116)
-    → u ≡ flag (eqb b 110) → n ≡ flag (eqb (bitOr (bitOr (bitOr (bitOr p q) r) s) u) 0) → Strange b 1 n
-base-among b {n = n} e f g h k is = record { none = λ z. of-base (is-base z) }
-  where
-    is-base : n ≡ 0 → isSymbol dna b ≡ true
-    is-base z =
-        let o = one-of b (bytes "acgtn") (rw (e, f, g, h, k) at is) z in
-        ap (isSymbol dna) (o .2) ∙ all-at (isSymbol dna) (bytes "acgtn") (o .0) (o .1) (refl, (refl, (refl, (refl, (refl, tt)))))
-
-    of-base : isSymbol dna b ≡ true → OfClass 1 b
-    of-base y dna c = y
-    of-base y rna c = y
-    of-base y aa c = absurd (omega (arith, c))
-
-pub amino-among : {b : ℕ} → 65 ≤ b → b ≤ 90 → OfClass 2 b
-amino-among l h dna k = absurd (omega (arith, k))
-amino-among l h rna k = absurd (omega (arith, k))
-amino-among l h aa k = simp (le-leb _ _ l, le-leb _ _ h)
 
 -- a character whose first byte is a symbol is that symbol
 of-first : (k : Rules.Kind) (b : ℕ) (r : List ℕ) → isSymbol k (getD (spell b ++ r) 0 0) ≡ true → isSymbol k b ≡ true
@@ -143,14 +143,19 @@ module _ (w : List ℕ) (class : ℕ) where
     pub of-none : ¬ (getD t (getD w i 0) 0 ≡ class) → (k : Rules.Kind) → class ≡ symbolClass k → isSymbol k (getD w i 0) ≡ false
     of-none n k q = sym (told k q) ∙ ne-eqb (getD t (getD w i 0) 0) class n
 
+  pub reach-join : {i j n : ℕ} → Reach w class i j → Reach w class j n → Reach w class i n
+  reach-join {i} {j} {n} a b =
+      record { onward = omega (arith, a .onward, b .onward); inside = b .inside; each = between-join i j n (a .each) (b .each) }
+
   -- what was passed from the front on, and where the search then stopped
-  pub first-foreign : {i end r : ℕ} → Between w class 0 i → Foreign w class i end r → r ≤ length w → (r < length w → r < end) → Symbols w class r
-  first-foreign {i} {end} {r} a f p q =
+  pub first-foreign : {i r : ℕ} → Reach w class 0 i → Foreign w class i r → Symbols w class r
+  first-foreign {i} {r} a f =
+      let front = reach-join a (f .reach) in
       record {
-        within = p;
+        within = front .inside;
         says =
             λ k e v z.
-            stops-there k v r (omega (arith, p, ap length z))
-            (λ j l. ap (λ (u : List ℕ). isSymbol k (getD u j 0)) (sym z) ∙ between-join 0 i r a (f .each) j (omega arith) l k e)
-            (λ l. ap (λ (u : List ℕ). isSymbol k (getD u r 0)) (sym z) ∙ f .there (q (omega (arith, l, ap length z))) k e);
+            stops-there k v r (omega (arith, front .inside, ap length z))
+            (λ j l. ap (λ (u : List ℕ). isSymbol k (getD u j 0)) (sym z) ∙ front .each j (omega arith) l k e)
+            (λ l. ap (λ (u : List ℕ). isSymbol k (getD u r 0)) (sym z) ∙ f .there (omega (arith, l, ap length z)) k e);
       }

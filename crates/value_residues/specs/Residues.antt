@@ -2,10 +2,10 @@
 use Prim.Native.Nat.{ℕ, _+_, _≤_, _<_}
 use Prim.Native.Char.{code}
 use mathlib.Core.Path.{_≡_}
-use mathlib.Core.Bool.{Bool, true, false, not}
+use mathlib.Core.Bool.{Bool, true, false, not, _&&_}
 use mathlib.Core.List.{List, [], _∷_}
 use lib.ListN.{length, drop, getD}
-use lib.Dec.{eqb}
+use lib.Dec.{eqb, leb}
 use Rattle.paper.specs.Bytes.{spell, raw, leading}
 use Rattle.paper.specs.Lists.{Count}
 use Rattle.paper.specs.Rules.{dna, rna, aa, isSymbol}
@@ -70,6 +70,10 @@ pub record SymbolTable (t : List ℕ) : Type 0 where
 abbrev pub OfClass : ℕ → ℕ → Type 0
 OfClass class b = (k : Rules.Kind) → class ≡ symbolClass k → isSymbol k b ≡ true
 
+-- b is one of the bytes from one to another
+abbrev pub inRun : ℕ → ℕ → ℕ → Bool
+inRun first last b = leb first b && leb b last
+
 pub record Strange (b class r : ℕ) : Type 0 where
   pub none : r ≡ 0 → OfClass class b
 
@@ -80,11 +84,14 @@ Between w class from to = (i : ℕ) → from ≤ i → i < to → OfClass class 
 pub record Block (w : List ℕ) (class at r : ℕ) : Type 0 where
   pub none : r ≡ 0 → Between w class at (at + 64)
 
-pub record Foreign (w : List ℕ) (class from end r : ℕ) : Type 0 where
+pub record Reach (w : List ℕ) (class from r : ℕ) : Type 0 where
   pub onward : from ≤ r
-  pub inside : r ≤ end
+  pub inside : r ≤ length w
   pub each : Between w class from r
-  pub there : r < end → (k : Rules.Kind) → class ≡ symbolClass k → isSymbol k (getD w r 0) ≡ false
+
+pub record Foreign (w : List ℕ) (class from r : ℕ) : Type 0 where
+  pub reach : Reach w class from r
+  pub there : r < length w → (k : Rules.Kind) → class ≡ symbolClass k → isSymbol k (getD w r 0) ≡ false
 
 -- r bytes are written before the first residue that is no symbol of the kind
 pub record Symbols (w : List ℕ) (class r : ℕ) : Type 0 where

@@ -4,7 +4,9 @@
 use read_bytes::equal;
 ghost use Prim.Native.Nat.{_+_, _≤_, _<_};
 ghost use lib.ListN.{length};
-ghost use Rattle.value_residues.specs.Residues.{NextCharacter, SameOf64, Passes, Others, Characters, HasDefined, SymbolTable, Symbols, Strange, Block, Foreign};
+ghost use mathlib.Core.Path.{_≡_};
+ghost use Rattle.read_bytes.specs.Numbers.{flag};
+ghost use Rattle.value_residues.specs.Residues.{NextCharacter, SameOf64, Passes, Others, Characters, HasDefined, SymbolTable, Symbols, inRun, Strange, Block, Reach, Foreign};
 
 // Some characters, counted: those that begin with another byte than a given one, and where the next character starts.
 struct Passed {
@@ -127,6 +129,16 @@ pub fn has_defined(w: &[u8], undefined: u8, enough: usize) -> bool
     enough <= others(w, undefined, enough)
 }
 
+// 1 for a byte from one letter to another, else 0.
+fn within(b: u8, first: u8, last: u8) -> u8
+    ensures { λ r. ⌜ r ≡ flag (inRun first last b) ⌝ }
+{
+    if b < first {
+        return 0;
+    }
+    if last < b { 0 } else { 1 }
+}
+
 // 0 only for the bases and `n`, which most residues are.
 fn no_base(b: u8) -> u8
     ensures { λ r. ⌜ Strange b 1 r ⌝ }
@@ -137,52 +149,83 @@ fn no_base(b: u8) -> u8
     )
 }
 
+// 0 only for the symbols of DNA and RNA, which are seven runs of the alphabet.
+fn no_nucleotide(b: u8) -> u8
+    ensures { λ r. ⌜ Strange b 1 r ⌝ }
+{
+    equal(
+        within(b, b'a', b'd')
+            | within(b, b'g', b'h')
+            | equal(b, b'k')
+            | within(b, b'm', b'n')
+            | within(b, b'r', b't')
+            | within(b, b'v', b'w')
+            | equal(b, b'y'),
+        0,
+    )
+}
+
 // 0 only for the symbols of AA.
 fn no_amino(b: u8) -> u8
     ensures { λ r. ⌜ Strange b 2 r ⌝ }
 {
-    if b < b'A' {
-        return 1;
-    }
-    if b'Z' < b { 1 } else { 0 }
+    equal(within(b, b'A', b'Z'), 0)
 }
 
-// 0 only for symbols of the class.
-fn strange(b: u8, class: u8) -> u8
+// 0 only for symbols of the class; the rarer ones of DNA and RNA are told only where that is asked.
+fn strange(b: u8, class: u8, rarer: bool) -> u8
     ensures { λ r. ⌜ Strange b class r ⌝ }
 {
-    if class == 1 {
-        return no_base(b);
-    }
     if class == 2 {
         return no_amino(b);
     }
-    1
+    if class != 1 {
+        return 1;
+    }
+    if rarer {
+        return no_nucleotide(b);
+    }
+    no_base(b)
 }
 
 // 0 only where 64 bytes are symbols of the class. Joined with no branch, and not summed: it is compiled to vector code.
-fn block(w: &[u8], at: usize, class: u8) -> u8
+fn block(w: &[u8], at: usize, class: u8, rarer: bool) -> u8
     requires { ⌜ at + 64 ≤ length (now w) ⌝ }
     ensures { λ r. ⌜ Block (now (w .entry)) class at r ⌝ }
 {
     let mut bad: u8 = 0;
     let mut j: usize = 0;
     while j < 64 {
-        bad = bad | strange(w[at + j], class);
+        bad = bad | strange(w[at + j], class, rarer);
         j += 1;
     }
     bad
 }
 
-// The first byte from `from` on, before `end`, that is no symbol of the class.
-fn foreign(w: &[u8], from: usize, end: usize, class: u8, t: &[u8; 256]) -> usize
+// How far blocks of symbols reach from `from` on, before `end`.
+fn reach(w: &[u8], from: usize, end: usize, class: u8, rarer: bool) -> usize
     requires { ⌜ end ≤ length (now w) ⌝ }
     requires { ⌜ from ≤ end ⌝ }
-    requires { ⌜ SymbolTable (now t) ⌝ }
-    ensures { λ r. ⌜ Foreign (now (w .entry)) class from end r ⌝ }
+    ensures { λ r. ⌜ Reach (now (w .entry)) class from r ⌝ }
 {
     let mut i = from;
-    while i < end {
+    while 64 <= end - i {
+        if block(w, i, class, rarer) != 0 {
+            return i;
+        }
+        i += 64;
+    }
+    i
+}
+
+// The first byte from `from` on that is no symbol of the class, by the table.
+fn foreign(w: &[u8], from: usize, class: u8, t: &[u8; 256]) -> usize
+    requires { ⌜ from ≤ length (now w) ⌝ }
+    requires { ⌜ SymbolTable (now t) ⌝ }
+    ensures { λ r. ⌜ Foreign (now (w .entry)) class from r ⌝ }
+{
+    let mut i = from;
+    while i < w.len() {
         if t[w[i] as usize] != class {
             return i;
         }
@@ -191,21 +234,23 @@ fn foreign(w: &[u8], from: usize, end: usize, class: u8, t: &[u8; 256]) -> usize
     i
 }
 
-// How many bytes are written before the first residue that is no symbol of the class: by blocks, and by the table where a block has a
-// rarer symbol.
+// How many bytes are written before the first residue that is no symbol of the class: by blocks of the common symbols; where one fails
+// by some blocks of all symbols, for rarer ones seldom come alone; and by the table where such a block fails too.
 pub fn symbols(w: &[u8], class: u8, t: &[u8; 256]) -> usize
     requires { ⌜ SymbolTable (now t) ⌝ }
     ensures { λ r. ⌜ Symbols (now (w .entry)) class r ⌝ }
 {
     let mut i: usize = 0;
-    while 64 <= w.len() - i {
-        if block(w, i, class) != 0 {
-            let r = foreign(w, i, i + 64, class, t);
-            if r < i + 64 {
-                return r;
-            }
+    loop {
+        let at = reach(w, i, w.len(), class, false);
+        let near = if 512 <= w.len() - at {
+            at + 512
+        } else {
+            w.len()
+        };
+        i = reach(w, at, near, class, true);
+        if i == at {
+            return foreign(w, at, class, t);
         }
-        i += 64;
     }
-    foreign(w, i, w.len(), class, t)
 }

@@ -11,10 +11,10 @@ use Rattle.value_residues.proofs.block.Statement.{statement}
 use Rattle.value_residues.proofs.block.Tie as tie
 
 abbrev Inv-loop : tie.InvT-loop
-Inv-loop w at class bad₀ j₀ bad j = (j ≤ 64) × (bad ≡ 0 → Between w class at (at + j))
+Inv-loop w at class rarer bad₀ j₀ bad j = (j ≤ 64) × (bad ≡ 0 → Between w class at (at + j))
 
 abbrev μ-loop : tie.MeasureT-loop
-μ-loop w at class bad₀ j₀ bad j = 64 - j
+μ-loop w at class rarer bad₀ j₀ bad j = 64 - j
 
 loop-holds : tie.Need-loop-holds Inv-loop μ-loop
 loop-holds c = (omega arith, λ h i l m. absurd (omega arith))

@@ -1,8 +1,19 @@
--- `value_residues::no_base` meets its contract.
-use Rattle.value_residues.proofs.Residues.{base-among}
+-- `value_residues::no_base` meets its contract: by a test of all bytes.
+use Rattle.value_residues.proofs.Residues.{passes-symbols}
+use Rattle.read_bytes.specs.Numbers.{flag}
+use lib.Bits.{bitOr}
+use lib.Dec.{eqb}
+use native.Mathlib.Omega.{arith}
+use mathlib.Core.Path.{refl}
+use Prim.Native.Nat.{ℕ}
 use borrow.Author.Needs.{needs}
 use Rattle.value_residues.proofs.no_base.Statement.{statement}
 use Rattle.value_residues.proofs.no_base.Tie as tie
+
+-- what it says of a byte
+abbrev test : ℕ → ℕ
+test b =
+    flag (eqb (bitOr (bitOr (bitOr (bitOr (flag (eqb b 97)) (flag (eqb b 99))) (flag (eqb b 103))) (flag (eqb b 116))) (flag (eqb b 110))) 0)
 
 equal-requires : tie.Need-equal-requires
 equal-requires c κs = search needs
@@ -24,10 +35,9 @@ equal-requires-6 c κs = search needs
 
 returns : tie.Need-returns
 returns c =
-    let args = c .before .before .before .before .before .before .args in
     let equal = c .before .before .before .before .before .equal in
-    base-among (args .b) (equal .ensures) (c .before .before .before .before .equal2 .ensures)
-    (c .before .before .before .equal3 .ensures) (c .before .before .equal4 .ensures) (c .before .equal5 .ensures) (c .equal6 .ensures)
+    passes-symbols 1 test refl (omega arith)
+    (rw (equal .ensures, c .before .before .before .before .equal2 .ensures, c .before .before .before .equal3 .ensures, c .before .before .equal4 .ensures, c .before .equal5 .ensures) at (c .equal6 .ensures))
 
 pub no-base-spec : {M : Type 1} → statement M
 no-base-spec =

@@ -1,74 +1,55 @@
 -- `value_residues::symbols` meets its contract. The loop's invariant: each byte passed is a symbol of the class. The measure is what is
 -- left.
-use Rattle.value_residues.proofs.Residues.{between-none, between-join, first-foreign}
-use Rattle.value_residues.specs.Residues.{Between}
+use Rattle.value_residues.proofs.Residues.{between-none, reach-join, first-foreign}
+use Rattle.value_residues.specs.Residues.{Reach}
 use lib.ListN.{length}
 use mathlib.Core.Logic.{⊎-elim}
-use mathlib.Core.Path.{subst}
 use native.Mathlib.Omega.{arith}
-use Prim.Native.Nat.{_+_, _-_, _≤_}
+use Prim.Native.Nat.{_-_}
 use borrow.Author.Needs.{needs}
 use Rattle.value_residues.proofs.symbols.Statement.{statement}
 use Rattle.value_residues.proofs.symbols.Tie as tie
 
 abbrev Inv-loop : tie.InvT-loop
-Inv-loop w class t i₀ i = (i ≤ length w) × Between w class 0 i
+Inv-loop w class t i₀ i = Reach w class 0 i
 
 abbrev μ-loop : tie.MeasureT-loop
 μ-loop w class t i₀ i = length w - i
 
 loop-holds : tie.Need-loop-holds Inv-loop μ-loop
-loop-holds c = (omega arith, between-none (c .before .args .w .now) (c .before .args .class) 0)
+loop-holds c = record { onward = omega arith; inside = omega arith; each = between-none (c .before .args .w .now) (c .before .args .class) 0 }
 
-sub-loop : tie.Need-sub-loop Inv-loop μ-loop
-sub-loop c = search needs
+reach-requires : tie.Need-reach-requires Inv-loop μ-loop
+reach-requires c κs = search needs
 
-block-requires : tie.Need-block-requires Inv-loop μ-loop
-block-requires c κs = search needs
+sub-if1 : tie.Need-sub-if1 Inv-loop μ-loop
+sub-if1 c = search needs
 
-add-foreign : tie.Need-add-foreign Inv-loop μ-loop
-add-foreign c = search needs
+add-near : tie.Need-add-near Inv-loop μ-loop
+add-near c = search needs
+
+reach-requires-2 : tie.Need-reach-requires-2 Inv-loop μ-loop
+reach-requires-2 c κs = ⊎-elim (λ x. (omega (arith, x), omega (arith, x))) (λ x. (omega (arith, x), omega (arith, x))) (c .if1 .came)
 
 foreign-requires : tie.Need-foreign-requires Inv-loop μ-loop
-foreign-requires c κs =
-    let pre' = c .before .before .before .before .before .pre in
-    (omega arith, (omega arith, pre'))
-
-add-if2 : tie.Need-add-if2 Inv-loop μ-loop
-add-if2 c = search needs
+foreign-requires c κs = search needs
 
 returns : tie.Need-returns Inv-loop μ-loop
 returns c =
+    let args = c .before .before .before .before .before .before .before .args in
     let loop' = c .before .before .before .before .before .loop in
-    let a = c .before .before .before .before .before .before .before .args in
-    let f = c .before .foreign .ensures in
-    first-foreign (a .w .now) (a .class) (loop' .inv .1) f (omega (arith, f .inside)) (λ h. omega arith)
-
-add-i : tie.Need-add-i Inv-loop μ-loop
-add-i c = search needs
+    first-foreign (args .w .now) (args .class)
+    (reach-join (args .w .now) (args .class) (loop' .inv) (c .before .before .before .before .reach .ensures)) (c .foreign .ensures)
 
 loop-less : tie.Need-loop-less Inv-loop μ-loop
-loop-less c = omega arith
+loop-less c =
+    omega
+    (arith, c .before .before .before .reach .ensures .onward, c .before .reach2 .ensures .onward, c .before .reach2 .ensures .inside, c .if2 .left)
 
 loop-again : tie.Need-loop-again Inv-loop μ-loop
 loop-again c =
-    let l = c .before .before .before .loop in
-    let a = c .before .before .before .before .before .args in (
-      omega arith,
-      between-join (a .w .now) (a .class) 0 (l .i) (l .i + 64) (l .inv .1)
-          (⊎-elim
-          (λ x. subst (Between (a .w .now) (a .class) (l .i)) (omega (arith, x .1 .ensures .inside)) (x .1 .ensures .each))
-          (λ x. c .before .block .ensures .none (omega arith)) (c .if1 .came)),
-    )
-
-foreign-requires-2 : tie.Need-foreign-requires-2 Inv-loop μ-loop
-foreign-requires-2 c κs = (omega arith, (omega arith, c .before .before .before .pre))
-
-returns-2 : tie.Need-returns-2 Inv-loop μ-loop
-returns-2 c =
-    let a = c .before .before .before .before .args in
-    let f = c .foreign2 .ensures in
-    first-foreign (a .w .now) (a .class) (c .before .before .loop .inv .1) f (f .inside) (λ h. h)
+    let a = c .before .before .before .before .before .before .args in
+    reach-join (a .w .now) (a .class) (reach-join (a .w .now) (a .class) (c .before .before .before .before .loop .inv) (c .before .before .before .reach .ensures)) (c .before .reach2 .ensures)
 
 pub symbols-spec : {M : Type 1} → statement M
 symbols-spec =
@@ -77,14 +58,11 @@ symbols-spec =
     Inv-loop
     μ-loop
     loop-holds
-    sub-loop
-    block-requires
-    add-foreign
+    reach-requires
+    sub-if1
+    add-near
+    reach-requires-2
     foreign-requires
-    add-if2
     returns
-    add-i
     loop-less
-    loop-again
-    foreign-requires-2
-    returns-2)
+    loop-again)
