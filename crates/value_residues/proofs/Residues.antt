@@ -40,17 +40,22 @@ of-symbol class b y dna e = subst (λ (c : ℕ). symbolOf c b ≡ true) e y
 of-symbol class b y rna e = subst (λ (c : ℕ). symbolOf c b ≡ true) e y
 of-symbol class b y aa e = subst (λ (c : ℕ). symbolOf c b ≡ true) e y
 
--- what a test f passes are symbols of the class, if that holds for all 256 bytes: one equation that antt computes
-pub passes-symbols : (class : ℕ) (f : ℕ → ℕ)
-    → listed (λ (b : ℕ). eqb (f b) 0 && symbolOf class b) 0 256 ≡ listed (λ (b : ℕ). eqb (f b) 0) 0 256
-    → {b n : ℕ} → b < 256 → n ≡ f b → Strange b class n
-passes-symbols class f same {b} {n} h e =
-    record {
-      none = λ z.
-          let passed = eq-eqb (f b) 0 (sym e ∙ z) in
-          of-symbol class b
-          (ap (λ (x : Bool). x && symbolOf class b) (sym passed) ∙ each-same (λ (b : ℕ). eqb (f b) 0 && symbolOf class b) (λ (b : ℕ). eqb (f b) 0) 256 same b h ∙ passed);
-    }
+module _ (class : ℕ) (f : ℕ → ℕ) where
+  -- a byte that the test f passes; and one of them that is a symbol
+  abbrev taken : ℕ → Bool
+  taken b = eqb (f b) 0
+
+  abbrev rightly : ℕ → Bool
+  rightly b = taken b && symbolOf class b
+
+  -- all that it passes are symbols of the class, by one equation over all bytes that antt computes
+  pub passes-symbols : listed rightly 0 256 ≡ listed taken 0 256 → {b n : ℕ} → b < 256 → n ≡ f b → Strange b class n
+  passes-symbols same {b} h e =
+      record {
+        none = λ z.
+            let t = eq-eqb (f b) 0 (sym e ∙ z) in
+            of-symbol class b (ap (λ (x : Bool). x && symbolOf class b) (sym t) ∙ each-same rightly taken 256 same b h ∙ t);
+      }
 
 -- ---- the walk
 
@@ -115,7 +120,7 @@ module _ (k : Rules.Kind) (v : List ℕ) where
       )
 
 module _ (w : List ℕ) (class : ℕ) where
-  pub between-none : (i : ℕ) → Between w class i i
+  between-none : (i : ℕ) → Between w class i i
   between-none i j h l = absurd (omega arith)
 
   pub between-more : (i j : ℕ) → Between w class i j → OfClass class (getD w j 0) → Between w class i (j + 1)
@@ -125,7 +130,7 @@ module _ (w : List ℕ) (class : ℕ) where
       cases (yes q) = subst (λ (n : ℕ). OfClass class (getD w n 0)) (omega arith) o
       cases (no q) = b m h (omega arith)
 
-  pub between-join : (i j n : ℕ) → Between w class i j → Between w class j n → Between w class i n
+  between-join : (i j n : ℕ) → Between w class i j → Between w class j n → Between w class i n
   between-join i j n a b m h l = cases (decLe j m)
     where
       cases : Dec (j ≤ m) → OfClass class (getD w m 0)
@@ -143,9 +148,14 @@ module _ (w : List ℕ) (class : ℕ) where
     pub of-none : ¬ (getD t (getD w i 0) 0 ≡ class) → (k : Rules.Kind) → class ≡ symbolClass k → isSymbol k (getD w i 0) ≡ false
     of-none n k q = sym (told k q) ∙ ne-eqb (getD t (getD w i 0) 0) class n
 
+  pub reach-none : (i : ℕ) → i ≤ length w → Reach w class i i
+  reach-none i h = record { onward = omega arith; inside = h; each = between-none i }
+
+  pub reach-on : {i j n : ℕ} → Reach w class i j → j ≤ n → n ≤ length w → Between w class j n → Reach w class i n
+  reach-on {i} {j} {n} a h l b = record { onward = omega (arith, a .onward, h); inside = l; each = between-join i j n (a .each) b }
+
   pub reach-join : {i j n : ℕ} → Reach w class i j → Reach w class j n → Reach w class i n
-  reach-join {i} {j} {n} a b =
-      record { onward = omega (arith, a .onward, b .onward); inside = b .inside; each = between-join i j n (a .each) (b .each) }
+  reach-join a b = reach-on a (b .onward) (b .inside) (b .each)
 
   -- what was passed from the front on, and where the search then stopped
   pub first-foreign : {i r : ℕ} → Reach w class 0 i → Foreign w class i r → Symbols w class r

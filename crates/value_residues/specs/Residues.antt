@@ -2,10 +2,10 @@
 use Prim.Native.Nat.{ℕ, _+_, _≤_, _<_}
 use Prim.Native.Char.{code}
 use mathlib.Core.Path.{_≡_}
-use mathlib.Core.Bool.{Bool, true, false, not, _&&_}
+use mathlib.Core.Bool.{Bool, true, false, not, _||_}
 use mathlib.Core.List.{List, [], _∷_}
 use lib.ListN.{length, drop, getD}
-use lib.Dec.{eqb, leb}
+use lib.Dec.{eqb, ltb}
 use Rattle.paper.specs.Bytes.{spell, raw, leading}
 use Rattle.paper.specs.Lists.{Count}
 use Rattle.paper.specs.Rules.{dna, rna, aa, isSymbol}
@@ -70,9 +70,9 @@ pub record SymbolTable (t : List ℕ) : Type 0 where
 abbrev pub OfClass : ℕ → ℕ → Type 0
 OfClass class b = (k : Rules.Kind) → class ≡ symbolClass k → isSymbol k b ≡ true
 
--- b is one of the bytes from one to another
-abbrev pub inRun : ℕ → ℕ → ℕ → Bool
-inRun first last b = leb first b && leb b last
+-- b is none of the bytes from one to another
+abbrev pub isOutside : ℕ → ℕ → ℕ → Bool
+isOutside first last b = ltb b first || ltb last b
 
 pub record Strange (b class r : ℕ) : Type 0 where
   pub none : r ≡ 0 → OfClass class b

@@ -2,11 +2,12 @@
 // them are defined. Relies on the paper, on read_bytes, and on the laws of value_words: what a test tells, and what is written as it
 // reads. It calls none of the functions of value_words.
 use read_bytes::equal;
+use std::num::wrapping_add_u8;
 ghost use Prim.Native.Nat.{_+_, _≤_, _<_};
 ghost use lib.ListN.{length};
 ghost use mathlib.Core.Path.{_≡_};
 ghost use Rattle.read_bytes.specs.Numbers.{flag};
-ghost use Rattle.value_residues.specs.Residues.{NextCharacter, SameOf64, Passes, Others, Characters, HasDefined, SymbolTable, Symbols, inRun, Strange, Block, Reach, Foreign};
+ghost use Rattle.value_residues.specs.Residues.{NextCharacter, SameOf64, Passes, Others, Characters, HasDefined, SymbolTable, Symbols, isOutside, Strange, Block, Reach, Foreign};
 
 // Some characters, counted: those that begin with another byte than a given one, and where the next character starts.
 struct Passed {
@@ -129,14 +130,14 @@ pub fn has_defined(w: &[u8], undefined: u8, enough: usize) -> bool
     enough <= others(w, undefined, enough)
 }
 
-// 1 for a byte from one letter to another, else 0.
-fn within(b: u8, first: u8, last: u8) -> u8
-    ensures { λ r. ⌜ r ≡ flag (inRun first last b) ⌝ }
+// 0 for a byte from one letter to another, else 1.
+fn outside(b: u8, first: u8, last: u8) -> u8
+    ensures { λ r. ⌜ r ≡ flag (isOutside first last b) ⌝ }
 {
     if b < first {
-        return 0;
+        return 1;
     }
-    if last < b { 0 } else { 1 }
+    if last < b { 1 } else { 0 }
 }
 
 // 0 only for the bases and `n`, which most residues are.
@@ -149,27 +150,22 @@ fn no_base(b: u8) -> u8
     )
 }
 
-// 0 only for the symbols of DNA and RNA, which are seven runs of the alphabet.
+// 0 only for the symbols of DNA and RNA: from `a` to `y` all but ten letters. `q` and `u` differ in one bit, so do `p` and `x`, and the
+// letters three behind `e`, `f`, `i` and `j` in two: one comparison rules out all that differ so.
 fn no_nucleotide(b: u8) -> u8
     ensures { λ r. ⌜ Strange b 1 r ⌝ }
 {
-    equal(
-        within(b, b'a', b'd')
-            | within(b, b'g', b'h')
-            | equal(b, b'k')
-            | within(b, b'm', b'n')
-            | within(b, b'r', b't')
-            | within(b, b'v', b'w')
-            | equal(b, b'y'),
-        0,
-    )
+    let efij = equal(wrapping_add_u8(b, 3) & 0xfa, b'h');
+    let qu = equal(b & 0xfb, b'q');
+    let px = equal(b & 0xf7, b'p');
+    outside(b, b'a', b'y') | efij | qu | px | equal(b, b'l') | equal(b, b'o')
 }
 
 // 0 only for the symbols of AA.
 fn no_amino(b: u8) -> u8
     ensures { λ r. ⌜ Strange b 2 r ⌝ }
 {
-    equal(within(b, b'A', b'Z'), 0)
+    outside(b, b'A', b'Z')
 }
 
 // 0 only for symbols of the class; the rarer ones of DNA and RNA are told only where that is asked.
@@ -235,7 +231,7 @@ fn foreign(w: &[u8], from: usize, class: u8, t: &[u8; 256]) -> usize
 }
 
 // How many bytes are written before the first residue that is no symbol of the class: by blocks of the common symbols; where one fails
-// by some blocks of all symbols, for rarer ones seldom come alone; and by the table where such a block fails too.
+// by some blocks of all symbols, for a rarer one seldom comes alone; by the table where such a block fails too, and for what is left.
 pub fn symbols(w: &[u8], class: u8, t: &[u8; 256]) -> usize
     requires { ⌜ SymbolTable (now t) ⌝ }
     ensures { λ r. ⌜ Symbols (now (w .entry)) class r ⌝ }
@@ -243,8 +239,8 @@ pub fn symbols(w: &[u8], class: u8, t: &[u8; 256]) -> usize
     let mut i: usize = 0;
     loop {
         let at = reach(w, i, w.len(), class, false);
-        let near = if 512 <= w.len() - at {
-            at + 512
+        let near = if 256 <= w.len() - at {
+            at + 256
         } else {
             w.len()
         };

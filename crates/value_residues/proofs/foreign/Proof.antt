@@ -1,6 +1,6 @@
 -- `value_residues::foreign` meets its contract. The loop's invariant: each byte passed is a symbol of the class. The measure is what is
 -- left.
-use Rattle.value_residues.proofs.Residues.{between-none, between-more, of-class, of-none}
+use Rattle.value_residues.proofs.Residues.{reach-none, between-more, of-class, of-none}
 use Rattle.value_residues.specs.Residues.{Reach}
 use lib.ListN.{length}
 use native.Mathlib.Omega.{arith}
@@ -16,7 +16,7 @@ abbrev μ-loop : tie.MeasureT-loop
 μ-loop w from class t i₀ i = length w - i
 
 loop-holds : tie.Need-loop-holds Inv-loop μ-loop
-loop-holds c = record { onward = omega arith; inside = omega arith; each = between-none (c .args .w .now) (c .args .class) (c .args .from) }
+loop-holds c = reach-none (c .args .w .now) (c .args .class) (c .args .from) (omega arith)
 
 shared-slice-read-if1 : tie.Need-shared-slice-read-if1 Inv-loop μ-loop
 shared-slice-read-if1 c = search needs

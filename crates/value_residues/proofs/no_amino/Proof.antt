@@ -1,8 +1,7 @@
 -- `value_residues::no_amino` meets its contract: by a test of all bytes.
 use Rattle.value_residues.proofs.Residues.{passes-symbols}
-use Rattle.value_residues.specs.Residues.{inRun}
+use Rattle.value_residues.specs.Residues.{isOutside}
 use Rattle.read_bytes.specs.Numbers.{flag}
-use lib.Dec.{eqb}
 use native.Mathlib.Omega.{arith}
 use mathlib.Core.Path.{refl}
 use Prim.Native.Nat.{ℕ}
@@ -10,18 +9,11 @@ use borrow.Author.Needs.{needs}
 use Rattle.value_residues.proofs.no_amino.Statement.{statement}
 use Rattle.value_residues.proofs.no_amino.Tie as tie
 
--- what it says of a byte
-abbrev test : ℕ → ℕ
-test b = flag (eqb (flag (inRun 65 90 b)) 0)
-
-within-requires : tie.Need-within-requires
-within-requires c κs = search needs
-
-equal-requires : tie.Need-equal-requires
-equal-requires c κs = search needs
+outside-requires : tie.Need-outside-requires
+outside-requires c κs = search needs
 
 returns : tie.Need-returns
-returns c = passes-symbols 2 test refl (omega arith) (rw (c .before .within .ensures) at (c .equal .ensures))
+returns c = passes-symbols 2 (λ (b : ℕ). flag (isOutside 65 90 b)) refl (omega arith) (c .outside .ensures)
 
 pub no-amino-spec : {M : Type 1} → statement M
-no-amino-spec = tie.close (tie.spec within-requires equal-requires returns)
+no-amino-spec = tie.close (tie.spec outside-requires returns)

@@ -13,7 +13,8 @@ use Rattle.value_residues.proofs.no_base.Tie as tie
 -- what it says of a byte
 abbrev test : ℕ → ℕ
 test b =
-    flag (eqb (bitOr (bitOr (bitOr (bitOr (flag (eqb b 97)) (flag (eqb b 99))) (flag (eqb b 103))) (flag (eqb b 116))) (flag (eqb b 110))) 0)
+    let bases = bitOr (bitOr (bitOr (flag (eqb b 97)) (flag (eqb b 99))) (flag (eqb b 103))) (flag (eqb b 116)) in
+    flag (eqb (bitOr bases (flag (eqb b 110))) 0)
 
 equal-requires : tie.Need-equal-requires
 equal-requires c κs = search needs
@@ -35,9 +36,12 @@ equal-requires-6 c κs = search needs
 
 returns : tie.Need-returns
 returns c =
-    let equal = c .before .before .before .before .before .equal in
-    passes-symbols 1 test refl (omega arith)
-    (rw (equal .ensures, c .before .before .before .before .equal2 .ensures, c .before .before .before .equal3 .ensures, c .before .before .equal4 .ensures, c .before .equal5 .ensures) at (c .equal6 .ensures))
+    let a = c .before .before .before .before .before .equal .ensures in
+    let c' = c .before .before .before .before .equal2 .ensures in
+    let g = c .before .before .before .equal3 .ensures in
+    let t = c .before .before .equal4 .ensures in
+    let n = c .before .equal5 .ensures in
+    passes-symbols 1 test refl (omega arith) (rw (a, c', g, t, n) at (c .equal6 .ensures))
 
 pub no-base-spec : {M : Type 1} → statement M
 no-base-spec =

@@ -1,6 +1,6 @@
 -- `value_residues::reach` meets its contract. The loop's invariant: each byte passed is a symbol of the class. The measure is what is
 -- left.
-use Rattle.value_residues.proofs.Residues.{between-none, between-join}
+use Rattle.value_residues.proofs.Residues.{reach-none, reach-on}
 use Rattle.value_residues.specs.Residues.{Reach}
 use native.Mathlib.Omega.{arith}
 use Prim.Native.Nat.{_+_, _-_, _≤_}
@@ -15,7 +15,7 @@ abbrev μ-loop : tie.MeasureT-loop
 μ-loop w from end class rarer i₀ i = end - i
 
 loop-holds : tie.Need-loop-holds Inv-loop μ-loop
-loop-holds c = (omega arith, record { onward = omega arith; inside = omega arith; each = between-none (c .before .args .w .now) (c .before .args .class) (c .before .args .from) })
+loop-holds c = (omega arith, reach-none (c .before .args .w .now) (c .before .args .class) (c .before .args .from) (omega arith))
 
 sub-loop : tie.Need-sub-loop Inv-loop μ-loop
 sub-loop c = search needs
@@ -35,14 +35,8 @@ loop-less c = omega arith
 loop-again : tie.Need-loop-again Inv-loop μ-loop
 loop-again c =
     let a = c .before .before .before .before .before .args in
-    let l = c .before .before .before .loop in (
-      omega arith,
-      record {
-        onward = omega (arith, l .inv .1 .onward);
-        inside = omega arith;
-        each = between-join (a .w .now) (a .class) (a .from) (l .i) (l .i + 64) (l .inv .1 .each) (c .before .block .ensures .none (omega arith));
-      },
-    )
+    let l = c .before .before .before .loop in
+    (omega arith, reach-on (a .w .now) (a .class) (l .inv .1) (omega arith) (omega arith) (c .before .block .ensures .none (omega arith)))
 
 returns-2 : tie.Need-returns-2 Inv-loop μ-loop
 returns-2 c = c .before .loop .inv .1

@@ -1,6 +1,6 @@
 -- `value_residues::symbols` meets its contract. The loop's invariant: each byte passed is a symbol of the class. The measure is what is
 -- left.
-use Rattle.value_residues.proofs.Residues.{between-none, reach-join, first-foreign}
+use Rattle.value_residues.proofs.Residues.{reach-none, reach-join, first-foreign}
 use Rattle.value_residues.specs.Residues.{Reach}
 use lib.ListN.{length}
 use mathlib.Core.Logic.{⊎-elim}
@@ -17,7 +17,7 @@ abbrev μ-loop : tie.MeasureT-loop
 μ-loop w class t i₀ i = length w - i
 
 loop-holds : tie.Need-loop-holds Inv-loop μ-loop
-loop-holds c = record { onward = omega arith; inside = omega arith; each = between-none (c .before .args .w .now) (c .before .args .class) 0 }
+loop-holds c = reach-none (c .before .args .w .now) (c .before .args .class) 0 (omega arith)
 
 reach-requires : tie.Need-reach-requires Inv-loop μ-loop
 reach-requires c κs = search needs
@@ -43,13 +43,16 @@ returns c =
 
 loop-less : tie.Need-loop-less Inv-loop μ-loop
 loop-less c =
-    omega
-    (arith, c .before .before .before .reach .ensures .onward, c .before .reach2 .ensures .onward, c .before .reach2 .ensures .inside, c .if2 .left)
+    let common = c .before .before .before .reach .ensures in
+    let all = c .before .reach2 .ensures in
+    omega (arith, common .onward, all .onward, all .inside, c .if2 .left)
 
 loop-again : tie.Need-loop-again Inv-loop μ-loop
 loop-again c =
     let a = c .before .before .before .before .before .before .args in
-    reach-join (a .w .now) (a .class) (reach-join (a .w .now) (a .class) (c .before .before .before .before .loop .inv) (c .before .before .before .reach .ensures)) (c .before .reach2 .ensures)
+    let common = c .before .before .before .reach .ensures in
+    let all = c .before .reach2 .ensures in
+    reach-join (a .w .now) (a .class) (reach-join (a .w .now) (a .class) (c .before .before .before .before .loop .inv) common) all
 
 pub symbols-spec : {M : Type 1} → statement M
 symbols-spec =
