@@ -40,22 +40,22 @@ of-symbol class b y dna e = subst (λ (c : ℕ). symbolOf c b ≡ true) e y
 of-symbol class b y rna e = subst (λ (c : ℕ). symbolOf c b ≡ true) e y
 of-symbol class b y aa e = subst (λ (c : ℕ). symbolOf c b ≡ true) e y
 
-module _ (class : ℕ) (f : ℕ → ℕ) where
-  -- a byte that the test f passes; and one of them that is a symbol
-  abbrev taken : ℕ → Bool
-  taken b = eqb (f b) 0
+-- a byte that the test f passes; and one of them that is a symbol
+abbrev taken : (ℕ → ℕ) → ℕ → Bool
+taken f b = eqb (f b) 0
 
-  abbrev rightly : ℕ → Bool
-  rightly b = taken b && symbolOf class b
+abbrev rightly : ℕ → (ℕ → ℕ) → ℕ → Bool
+rightly class f b = taken f b && symbolOf class b
 
-  -- all that it passes are symbols of the class, by one equation over all bytes that antt computes
-  pub passes-symbols : listed rightly 0 256 ≡ listed taken 0 256 → {b n : ℕ} → b < 256 → n ≡ f b → Strange b class n
-  passes-symbols same {b} h e =
-      record {
-        none = λ z.
-            let t = eq-eqb (f b) 0 (sym e ∙ z) in
-            of-symbol class b (ap (λ (x : Bool). x && symbolOf class b) (sym t) ∙ each-same rightly taken 256 same b h ∙ t);
-      }
+-- all that a test passes are symbols of the class, by one equation over all bytes that antt computes
+pub passes-symbols : (class : ℕ) {f : ℕ → ℕ} {b n : ℕ} → b < 256 → ((x : ℕ) → b ≡ x → n ≡ f x)
+    → listed (rightly class f) 0 256 ≡ listed (taken f) 0 256 → Strange b class n
+passes-symbols class {f} {b} h is same =
+    record {
+      none = λ z.
+          let t = eq-eqb (f b) 0 (sym (is b refl) ∙ z) in
+          of-symbol class b (ap (λ (x : Bool). x && symbolOf class b) (sym t) ∙ each-same (rightly class f) (taken f) 256 same b h ∙ t);
+    }
 
 -- ---- the walk
 

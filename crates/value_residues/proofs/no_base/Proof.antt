@@ -1,20 +1,10 @@
 -- `value_residues::no_base` meets its contract: by a test of all bytes.
 use Rattle.value_residues.proofs.Residues.{passes-symbols}
-use Rattle.read_bytes.specs.Numbers.{flag}
-use lib.Bits.{bitOr}
-use lib.Dec.{eqb}
 use native.Mathlib.Omega.{arith}
 use mathlib.Core.Path.{refl}
-use Prim.Native.Nat.{ℕ}
 use borrow.Author.Needs.{needs}
 use Rattle.value_residues.proofs.no_base.Statement.{statement}
 use Rattle.value_residues.proofs.no_base.Tie as tie
-
--- what it says of a byte
-abbrev test : ℕ → ℕ
-test b =
-    let bases = bitOr (bitOr (bitOr (flag (eqb b 97)) (flag (eqb b 99))) (flag (eqb b 103))) (flag (eqb b 116)) in
-    flag (eqb (bitOr bases (flag (eqb b 110))) 0)
 
 equal-requires : tie.Need-equal-requires
 equal-requires c κs = search needs
@@ -41,7 +31,7 @@ returns c =
     let g = c .before .before .before .equal3 .ensures in
     let t = c .before .before .equal4 .ensures in
     let n = c .before .equal5 .ensures in
-    passes-symbols 1 test refl (omega arith) (rw (a, c', g, t, n) at (c .equal6 .ensures))
+    passes-symbols 1 (omega arith) (λ x e. rw (a, c', g, t, n, e) at (c .equal6 .ensures)) refl
 
 pub no-base-spec : {M : Type 1} → statement M
 no-base-spec =
