@@ -66,29 +66,33 @@ symbolClass aa = 2
 pub record SymbolTable (t : List ℕ) : Type 0 where
   pub at-byte : (k : Rules.Kind) (b : ℕ) → b < 256 → eqb (getD t b 0) (symbolClass k) ≡ isSymbol k b
 
--- b is a symbol of each kind of the class
-abbrev pub OfClass : ℕ → ℕ → Type 0
-OfClass class b = (k : Rules.Kind) → class ≡ symbolClass k → isSymbol k b ≡ true
-
 -- b is none of the bytes from one to another
 abbrev pub isOutside : ℕ → ℕ → ℕ → Bool
 isOutside first last b = ltb b first || ltb last b
 
+-- b is a symbol of each kind of the class
+abbrev pub OfClass : ℕ → ℕ → Type 0
+OfClass class b = (k : Rules.Kind) → class ≡ symbolClass k → isSymbol k b ≡ true
+
+-- a test of b; above 0 nothing is said
 pub record Strange (b class r : ℕ) : Type 0 where
   pub none : r ≡ 0 → OfClass class b
 
--- each byte from a place to another is
+-- each byte from a place to another is a symbol of the class
 abbrev pub Between : List ℕ → ℕ → ℕ → ℕ → Type 0
 Between w class from to = (i : ℕ) → from ≤ i → i < to → OfClass class (getD w i 0)
 
+-- a test of 64 bytes; above 0 nothing is said
 pub record Block (w : List ℕ) (class at r : ℕ) : Type 0 where
   pub none : r ≡ 0 → Between w class at (at + 64)
 
+-- symbols reach from a place at least to r
 pub record Reach (w : List ℕ) (class from r : ℕ) : Type 0 where
   pub onward : from ≤ r
   pub inside : r ≤ length w
   pub each : Between w class from r
 
+-- and there stands none, unless it is the end
 pub record Foreign (w : List ℕ) (class from r : ℕ) : Type 0 where
   pub reach : Reach w class from r
   pub there : r < length w → (k : Rules.Kind) → class ≡ symbolClass k → isSymbol k (getD w r 0) ≡ false

@@ -236,17 +236,13 @@ pub fn symbols(w: &[u8], class: u8, t: &[u8; 256]) -> usize
     requires { ⌜ SymbolTable (now t) ⌝ }
     ensures { λ r. ⌜ Symbols (now (w .entry)) class r ⌝ }
 {
-    let mut i: usize = 0;
+    let mut i = reach(w, 0, w.len(), class, false);
     loop {
-        let at = reach(w, i, w.len(), class, false);
-        let near = if 256 <= w.len() - at {
-            at + 256
-        } else {
-            w.len()
-        };
-        i = reach(w, at, near, class, true);
-        if i == at {
-            return foreign(w, at, class, t);
+        let near = if 256 <= w.len() - i { i + 256 } else { w.len() };
+        let next = reach(w, i, near, class, true);
+        if next == i {
+            return foreign(w, i, class, t);
         }
+        i = reach(w, next, w.len(), class, false);
     }
 }

@@ -3,7 +3,7 @@
 use crate::large::Make;
 
 /// The kinds, and how each is made.
-pub const HEAVY: [(&str, Make); 20] = [
+pub const HEAVY: [(&str, Make); 25] = [
     // Right translations, all of one join of 3,000 members of one residue each.
     ("right-translations", |size| {
         let value = "A".repeat(1_000);
@@ -91,17 +91,23 @@ pub const HEAVY: [(&str, Make); 20] = [
             one(&feature("gene", "1..9", &qualifier(&"e".repeat(n), None)))
         })
     }),
-    // Residues, by the hundred bytes: a foreign one behind all others, none that is defined, entities only.
+    // Residues, by the hundred bytes. Such as are all symbols: bases; the ten rarer ones in turn, one of them, one beside a base; acids.
+    ("plain-residues", |size| lettered(size, &DNA, "acgt")),
+    ("rarer-residues", |size| lettered(size, &DNA, "mrwsykvhdb")),
+    ("one-rarer", |size| lettered(size, &DNA, "r")),
+    ("alternating-residues", |size| lettered(size, &DNA, "ar")),
+    ("amino-residues", |size| {
+        lettered(size, &AA, "ACDEFGHIKLMNPQRSTVWY")
+    }),
+    // And others: a foreign one behind all others, none that is defined, entities only.
     ("late-foreign", |size| {
         filled(size, |n| {
-            residues(100 * n, &("g".repeat(100 * n - 1) + "u"))
+            residues(&DNA, 100 * n, &("g".repeat(100 * n - 1) + "u"))
         })
     }),
-    ("undefined-residues", |size| {
-        filled(size, |n| residues(100 * n, &"n".repeat(100 * n)))
-    }),
+    ("undefined-residues", |size| lettered(size, &DNA, "n")),
     ("entity-residues", |size| {
-        filled(size, |n| residues(20 * n, &"&amp;".repeat(20 * n)))
+        filled(size, |n| residues(&DNA, 20 * n, &"&amp;".repeat(20 * n)))
     }),
     // Long numbers, as the total and as a position.
     ("digits-in-total", |size| {
@@ -154,18 +160,41 @@ fn feature(key: &str, location: &str, qualifiers: &str) -> String {
     )
 }
 
+/// A kind of sequence, and what its source is called, with its qualifiers.
+struct Kind {
+    moltype: &'static str,
+    source: &'static str,
+    organism: &'static str,
+    mol_type: &'static str,
+}
+
+const DNA: Kind = Kind {
+    moltype: "DNA",
+    source: "source",
+    organism: "organism",
+    mol_type: "mol_type",
+};
+
+const AA: Kind = Kind {
+    moltype: "AA",
+    source: "SOURCE",
+    organism: "ORGANISM",
+    mol_type: "MOL_TYPE",
+};
+
 /// The sequence number k, of so many residues, a multiple of three: alanine codons.
 fn sequence(k: usize, length: usize, features: &str) -> String {
-    sequence_of(k, length, features, &"gct".repeat(length / 3))
+    sequence_of(&DNA, k, length, features, &"gct".repeat(length / 3))
 }
 
 /// The sequence number k, whose residues are so many and written so.
-fn sequence_of(k: usize, length: usize, features: &str, residues: &str) -> String {
-    let source = qualifier("organism", Some("x")) + &qualifier("mol_type", Some("y"));
-    let source = feature("source", &format!("1..{length}"), &source);
+fn sequence_of(kind: &Kind, k: usize, length: usize, features: &str, residues: &str) -> String {
+    let source = qualifier(kind.organism, Some("x")) + &qualifier(kind.mol_type, Some("y"));
+    let source = feature(kind.source, &format!("1..{length}"), &source);
+    let moltype = kind.moltype;
     format!(
         "<SequenceData sequenceIDNumber=\"{k}\"><INSDSeq><INSDSeq_length>{length}</INSDSeq_length>\
-         <INSDSeq_moltype>DNA</INSDSeq_moltype><INSDSeq_division>PAT</INSDSeq_division><INSDSeq_feature-table>{source}\
+         <INSDSeq_moltype>{moltype}</INSDSeq_moltype><INSDSeq_division>PAT</INSDSeq_division><INSDSeq_feature-table>{source}\
          {features}</INSDSeq_feature-table><INSDSeq_sequence>{residues}</INSDSeq_sequence></INSDSeq></SequenceData>"
     )
 }
@@ -185,8 +214,15 @@ fn one(features: &str) -> String {
 }
 
 /// A listing of one sequence without other features.
-fn residues(length: usize, residues: &str) -> String {
-    listing(&sequence_of(1, length, "", residues), 1)
+fn residues(kind: &Kind, length: usize, residues: &str) -> String {
+    listing(&sequence_of(kind, 1, length, "", residues), 1)
+}
+
+/// The same, filled with these letters in turn; they are as many as go into a hundred.
+fn lettered(size: usize, kind: &Kind, letters: &str) -> Vec<u8> {
+    filled(size, |n| {
+        residues(kind, 100 * n, &letters.repeat(100 / letters.len() * n))
+    })
 }
 
 fn coding(location: &str, qualifiers: &str) -> String {

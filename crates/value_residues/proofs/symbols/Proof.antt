@@ -1,6 +1,6 @@
 -- `value_residues::symbols` meets its contract. The loop's invariant: each byte passed is a symbol of the class. The measure is what is
 -- left.
-use Rattle.value_residues.proofs.Residues.{reach-none, reach-join, first-foreign}
+use Rattle.value_residues.proofs.Residues.{reach-join, first-foreign}
 use Rattle.value_residues.specs.Residues.{Reach}
 use lib.ListN.{length}
 use mathlib.Core.Logic.{⊎-elim}
@@ -16,11 +16,11 @@ Inv-loop w class t i₀ i = Reach w class 0 i
 abbrev μ-loop : tie.MeasureT-loop
 μ-loop w class t i₀ i = length w - i
 
-loop-holds : tie.Need-loop-holds Inv-loop μ-loop
-loop-holds c = reach-none (c .before .args .w .now) (c .before .args .class) 0 (omega arith)
-
 reach-requires : tie.Need-reach-requires Inv-loop μ-loop
 reach-requires c κs = search needs
+
+loop-holds : tie.Need-loop-holds Inv-loop μ-loop
+loop-holds c = c .reach .ensures
 
 sub-if1 : tie.Need-sub-if1 Inv-loop μ-loop
 sub-if1 c = search needs
@@ -37,22 +37,21 @@ foreign-requires c κs = search needs
 returns : tie.Need-returns Inv-loop μ-loop
 returns c =
     let args = c .before .before .before .before .before .before .before .args in
-    let loop' = c .before .before .before .before .before .loop in
-    first-foreign (args .w .now) (args .class)
-    (reach-join (args .w .now) (args .class) (loop' .inv) (c .before .before .before .before .reach .ensures)) (c .foreign .ensures)
+    first-foreign (args .w .now) (args .class) (c .before .before .before .before .loop .inv) (c .foreign .ensures)
+
+reach-requires-3 : tie.Need-reach-requires-3 Inv-loop μ-loop
+reach-requires-3 c κs = search needs
 
 loop-less : tie.Need-loop-less Inv-loop μ-loop
 loop-less c =
-    let common = c .before .before .before .reach .ensures in
-    let all = c .before .reach2 .ensures in
-    omega (arith, common .onward, all .onward, all .inside, c .if2 .left)
+    let all = c .before .before .reach2 .ensures in
+    let common = c .reach3 .ensures in
+    omega (arith, all .onward, common .onward, common .inside, c .before .if2 .left)
 
 loop-again : tie.Need-loop-again Inv-loop μ-loop
 loop-again c =
-    let a = c .before .before .before .before .before .before .args in
-    let common = c .before .before .before .reach .ensures in
-    let all = c .before .reach2 .ensures in
-    reach-join (a .w .now) (a .class) (reach-join (a .w .now) (a .class) (c .before .before .before .before .loop .inv) common) all
+    let a = c .before .before .before .before .before .before .before .args in
+    reach-join (a .w .now) (a .class) (reach-join (a .w .now) (a .class) (c .before .before .before .before .loop .inv) (c .before .before .reach2 .ensures)) (c .reach3 .ensures)
 
 pub symbols-spec : {M : Type 1} → statement M
 symbols-spec =
@@ -60,12 +59,13 @@ symbols-spec =
     (tie.spec
     Inv-loop
     μ-loop
-    loop-holds
     reach-requires
+    loop-holds
     sub-if1
     add-near
     reach-requires-2
     foreign-requires
     returns
+    reach-requires-3
     loop-less
     loop-again)
