@@ -2,7 +2,9 @@
 
 use crate::lookups::{against_model, all_refused};
 use crate::report::Report;
-use referee::generate::residues::{any_residues, every_character, one_foreign, two_foreign};
+use referee::generate::residues::{
+    any_residues, every_character, one_foreign, stretches, two_foreign,
+};
 use referee::generate::{
     case, one_damage, several_damages, truncation, valid_listing, Case, Damaged, Expectation, Rng,
 };
@@ -32,7 +34,7 @@ pub fn residues(report: &mut Report) {
     let rng = &mut Rng::new(3);
     let any = (0..20_000).map(|_| any_residues(rng));
     let samples = every_character().chain(one_foreign()).chain(two_foreign());
-    for sample in samples.chain(any) {
+    for sample in samples.chain(stretches()).chain(any) {
         report.equal(broken(&sample.bytes), Ok(sample.broken), || sample.name);
     }
 }
