@@ -230,19 +230,32 @@ fn foreign(w: &[u8], from: usize, class: u8, t: &[u8; 256]) -> usize
     i
 }
 
-// How many bytes are written before the first residue that is no symbol of the class: by blocks of the common symbols; where one fails
-// by some blocks of all symbols, for a rarer one seldom comes alone; by the table where such a block fails too, and for what is left.
+// How far symbols are passed from `from` on: by blocks of the common ones; then by some blocks of all, for a rarer one seldom comes alone.
+fn stretch(w: &[u8], from: usize, class: u8) -> usize
+    requires { ⌜ from ≤ length (now w) ⌝ }
+    ensures { λ r. ⌜ Reach (now (w .entry)) class from r ⌝ }
+{
+    let at = reach(w, from, w.len(), class, false);
+    let near = if 256 <= w.len() - at {
+        at + 256
+    } else {
+        w.len()
+    };
+    reach(w, at, near, class, true)
+}
+
+// How many bytes are written before the first residue that is no symbol of the class: by blocks, and by the table where none is passed
+// any more. `stretch` is called at two places, so that it stays a function of its own: inside this loop its tests would be slower.
 pub fn symbols(w: &[u8], class: u8, t: &[u8; 256]) -> usize
     requires { ⌜ SymbolTable (now t) ⌝ }
     ensures { λ r. ⌜ Symbols (now (w .entry)) class r ⌝ }
 {
-    let mut i = reach(w, 0, w.len(), class, false);
+    let mut i = stretch(w, 0, class);
     loop {
-        let near = if 256 <= w.len() - i { i + 256 } else { w.len() };
-        let next = reach(w, i, near, class, true);
+        let next = stretch(w, i, class);
         if next == i {
             return foreign(w, i, class, t);
         }
-        i = reach(w, next, w.len(), class, false);
+        i = next;
     }
 }
