@@ -9,7 +9,7 @@ use lib.ListN.{length, getD, drop, length-append, List·getD-append}
 use lib.Seq.{getD-append-add, drop-append-seam}
 use lib.Dec.{eqb}
 use borrow.Author.Tests.{eq-eqb, ne-eqb}
-use Rattle.paper.specs.Bytes.{bytes, spell, raw, all, leading}
+use Rattle.paper.specs.Bytes.{spell, raw, all, leading}
 use Rattle.paper.specs.Rules.{dna, rna, aa, isSymbol}
 use Rattle.paper.specs.Rules as Rules
 use Rattle.paper.proofs.Tables.{Test, at-each, listed, each-same}

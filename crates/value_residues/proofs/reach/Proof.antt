@@ -3,7 +3,7 @@
 use Rattle.value_residues.proofs.Residues.{reach-none, reach-on}
 use Rattle.value_residues.specs.Residues.{Reach}
 use native.Mathlib.Omega.{arith}
-use Prim.Native.Nat.{_+_, _-_, _≤_}
+use Prim.Native.Nat.{_-_, _≤_}
 use borrow.Author.Needs.{needs}
 use Rattle.value_residues.proofs.reach.Statement.{statement}
 use Rattle.value_residues.proofs.reach.Tie as tie
