@@ -231,7 +231,7 @@ fn foreign(w: &[u8], from: usize, class: u8, t: &[u8; 256]) -> usize
 }
 
 // How far symbols are passed from `from` on: by blocks of the common ones; then by some blocks of all, for a rarer one seldom comes alone.
-fn stretch(w: &[u8], from: usize, class: u8) -> usize
+fn sweep(w: &[u8], from: usize, class: u8) -> usize
     requires { ⌜ from ≤ length (now w) ⌝ }
     ensures { λ r. ⌜ Reach (now (w .entry)) class from r ⌝ }
 {
@@ -245,14 +245,14 @@ fn stretch(w: &[u8], from: usize, class: u8) -> usize
 }
 
 // How many bytes are written before the first residue that is no symbol of the class: by blocks, and by the table where none is passed
-// any more. `stretch` is called at two places, so that it stays a function of its own: inside this loop its tests would be slower.
+// any more. `sweep` is called at two places, so that it stays a function of its own: inside this loop its tests would be slower.
 pub fn symbols(w: &[u8], class: u8, t: &[u8; 256]) -> usize
     requires { ⌜ SymbolTable (now t) ⌝ }
     ensures { λ r. ⌜ Symbols (now (w .entry)) class r ⌝ }
 {
-    let mut i = stretch(w, 0, class);
+    let mut i = sweep(w, 0, class);
     loop {
-        let next = stretch(w, i, class);
+        let next = sweep(w, i, class);
         if next == i {
             return foreign(w, i, class, t);
         }

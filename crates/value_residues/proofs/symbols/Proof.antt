@@ -15,14 +15,14 @@ Inv-loop w class t i₀ i = Reach w class 0 i
 abbrev μ-loop : tie.MeasureT-loop
 μ-loop w class t i₀ i = length w - i
 
-stretch-requires : tie.Need-stretch-requires Inv-loop μ-loop
-stretch-requires c κs = search needs
+sweep-requires : tie.Need-sweep-requires Inv-loop μ-loop
+sweep-requires c κs = search needs
 
 loop-holds : tie.Need-loop-holds Inv-loop μ-loop
-loop-holds c = c .stretch .ensures
+loop-holds c = c .sweep .ensures
 
-stretch-requires-2 : tie.Need-stretch-requires-2 Inv-loop μ-loop
-stretch-requires-2 c κs = search needs
+sweep-requires-2 : tie.Need-sweep-requires-2 Inv-loop μ-loop
+sweep-requires-2 c κs = search needs
 
 foreign-requires : tie.Need-foreign-requires Inv-loop μ-loop
 foreign-requires c κs = search needs
@@ -33,14 +33,14 @@ returns c =
     first-foreign (args .w .now) (args .class) (c .before .before .before .loop .inv) (c .foreign .ensures)
 
 loop-less : tie.Need-loop-less Inv-loop μ-loop
-loop-less c = let more = c .before .stretch2 .ensures in omega (arith, more .onward, more .inside, c .if1 .left)
+loop-less c = let more = c .before .sweep2 .ensures in omega (arith, more .onward, more .inside, c .if1 .left)
 
 loop-again : tie.Need-loop-again Inv-loop μ-loop
 loop-again c =
     let args = c .before .before .before .before .before .args in
-    reach-join (args .w .now) (args .class) (c .before .before .loop .inv) (c .before .stretch2 .ensures)
+    reach-join (args .w .now) (args .class) (c .before .before .loop .inv) (c .before .sweep2 .ensures)
 
 pub symbols-spec : {M : Type 1} → statement M
 symbols-spec =
     tie.close
-    (tie.spec Inv-loop μ-loop stretch-requires loop-holds stretch-requires-2 foreign-requires returns loop-less loop-again)
+    (tie.spec Inv-loop μ-loop sweep-requires loop-holds sweep-requires-2 foreign-requires returns loop-less loop-again)

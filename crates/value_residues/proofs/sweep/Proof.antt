@@ -1,10 +1,10 @@
--- `value_residues::stretch` meets its contract.
+-- `value_residues::sweep` meets its contract.
 use Rattle.value_residues.proofs.Residues.{reach-join}
 use mathlib.Core.Logic.{⊎-elim}
 use native.Mathlib.Omega.{arith}
 use borrow.Author.Needs.{needs}
-use Rattle.value_residues.proofs.stretch.Statement.{statement}
-use Rattle.value_residues.proofs.stretch.Tie as tie
+use Rattle.value_residues.proofs.sweep.Statement.{statement}
+use Rattle.value_residues.proofs.sweep.Tie as tie
 
 reach-requires : tie.Need-reach-requires
 reach-requires c κs = search needs
@@ -23,5 +23,5 @@ returns c =
     reach-join (c .before .before .before .before .args .w .now) (c .before .before .before .before .args .class)
     (c .before .before .reach .ensures) (c .reach2 .ensures)
 
-pub stretch-spec : {M : Type 1} → statement M
-stretch-spec = tie.close (tie.spec reach-requires sub-if1 add-near reach-requires-2 returns)
+pub sweep-spec : {M : Type 1} → statement M
+sweep-spec = tie.close (tie.spec reach-requires sub-if1 add-near reach-requires-2 returns)
