@@ -245,7 +245,7 @@ fn sweep(w: &[u8], from: usize, class: u8) -> usize
 }
 
 // How many bytes are written before the first residue that is no symbol of the class: by blocks, and by the table where none is passed
-// any more. `sweep` is called at two places, so that it stays a function of its own: inside this loop its tests would be slower.
+// any more. The first sweep, the only one for most sequences, stands before the loop: there it is compiled to faster code.
 pub fn symbols(w: &[u8], class: u8, t: &[u8; 256]) -> usize
     requires { ⌜ SymbolTable (now t) ⌝ }
     ensures { λ r. ⌜ Symbols (now (w .entry)) class r ⌝ }
