@@ -43,6 +43,7 @@ int main(int argc, char **argv)
         }
     }
     printf("One sequence, times as long as %s, by processor time, best of %d rounds\n", all[0].kind, rounds);
+    printf("%-36s %9s %11s %7s\n", "", "bytes", "proved, us", "times");
     bool met = true;
     for (size_t i = 0; i < count; i++) {
         const double times = all[i].time / all[0].time;
