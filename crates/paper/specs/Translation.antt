@@ -1,7 +1,7 @@
 -- Translation: from residues and spans to the letters of a protein. Functions of the residues as read.
 use Prim.Native.Nat.{ℕ, suc, _+_, _*_, _-_, _%_}
 use Prim.Native.Char.{code}
-use mathlib.Core.Bool.{Bool, true, false, cond}
+use mathlib.Core.Bool.{Bool, true, false, _&&_, cond}
 use mathlib.Core.List.{List, [], _∷_, _++_, map, reverse}
 use lib.ListN.{take, drop, getD}
 use lib.Dec.{eqb}
@@ -83,17 +83,29 @@ plainLetter g a b c = getD g (16 * baseIndex a + 4 * baseIndex b + baseIndex c) 
 abbrev pub plainLetters : Code → List ℕ → List ℕ → List ℕ → List ℕ
 plainLetters g x y z = gather (λ (a : ℕ). gather (λ (b : ℕ). map (plainLetter g a b) z) y) x
 
-abbrev pub allSame : ℕ → List ℕ → Bool
-allSame x [] = true
-allSame x (y ∷ l) = cond (eqb y x) (allSame x l) false
+-- each of these letters is one of those
+abbrev pub allAmong : List ℕ → List ℕ → Bool
+allAmong those [] = true
+allAmong those (x ∷ these) = cond (among those x) (allAmong those these) false
 
--- "gives the letter all its plain codons share, else `X`"; "an empty set gives `X`"
+-- "the letter all its plain codons share, else `X`"; "an empty set gives `X`"
 abbrev pub shared : List ℕ → ℕ
 shared [] = code "X"
-shared (x ∷ l) = cond (allSame x l) x (code "X")
+shared (x ∷ l) = cond (allAmong (x ∷ []) l) x (code "X")
+
+-- plain codons that "give exactly" those letters: each of them, and no other
+abbrev pub giveExactly : List ℕ → List ℕ → Bool
+giveExactly those l = allAmong those l && allAmong l those
+
+-- "exactly N and D is `B`, exactly Q and E is `Z`, exactly I and L is `J`; otherwise as before"
+abbrev pub mostRestrictive : List ℕ → ℕ
+mostRestrictive l =
+    cond (giveExactly (bytes "ND") l) (code "B")
+    (cond (giveExactly (bytes "QE") l) (code "Z")
+    (cond (giveExactly (bytes "IL") l) (code "J") (shared l)))
 
 abbrev pub codonLetter : Code → ℕ → ℕ → ℕ → ℕ
-codonLetter g a b c = shared (plainLetters g (basesOf a) (basesOf b) (basesOf c))
+codonLetter g a b c = mostRestrictive (plainLetters g (basesOf a) (basesOf b) (basesOf c))
 
 -- "take whole codons, ignoring one or two left over"
 abbrev pub letters : Code → List ℕ → List ℕ

@@ -1,13 +1,15 @@
 -- The rule of a code's table, from tests that antt computes over its bytes; and which code a table is of.
-use Prim.Native.Nat.{ℕ, _/_}
+use Prim.Native.Nat.{ℕ, _/_, _<_}
 use native.Mathlib.Omega.{arith}
 use mathlib.Core.Path.{_≡_, refl, sym, ap, _∙_, subst}
 use mathlib.Core.Bool.{Bool, true, false}
 use mathlib.Core.List.{List, [], _∷_, map}
-use lib.ListN.{take, drop, getD}
+use lib.ListN.{length, take, drop, getD}
 use lib.Seq.{getD-take}
+use lib.Dec.{eqb}
+use borrow.Author.Tests.{eqb-true}
 use Rattle.paper.specs.Translation.{Code, code1, basesOf}
-use Rattle.paper.proofs.Tables.{Test, at-each}
+use Rattle.paper.proofs.Tables.{Test, allFrom, each-at}
 use Rattle.protein_code.specs.Plain.{plainNumber}
 use Rattle.protein_code.specs.Tables.{setBases, answerAt, onStrand, SelfSpelt, plainFrom, CodeTable, plainPlaces, codeOf, Coded}
 use Rattle.protein_code.proofs.Sets.{partOf, part-at, setsOf, sets-right}
@@ -19,25 +21,32 @@ pub record StrandTests (g : Code) (t : List ℕ) (turned : Bool) : Type 0 where
   pub small : Test (λ (x : ℕ). x / 16) (λ (b : ℕ). 0) (setsOf t turned) 256
   pub bases : Test setBases (λ (b : ℕ). basesOf (onStrand turned b)) (setsOf t turned) 256
   pub plain : PlainTest g turned (partOf t (plainFrom turned) 256)
-  pub stops : StopTest g t turned
+  pub stops : StopTest t turned
+
+-- the test of the answers: each is the letter of its three sets
+abbrev pub answerRight : Code → ℕ → ℕ → Bool
+answerRight g i x = eqb x (answerAt g i)
 
 pub code-right : (g : Code) (t : List ℕ) → SelfSpelt g → StrandTests g t true → StrandTests g t false
-    → Test (λ (x : ℕ). x) (answerAt g) (take 4096 t) 4096 → CodeTable g t
-code-right g t letters back ahead answers =
+    → length (take 4096 t) ≡ 4096 → allFrom (answerRight g) 0 (take 4096 t) ≡ true → CodeTable g t
+code-right g t letters back ahead size test =
     record {
       spelt = letters;
       sets = λ turned. sets-right turned t (tests turned .small) (tests turned .bases);
-      answer = λ i h. sym (getD-take 4096 t i 0 h) ∙ at-each (λ (x : ℕ). x) (answerAt g) (take 4096 t) 4096 answers i h;
+      answer = answers;
       plain =
           λ turned x y z w p q r.
           sym (part-at t (plainFrom turned) 256 (plainNumber x y z w) (omega arith))
           ∙ plain-right g turned (partOf t (plainFrom turned) 256) (tests turned .plain) x y z w p q r;
-      stops = λ turned. stops-right g t turned (tests turned .stops);
+      stops = λ turned. stops-right g t size answers turned (tests turned .stops);
     }
   where
     tests : (turned : Bool) → StrandTests g t turned
     tests true = back
     tests false = ahead
+
+    answers : (i : ℕ) → i < 4096 → getD t i 0 ≡ answerAt g i
+    answers i h = sym (getD-take 4096 t i 0 h) ∙ eqb-true _ _ (each-at (answerRight g) (take 4096 t) 0 test i (omega (arith, size, h)))
 
 -- ---- the code of a table
 

@@ -6,13 +6,14 @@ use mathlib.Core.Bool.{Bool, true, false, true≢false, _&&_, _||_, not, cond, a
 use mathlib.Core.List.{List}
 use lib.Bits.{bitAnd, bitOr}
 use lib.Dec.{eqb}
-use lib.ListN.{getD}
+use lib.ListN.{length, take, getD}
+use lib.Seq.{getD-take}
 use borrow.Author.Tests.{eq-eqb}
 use Rattle.paper.specs.Translation.{Code, complementOf, codonLetter}
-use Rattle.paper.proofs.Tables.{listed, each-same}
+use Rattle.paper.proofs.Tables.{allFrom, each-at}
 use Rattle.read_bytes.specs.Numbers.{flag}
 use Rattle.read_bytes.proofs.Numbers.{flag-none}
-use Rattle.protein_code.specs.Tables.{setsLetter, stopsFrom}
+use Rattle.protein_code.specs.Tables.{setsLetter, answerAt, stopsFrom}
 use Rattle.protein_code.specs.Stops.{isStop, letterHere, isTold}
 use Rattle.protein_code.proofs.Sets.{setOf, letterOf, set-small, set-bases, set-letter, turned-small, turned-twice}
 
@@ -39,7 +40,7 @@ module _ (p u v w : Bool) where
 
 -- ---- a table's letters of stops
 
-module _ (g : Code) (t : List ℕ) (turned : Bool) where
+module _ (t : List ℕ) (turned : Bool) where
   abbrev told : ℕ → ℕ → ℕ → Bool
   told = isTold turned (λ (i : ℕ). getD t (stopsFrom turned + i) 0)
 
@@ -48,20 +49,21 @@ module _ (g : Code) (t : List ℕ) (turned : Bool) where
   setsTold true a b c = told (complementOf (letterOf c)) (complementOf (letterOf b)) (complementOf (letterOf a))
   setsTold false a b c = told (letterOf a) (letterOf b) (letterOf c)
 
-  -- where three sets give a stop each has a base, and their letters are told
-  abbrev stopTold : ℕ → ℕ → ℕ → Bool
-  stopTold a b c = cond (isStop (setsLetter g a b c)) (not (eqb a 0) && (not (eqb b 0) && (not (eqb c 0) && setsTold turned a b c))) true
+  -- where the answer x of three sets is a stop each has a base, and their letters are told
+  abbrev stopTold : ℕ → ℕ → ℕ → ℕ → Bool
+  stopTold a b c x = cond (isStop x) (not (eqb a 0) && (not (eqb b 0) && (not (eqb c 0) && setsTold turned a b c))) true
 
-  -- the test: it holds of all three sets
+  -- the test: it holds of all answers
   abbrev pub StopTest : Type 0
-  StopTest = listed (λ (i : ℕ). stopTold (i / 256) (i / 16 % 16) (i % 16)) 0 4096 ≡ listed (λ (i : ℕ). true) 0 4096
+  StopTest = allFrom (λ (i x : ℕ). stopTold (i / 256) (i / 16 % 16) (i % 16) x) 0 (take 4096 t) ≡ true
 
-  module _ (test : StopTest) where
-    at-index : (n a b c : ℕ) → n < 4096 → n / 256 ≡ a → n / 16 % 16 ≡ b → n % 16 ≡ c → stopTold a b c ≡ true
+  module _ (g : Code) (size : length (take 4096 t) ≡ 4096) (answers : (i : ℕ) → i < 4096 → getD t i 0 ≡ answerAt g i) (test : StopTest) where
+    at-index : (n a b c : ℕ) → n < 4096 → n / 256 ≡ a → n / 16 % 16 ≡ b → n % 16 ≡ c → stopTold a b c (setsLetter g a b c) ≡ true
     at-index n a b c h e f k =
-        rw (← e, ← f, ← k) (each-same (λ (i : ℕ). stopTold (i / 256) (i / 16 % 16) (i % 16)) (λ (i : ℕ). true) 4096 test n h)
+        rw (← e, ← f, ← k, ← answers n h, ← getD-take 4096 t n 0 h)
+        (each-at (λ (i x : ℕ). stopTold (i / 256) (i / 16 % 16) (i % 16) x) (take 4096 t) 0 test n (omega (arith, size, h)))
 
-    at-sets : (a b c : ℕ) → a < 16 → b < 16 → c < 16 → stopTold a b c ≡ true
+    at-sets : (a b c : ℕ) → a < 16 → b < 16 → c < 16 → stopTold a b c (setsLetter g a b c) ≡ true
     at-sets a b c h i j = at-index (a * 256 + b * 16 + c) a b c (omega arith) (omega arith) (omega arith) (omega arith)
 
     -- a stop's letters are told, each from its set
@@ -80,20 +82,20 @@ module _ (g : Code) (t : List ℕ) (turned : Bool) where
           based b e z = true≢false (sym e ∙ ap not (eq-eqb (setOf b) 0 z))
 
 -- what the sets' letters tell, told of the residues
-module _ (g : Code) (t : List ℕ) where
-  pub stops-right : (turned : Bool) → StopTest g t turned → (x y z : ℕ) → x < 256 → y < 256 → z < 256
+module _ (g : Code) (t : List ℕ) (size : length (take 4096 t) ≡ 4096) (answers : (i : ℕ) → i < 4096 → getD t i 0 ≡ answerAt g i) where
+  pub stops-right : (turned : Bool) → StopTest t turned → (x y z : ℕ) → x < 256 → y < 256 → z < 256
       → isTold turned (λ (i : ℕ). getD t (stopsFrom turned + i) 0) x y z ≡ false → isStop (letterHere g turned x y z) ≡ false
   stops-right true test x y z h i j n = by (isStop (letterHere g true x y z)) refl
     where
       by : (s : Bool) → isStop (letterHere g true x y z) ≡ s → isStop (letterHere g true x y z) ≡ false
       by false e = e
       by true e =
-          let d = letters-told g t true test (complementOf z) (complementOf y) (complementOf x) (turned-small z j) (turned-small y i) (turned-small x h) e in
+          let d = letters-told t true g size answers test (complementOf z) (complementOf y) (complementOf x) (turned-small z j) (turned-small y i) (turned-small x h) e in
           absurd (true≢false (sym (rw (d .0, d .1, d .2, turned-twice x h, turned-twice y i, turned-twice z j) at (d .3)) ∙ n))
   stops-right false test x y z h i j n = by (isStop (letterHere g false x y z)) refl
     where
       by : (s : Bool) → isStop (letterHere g false x y z) ≡ s → isStop (letterHere g false x y z) ≡ false
       by false e = e
       by true e =
-          let d = letters-told g t false test x y z h i j e in
+          let d = letters-told t false g size answers test x y z h i j e in
           absurd (true≢false (sym (rw (d .0, d .1, d .2) at (d .3)) ∙ n))

@@ -8,7 +8,7 @@ use lib.ListN.{getD}
 use lib.Dec.{eqb}
 use Rattle.paper.specs.Bytes.{bytes, spell}
 use Rattle.paper.specs.Lists.{gather}
-use Rattle.paper.specs.Translation.{Code, basesOf, complementOf, plainLetters, shared}
+use Rattle.paper.specs.Translation.{Code, basesOf, complementOf, plainLetters, mostRestrictive}
 use Rattle.protein_code.specs.Stops.{isStop, letterHere, isTold}
 use Rattle.protein_code.specs.Plain.{Plain, plainNumber}
 
@@ -22,9 +22,9 @@ withBit bit x base = cond (eqb (x / bit % 2) 1) base []
 abbrev pub setBases : ℕ → List ℕ
 setBases x = withBit 1 x (bytes "a") ++ withBit 2 x (bytes "c") ++ withBit 4 x (bytes "g") ++ withBit 8 x (bytes "t")
 
--- "the letter all its plain codons share, else `X`", of three sets; "an empty set gives `X`"
+-- the letter of three sets: the most restrictive one of their plain codons
 abbrev pub setsLetter : Code → ℕ → ℕ → ℕ → ℕ
-setsLetter g x y z = shared (plainLetters g (setBases x) (setBases y) (setBases z))
+setsLetter g x y z = mostRestrictive (plainLetters g (setBases x) (setBases y) (setBases z))
 
 -- the answer at an index, which has the first set slowest
 abbrev pub answerAt : Code → ℕ → ℕ

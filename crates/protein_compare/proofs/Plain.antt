@@ -6,9 +6,9 @@ use mathlib.Core.Bool.{Bool, true, false, cond}
 use mathlib.Core.List.{List, [], _∷_, _++_, map}
 use lib.ListN.{getD}
 use lib.Dec.{eqb}
-use Rattle.paper.specs.Bytes.{spell, raw}
+use Rattle.paper.specs.Bytes.{bytes, spell, raw}
 use Rattle.paper.specs.Lists.{gather}
-use Rattle.paper.specs.Translation.{Code, basesOf, baseIndex, plainLetter, plainLetters, allSame, shared, codonLetter, letters, dropStop}
+use Rattle.paper.specs.Translation.{Code, basesOf, baseIndex, plainLetter, plainLetters, allAmong, shared, giveExactly, mostRestrictive, codonLetter, letters, dropStop}
 use Rattle.paper.proofs.Texts.{raw-once}
 use Rattle.protein_code.specs.Tables.{SelfSpelt}
 use Rattle.protein_compare.specs.Comparing.{RightValue}
@@ -57,13 +57,19 @@ plain-at [] h i = record { is = refl }
 plain-at (b ∷ l) h zero = h .0
 plain-at (b ∷ l) h (suc i) = plain-at l (h .1) i
 
+plain-either : (b : Bool) (x y : ℕ) → Plain x → Plain y → Plain (cond b x y)
+plain-either true x y h k = h
+plain-either false x y h k = k
+
 plain-shared : (l : List ℕ) → Plains l → Plain (shared l)
 plain-shared [] h = record { is = refl }
-plain-shared (x ∷ l) h = go (allSame x l)
-  where
-    go : (b : Bool) → Plain (cond b x (code "X"))
-    go true = h .0
-    go false = record { is = refl }
+plain-shared (x ∷ l) h = plain-either (allAmong (x ∷ []) l) x (code "X") (h .0) (record { is = refl })
+
+plain-restrictive : (l : List ℕ) → Plains l → Plain (mostRestrictive l)
+plain-restrictive l h =
+    plain-either (giveExactly (bytes "ND") l) (code "B") _ (record { is = refl })
+    (plain-either (giveExactly (bytes "QE") l) (code "Z") _ (record { is = refl })
+    (plain-either (giveExactly (bytes "IL") l) (code "J") (shared l) (record { is = refl }) (plain-shared l h)))
 
 plains-drop : (l : List ℕ) → Plains l → Plains (dropStop l)
 plains-drop [] h = tt
@@ -84,7 +90,7 @@ module _ (gc : Code) (spelt : SelfSpelt gc) where
   plain-codon a b c =
       let third : ℕ → ℕ → List ℕ = λ x y. map (plainLetter gc x y) (basesOf c) in
       let plain-third : (x y : ℕ) → Plains (third x y) = λ x y. plains-map (plainLetter gc x y) (plain-letter x y) (basesOf c) in
-      plain-shared (plainLetters gc (basesOf a) (basesOf b) (basesOf c))
+      plain-restrictive (plainLetters gc (basesOf a) (basesOf b) (basesOf c))
       (plains-gather (λ (x : ℕ). gather (third x) (basesOf b)) (λ x. plains-gather (third x) (plain-third x) (basesOf b)) (basesOf a))
 
   plains-letters : (w : List ℕ) → Plains (letters gc w)

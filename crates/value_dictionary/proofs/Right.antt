@@ -8,22 +8,9 @@ use lib.ListN.{length, getD, take, drop}
 use lib.Dec.{ltb}
 use borrow.Author.Tests.{ltb-true}
 use Rattle.paper.specs.Bytes.{same}
+use Rattle.paper.proofs.Tables.{allFrom, each-at}
 use Rattle.paper.proofs.Texts.{same-is}
 use Rattle.value_dictionary.specs.Texts.{byteOf, slotOf, entryOf, Dictionary}
-
--- a test of each element and its number, from i on. It computes to `true` in half the time that an equation of two lists takes
-abbrev pub allFrom : {A : Type 0} → (ℕ → A → Bool) → ℕ → List A → Bool
-allFrom f i [] = true
-allFrom f i (x ∷ l) = f i x && allFrom f (suc i) l
-
-all-at : {A : Type 0} (f : ℕ → A → Bool) (i : ℕ) (l : List A) (d : A) → allFrom f i l ≡ true → (k : ℕ) → k < length l → f (i + k) (getD l k d) ≡ true
-all-at f i [] d e k h = absurd (omega (arith, h))
-all-at f i (x ∷ l) d e zero h = ap (λ (n : ℕ). f n x) (omega arith) ∙ and-eq-true-iff (f i x) (allFrom f (suc i) l) .0 e .0
-all-at f i (x ∷ l) d e (suc k) h =
-    ap (λ (n : ℕ). f n (getD l k d)) (omega arith) ∙ all-at f (suc i) l d (and-eq-true-iff (f i x) (allFrom f (suc i) l) .0 e .1) k (omega (arith, h))
-
-pub each-at : {A : Type 0} (f : ℕ → A → Bool) (l : List A) (d : A) → allFrom f 0 l ≡ true → (k : ℕ) → k < length l → f k (getD l k d) ≡ true
-each-at f l d e k h = ap (λ (n : ℕ). f n (getD l k d)) (omega arith) ∙ all-at f 0 l d e k h
 
 -- the first m bytes are below n
 abbrev pub allBelow : (n m : ℕ) → List ℕ → Bool

@@ -12,9 +12,9 @@ use borrow.Author.Tests.{eqb-true, eqb-false}
 use Rattle.paper.specs.Bytes.{raw, same}
 use Rattle.paper.specs.Lists.{_∈_}
 use Rattle.paper.specs.Vocabulary.{Row, counted}
+use Rattle.paper.proofs.Tables.{allFrom, each-at}
 use Rattle.paper.proofs.Texts.{same-is, same-self}
 use Rattle.value_dictionary.specs.Texts.{byteOf, pairOf, Dictionary}
-use Rattle.value_dictionary.proofs.Right.{allFrom, each-at}
 use Rattle.value_vocabulary.specs.Tables.{nameTexts, standingOf, needsAt, crumbAt, keyTexts, RowFor, Keys}
 
 -- ---- the rows of the keys

@@ -8,7 +8,7 @@ use Rattle.protein_code.proofs.code_table.Tie as tie
 returns : tie.Need-returns
 returns c =
     code-right code1 _ refl (record { small = refl; bases = refl; plain = refl; stops = refl })
-    (record { small = refl; bases = refl; plain = refl; stops = refl }) refl
+    (record { small = refl; bases = refl; plain = refl; stops = refl }) refl refl
 
 pub code-table-spec : {M : Type 1} → statement M
 code-table-spec = tie.close (tie.spec returns)
