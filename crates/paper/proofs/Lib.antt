@@ -8,6 +8,7 @@ pub mod Leading
 pub mod Words
 pub mod Decimal
 pub mod Locate
+pub mod Codons
 pub mod Marks
 pub mod Forget
 pub mod Inside

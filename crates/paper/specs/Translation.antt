@@ -86,7 +86,7 @@ plainLetters g x y z = gather (λ (a : ℕ). gather (λ (b : ℕ). map (plainLet
 -- each of these letters is one of those
 abbrev pub allAmong : List ℕ → List ℕ → Bool
 allAmong those [] = true
-allAmong those (x ∷ these) = cond (among those x) (allAmong those these) false
+allAmong those (x ∷ these) = among those x && allAmong those these
 
 -- "the letter all its plain codons share, else `X`"; "an empty set gives `X`"
 abbrev pub shared : List ℕ → ℕ
