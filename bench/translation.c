@@ -32,9 +32,21 @@ struct region {
     bool complemented;
     /* The loop takes so many residues at once. */
     size_t member;
-    /* transeq on the same residues. */
+    /* The letters of all codons; the last is a stop. */
+    struct bytes letters;
+    /* transeq on the same residues; an ambiguous text is not for it, and has no target. */
     struct transeq *transeq;
 };
+
+/* The tables of the loop, made once. */
+static const struct tables *loop_tables(void)
+{
+    static const struct tables *tables;
+    if (tables == NULL) {
+        tables = table_loop_tables();
+    }
+    return tables;
+}
 
 /* ---- the coding text */
 
@@ -76,6 +88,26 @@ static void write_residues(FILE *text, size_t codons)
     fputs("taa", text);
 }
 
+/* Codons of any of the fifteen symbols, and a stop only at the end. */
+static void write_ambiguous(FILE *text, size_t codons)
+{
+    static const char symbols[] = "acgtmrwsykvhdbn";
+    uint64_t state = 1;
+    for (size_t written = 1; written < codons;) {
+        uint8_t codon[3];
+        for (size_t i = 0; i < COUNT(codon); i++) {
+            codon[i] = (uint8_t)symbols[any_number(&state) % strlen(symbols)];
+        }
+        uint8_t letter = 0;
+        table_loop_forward(loop_tables(), codon, sizeof codon, &letter);
+        if (letter != '*') {
+            fwrite(codon, sizeof codon, 1, text);
+            written++;
+        }
+    }
+    fputs("taa", text);
+}
+
 static void write_plain_codons(FILE *text, size_t count)
 {
     for (unsigned codon = 0; codon < count; codon++) {
@@ -83,18 +115,11 @@ static void write_plain_codons(FILE *text, size_t count)
     }
 }
 
-static uint8_t complement(uint8_t base)
+static uint8_t complement(uint8_t symbol)
 {
-    switch (base) {
-    case 'a':
-        return 't';
-    case 'c':
-        return 'g';
-    case 'g':
-        return 'c';
-    default:
-        return 'a';
-    }
+    static const char pairs[] = "atcgmkryvbhd";
+    const char *found = memchr(pairs, symbol, strlen(pairs));
+    return found == NULL ? symbol : (uint8_t)pairs[(size_t)(found - pairs) ^ 1];
 }
 
 /* The other strand. */
@@ -130,7 +155,7 @@ static void write_join(FILE *text, size_t last)
 
 /* ---- the calls: each gives the time it took, and checks the answer against the letters of all codons */
 
-static double write_proved(const struct region *region, struct bytes letters, struct bytes out)
+static double write_proved(const struct region *region, struct bytes out)
 {
     size_t size = 0;
     const double start = processor_time();
@@ -138,19 +163,19 @@ static double write_proved(const struct region *region, struct bytes letters, st
         trial_translation(region->residues.at, region->residues.length, region->location.at, region->location.length,
                           (uint32_t)region->residues.length, 1, out.at, out.length, &size);
     const double time = processor_time() - start;
-    if (number != 0 || size != letters.length - 1 || memcmp(out.at, letters.at, size) != 0) {
+    if (number != 0 || size != region->letters.length - 1 || memcmp(out.at, region->letters.at, size) != 0) {
         die(region->words, "the proved translation is another");
     }
     return time;
 }
 
-static double compare_proved(const struct region *region, struct bytes letters, struct bytes out)
+static double compare_proved(const struct region *region, struct bytes out)
 {
     (void)out;
     const double start = processor_time();
     const uint32_t right =
         trial_is_right(region->residues.at, region->residues.length, region->location.at, region->location.length,
-                       (uint32_t)region->residues.length, 1, letters.at, letters.length - 1);
+                       (uint32_t)region->residues.length, 1, region->letters.at, region->letters.length - 1);
     const double time = processor_time() - start;
     if (right != 1) {
         die(region->words, "the right value is refused");
@@ -158,12 +183,9 @@ static double compare_proved(const struct region *region, struct bytes letters, 
     return time;
 }
 
-static double write_loop(const struct region *region, struct bytes letters, struct bytes out)
+static double write_loop(const struct region *region, struct bytes out)
 {
-    static const struct tables *tables;
-    if (tables == NULL) {
-        tables = table_loop_tables();
-    }
+    const struct tables *tables = loop_tables();
     const double start = processor_time();
     for (size_t at = 0; at < region->residues.length; at += region->member) {
         if (region->complemented) {
@@ -173,13 +195,13 @@ static double write_loop(const struct region *region, struct bytes letters, stru
         }
     }
     const double time = processor_time() - start;
-    if (memcmp(out.at, letters.at, letters.length) != 0) {
+    if (memcmp(out.at, region->letters.at, region->letters.length) != 0) {
         die(region->words, "the loop's translation is another");
     }
     return time;
 }
 
-typedef double call(const struct region *region, struct bytes letters, struct bytes out);
+typedef double call(const struct region *region, struct bytes out);
 
 /* ---- measuring */
 
@@ -198,17 +220,19 @@ static void open_question(struct question *question, const char *what, call *pro
     question->region = region;
     snprintf(question->words, sizeof question->words, "%s, %s", what, region->words);
     question->row = row_of(question->words, region->residues.length);
-    question->row.targets[TABLE_LOOP] = loop_target;
-    question->row.targets[TRANSEQ] = transeq_target;
+    if (region->transeq != NULL) {
+        question->row.targets[TABLE_LOOP] = loop_target;
+        question->row.targets[TRANSEQ] = transeq_target;
+    }
 }
 
 /* The loop and the proved call, one after the other, each with room that has no letters yet. */
-static void take_turns(struct question *question, struct bytes letters, struct bytes out)
+static void take_turns(struct question *question, struct bytes out)
 {
     memset(out.at, 0, out.length);
-    keep_least(&question->row.peers[TABLE_LOOP], write_loop(question->region, letters, out));
+    keep_least(&question->row.peers[TABLE_LOOP], write_loop(question->region, out));
     memset(out.at, 0, out.length);
-    keep_least(&question->row.proved, question->proved(question->region, letters, out));
+    keep_least(&question->row.proved, question->proved(question->region, out));
 }
 
 /* The letter of one codon by the proved translation: a stop alone is dropped. */
@@ -258,20 +282,28 @@ static struct bytes letters_of(const struct transeq *peers, size_t count)
     return letters;
 }
 
-/* A round has a turn of each question and of transeq, so that none alone has the bad times of a machine that others use. */
-static void take_rounds(struct question *questions, size_t count, struct transeq *peers, struct bytes letters, int rounds)
+/* The loop's letters of a text in one span. */
+static struct bytes loop_letters(struct bytes residues)
 {
-    const struct bytes out = {room_for(letters.length), letters.length};
+    const struct bytes letters = {room_for(residues.length / 3), residues.length / 3};
+    table_loop_forward(loop_tables(), residues.at, residues.length, letters.at);
+    return letters;
+}
+
+/* A round has a turn of each question and of transeq, so that none alone has the bad times of a machine that others use. */
+static void take_rounds(struct question *questions, size_t count, struct transeq *peers, size_t letters, int rounds)
+{
+    const struct bytes out = {room_for(letters), letters};
     for (int round = 0; round < rounds; round++) {
         run_all(peers);
         for (size_t i = 0; i < count; i++) {
-            take_turns(&questions[i], letters, out);
+            take_turns(&questions[i], out);
         }
     }
     free(out.at);
 }
 
-/* Writes and compares the translation of three regions of a size. True if every target is met. */
+/* Writes and compares the translation of the regions of a size. True if every target is met. */
 static bool measure(const struct size *size, const char *folder, int rounds)
 {
     const size_t residues = MEMBER * size->members;
@@ -279,35 +311,45 @@ static bool measure(const struct size *size, const char *folder, int rounds)
     const struct bytes codons = text_of(write_plain_codons, 64);
     const struct bytes forward = text_of(write_residues, count);
     const struct bytes backward = reversed(forward);
+    const struct bytes ambiguous = text_of(write_ambiguous, count);
     struct transeq peers[QUESTIONS] = {
         [START_UP] = transeq_open(folder, "codons", codons, "1"),
         [FORWARD] = transeq_open(folder, "forward", forward, "1"),
         [BACKWARD] = transeq_open(folder, "backward", backward, "-1"),
     };
+    run_all(peers);
+    compare_codons(codons, transeq_letters(&peers[START_UP]));
+    const struct bytes plain_letters = letters_of(peers, count);
+    const struct bytes ambiguous_letters = loop_letters(ambiguous);
+    const struct bytes range = text_of(write_range, residues);
+    const struct bytes complemented = text_of(write_complement, residues);
     struct transeq *ahead = &peers[FORWARD];
     struct transeq *behind = &peers[BACKWARD];
     char join[32];
     snprintf(join, sizeof join, "join of %zu", size->members);
     const struct region regions[] = {
-        {"one span", forward, text_of(write_range, residues), false, residues, ahead},
-        {"complement", backward, text_of(write_complement, residues), true, residues, behind},
-        {join, forward, text_of(write_join, residues), false, MEMBER, ahead},
+        {"one span", forward, range, false, residues, plain_letters, ahead},
+        {"complement", backward, complemented, true, residues, plain_letters, behind},
+        {join, forward, text_of(write_join, residues), false, MEMBER, plain_letters, ahead},
+        {"ambiguous", ambiguous, range, false, residues, ambiguous_letters, NULL},
+        {"ambiguous complement", reversed(ambiguous), complemented, true, residues, ambiguous_letters, NULL},
     };
     struct question questions[2 * COUNT(regions)];
     for (size_t i = 0; i < COUNT(regions); i++) {
         open_question(&questions[i], "translation", write_proved, &regions[i], size->transeq_target);
         open_question(&questions[COUNT(regions) + i], "value compared", compare_proved, &regions[i], size->transeq_target);
     }
-    run_all(peers);
-    compare_codons(codons, transeq_letters(&peers[START_UP]));
-    take_rounds(questions, COUNT(questions), peers, letters_of(peers, count), rounds);
+    take_rounds(questions, COUNT(questions), peers, count, rounds);
     bool met = true;
     for (size_t i = 0; i < COUNT(questions); i++) {
         struct row *row = &questions[i].row;
-        row->peers[TRANSEQ] = questions[i].region->transeq->best;
-        char note[64];
-        snprintf(note, sizeof note, "transeq without its start-up %.1f",
-                 (row->peers[TRANSEQ] - peers[START_UP].best) / row->proved);
+        const struct transeq *transeq = questions[i].region->transeq;
+        char note[64] = "";
+        if (transeq != NULL) {
+            row->peers[TRANSEQ] = transeq->best;
+            snprintf(note, sizeof note, "transeq without its start-up %.1f",
+                     (transeq->best - peers[START_UP].best) / row->proved);
+        }
         met = tell_row(row, note) && met;
     }
     return met;

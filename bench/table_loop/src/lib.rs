@@ -44,7 +44,7 @@ impl Tables {
         }
         let mut letters = [b'X'; 4096];
         for (index, letter) in letters.iter_mut().enumerate() {
-            *letter = shared_letter(index >> 8, index >> 4 & 15, index & 15);
+            *letter = most_restrictive(index >> 8, index >> 4 & 15, index & 15);
         }
         Tables {
             sets,
@@ -66,8 +66,8 @@ fn bit(base: u8) -> u8 {
     number.map_or(0, |number| 1 << number)
 }
 
-/// The letter that all plain codons of three base sets share, else `X`.
-fn shared_letter(first: usize, second: usize, third: usize) -> u8 {
+/// The most restrictive letter for all plain codons of three base sets.
+fn most_restrictive(first: usize, second: usize, third: usize) -> u8 {
     let plain = (0..64).filter(|codon| {
         let bases = [
             (first, codon >> 4),
@@ -77,9 +77,13 @@ fn shared_letter(first: usize, second: usize, third: usize) -> u8 {
         bases.iter().all(|(set, base)| set >> base & 1 == 1)
     });
     let mut letters: Vec<u8> = plain.map(|codon| CODE_1[codon]).collect();
+    letters.sort_unstable();
     letters.dedup();
     match letters[..] {
         [letter] => letter,
+        [b'D', b'N'] => b'B',
+        [b'E', b'Q'] => b'Z',
+        [b'I', b'L'] => b'J',
         _ => b'X',
     }
 }

@@ -39,14 +39,14 @@ sets-right turned t small bases b h =
 
 abbrev bitsOf : List ℕ → ℕ
 bitsOf [] = 0
-bitsOf (x ∷ l) = cond (eqb x (code "a")) 1 (cond (eqb x (code "c")) 2 (cond (eqb x (code "g")) 4 8)) + bitsOf l
+bitsOf (x ∷ l) = cond (eqb x (code "a")) 1 (cond (eqb x (code "c")) 2 (cond (eqb x (code "g")) 8 4)) + bitsOf l
 
 abbrev pub setOf : ℕ → ℕ
 setOf b = bitsOf (basesOf b)
 
 -- the letter of a set that has a base
 abbrev pub letterOf : ℕ → ℕ
-letterOf x = getD (bytes " acmgrsvtwyhkdbn") x 0
+letterOf x = getD (bytes " acmtwyhgrsvkdbn") x 0
 
 module _ (b : ℕ) (h : b < 256) where
   pub set-small : setOf b < 16

@@ -20,7 +20,7 @@ withBit bit x base = cond (eqb (x / bit % 2) 1) base []
 
 -- the plain bases of a four-bit set, in the order in which the paper lists those of a letter
 abbrev pub setBases : ℕ → List ℕ
-setBases x = withBit 1 x (bytes "a") ++ withBit 2 x (bytes "c") ++ withBit 4 x (bytes "g") ++ withBit 8 x (bytes "t")
+setBases x = withBit 1 x (bytes "a") ++ withBit 2 x (bytes "c") ++ withBit 8 x (bytes "g") ++ withBit 4 x (bytes "t")
 
 -- the letter of three sets: the most restrictive one of their plain codons
 abbrev pub setsLetter : Code → ℕ → ℕ → ℕ → ℕ
@@ -74,7 +74,7 @@ pub record CodeTable (g : Code) (t : List ℕ) : Type 0 where
 -- the places of the plain codons, "for bases in order t, c, a, g, first base slowest"
 abbrev pub plainPlaces : List ℕ
 plainPlaces =
-    let bases : List ℕ = 8 ∷ 2 ∷ 1 ∷ 4 ∷ [] in
+    let bases : List ℕ = 4 ∷ 2 ∷ 1 ∷ 8 ∷ [] in
     gather (λ (a : ℕ). gather (λ (b : ℕ). map (λ (c : ℕ). a * 256 + b * 16 + c) bases) bases) bases
 
 -- a table has the letters of its code
