@@ -1,5 +1,5 @@
 -- The rule of a code's table, from tests that antt computes over its bytes; and which code a table is of.
-use Prim.Native.Nat.{ℕ, _/_, _<_}
+use Prim.Native.Nat.{ℕ, _/_}
 use native.Mathlib.Omega.{arith}
 use mathlib.Core.Path.{_≡_, refl, sym, ap, _∙_, subst}
 use mathlib.Core.Bool.{Bool, true, false}
@@ -11,7 +11,7 @@ use borrow.Author.Tests.{eqb-true}
 use Rattle.paper.specs.Translation.{Code, code1, basesOf}
 use Rattle.paper.proofs.Tables.{Test, allFrom, each-at}
 use Rattle.protein_code.specs.Plain.{plainNumber}
-use Rattle.protein_code.specs.Tables.{setBases, answerAt, onStrand, SelfSpelt, plainFrom, CodeTable, plainPlaces, codeOf, Coded}
+use Rattle.protein_code.specs.Tables.{setBases, answerAt, onStrand, SelfSpelt, plainFrom, Answers, CodeTable, plainPlaces, codeOf, Coded}
 use Rattle.protein_code.proofs.Sets.{partOf, part-at, setsOf, sets-right}
 use Rattle.protein_code.proofs.Stopping.{StopTest, stops-right}
 use Rattle.protein_code.proofs.Plain.{PlainTest, plain-right}
@@ -45,7 +45,7 @@ code-right g t letters back ahead size test =
     tests true = back
     tests false = ahead
 
-    answers : (i : ℕ) → i < 4096 → getD t i 0 ≡ answerAt g i
+    answers : Answers g t
     answers i h = sym (getD-take 4096 t i 0 h) ∙ eqb-true _ _ (each-at (answerRight g) (take 4096 t) 0 test i (omega (arith, size, h)))
 
 -- ---- the code of a table

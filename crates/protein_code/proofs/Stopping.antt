@@ -1,4 +1,4 @@
--- Stops told by comparing letters: where a table's letters aren't those of three residues they are no stop, by a test over all three sets.
+-- Stops told by comparing letters: where a table's letters aren't those of three residues they are no stop, by a test over all answers.
 use Prim.Native.Nat.{ℕ, _+_, _*_, _/_, _%_, _<_}
 use native.Mathlib.Omega.{arith}
 use mathlib.Core.Path.{_≡_, refl, sym, ap, _∙_}
@@ -13,7 +13,7 @@ use Rattle.paper.specs.Translation.{Code, complementOf, codonLetter}
 use Rattle.paper.proofs.Tables.{allFrom, each-at}
 use Rattle.read_bytes.specs.Numbers.{flag}
 use Rattle.read_bytes.proofs.Numbers.{flag-none}
-use Rattle.protein_code.specs.Tables.{setsLetter, answerAt, stopsFrom}
+use Rattle.protein_code.specs.Tables.{setsLetter, stopsFrom, Answers}
 use Rattle.protein_code.specs.Stops.{isStop, letterHere, isTold}
 use Rattle.protein_code.proofs.Sets.{setOf, letterOf, set-small, set-bases, set-letter, turned-small, turned-twice}
 
@@ -53,15 +53,18 @@ module _ (t : List ℕ) (turned : Bool) where
   abbrev stopTold : ℕ → ℕ → ℕ → ℕ → Bool
   stopTold a b c x = cond (isStop x) (not (eqb a 0) && (not (eqb b 0) && (not (eqb c 0) && setsTold turned a b c))) true
 
+  abbrev stopAt : ℕ → ℕ → Bool
+  stopAt i = stopTold (i / 256) (i / 16 % 16) (i % 16)
+
   -- the test: it holds of all answers
   abbrev pub StopTest : Type 0
-  StopTest = allFrom (λ (i x : ℕ). stopTold (i / 256) (i / 16 % 16) (i % 16) x) 0 (take 4096 t) ≡ true
+  StopTest = allFrom stopAt 0 (take 4096 t) ≡ true
 
-  module _ (g : Code) (size : length (take 4096 t) ≡ 4096) (answers : (i : ℕ) → i < 4096 → getD t i 0 ≡ answerAt g i) (test : StopTest) where
+  module _ (g : Code) (size : length (take 4096 t) ≡ 4096) (answers : Answers g t) (test : StopTest) where
     at-index : (n a b c : ℕ) → n < 4096 → n / 256 ≡ a → n / 16 % 16 ≡ b → n % 16 ≡ c → stopTold a b c (setsLetter g a b c) ≡ true
     at-index n a b c h e f k =
         rw (← e, ← f, ← k, ← answers n h, ← getD-take 4096 t n 0 h)
-        (each-at (λ (i x : ℕ). stopTold (i / 256) (i / 16 % 16) (i % 16) x) (take 4096 t) 0 test n (omega (arith, size, h)))
+        (each-at stopAt (take 4096 t) 0 test n (omega (arith, size, h)))
 
     at-sets : (a b c : ℕ) → a < 16 → b < 16 → c < 16 → stopTold a b c (setsLetter g a b c) ≡ true
     at-sets a b c h i j = at-index (a * 256 + b * 16 + c) a b c (omega arith) (omega arith) (omega arith) (omega arith)
@@ -82,7 +85,7 @@ module _ (t : List ℕ) (turned : Bool) where
           based b e z = true≢false (sym e ∙ ap not (eq-eqb (setOf b) 0 z))
 
 -- what the sets' letters tell, told of the residues
-module _ (g : Code) (t : List ℕ) (size : length (take 4096 t) ≡ 4096) (answers : (i : ℕ) → i < 4096 → getD t i 0 ≡ answerAt g i) where
+module _ (g : Code) (t : List ℕ) (size : length (take 4096 t) ≡ 4096) (answers : Answers g t) where
   pub stops-right : (turned : Bool) → StopTest t turned → (x y z : ℕ) → x < 256 → y < 256 → z < 256
       → isTold turned (λ (i : ℕ). getD t (stopsFrom turned + i) 0) x y z ≡ false → isStop (letterHere g turned x y z) ≡ false
   stops-right true test x y z h i j n = by (isStop (letterHere g true x y z)) refl

@@ -59,11 +59,15 @@ stopsFrom false = 5120
 abbrev pub SelfSpelt : Code → Type 0
 SelfSpelt g = map spell g ≡ map (λ (b : ℕ). b ∷ []) g
 
+-- "the 4,096 answers for three four-bit base sets": each stands at its index
+abbrev pub Answers : Code → List ℕ → Type 0
+Answers g t = (i : ℕ) → i < 4096 → getD t i 0 ≡ answerAt g i
+
 -- t is the table of the code g
 pub record CodeTable (g : Code) (t : List ℕ) : Type 0 where
   pub spelt : SelfSpelt g
   pub sets : (turned : Bool) (b : ℕ) → b < 256 → SetAt turned b (getD t (setsFrom turned + b) 0)
-  pub answer : (i : ℕ) → i < 4096 → getD t i 0 ≡ answerAt g i
+  pub answer : Answers g t
   pub plain : (turned : Bool) (x y z w : ℕ) → Plain x → Plain y → Plain z
       → getD t (plainFrom turned + plainNumber x y z w) 0 ≡ letterHere g turned x y z
   pub stops : (turned : Bool) (x y z : ℕ) → x < 256 → y < 256 → z < 256
