@@ -1,7 +1,7 @@
 -- Translation: from residues and spans to the letters of a protein. Functions of the residues as read.
 use Prim.Native.Nat.{ℕ, suc, _+_, _*_, _-_, _%_}
 use Prim.Native.Char.{code}
-use mathlib.Core.Bool.{Bool, true, false, _&&_, cond}
+use mathlib.Core.Bool.{Bool, true, _&&_, cond}
 use mathlib.Core.List.{List, [], _∷_, _++_, map, reverse}
 use lib.ListN.{take, drop, getD}
 use lib.Dec.{eqb}
