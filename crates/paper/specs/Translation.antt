@@ -97,13 +97,14 @@ shared (x ∷ l) = cond (allAmong (x ∷ []) l) x (code "X")
 abbrev pub giveExactly : List ℕ → List ℕ → Bool
 giveExactly those l = allAmong those l && allAmong l those
 
--- "exactly N and D is `B`, exactly Q and E is `Z`, exactly I and L is `J`; otherwise as before"
+-- "whose plain codons give exactly N and D is `B`, exactly Q and E is `Z`, exactly I and L is `J`; otherwise as before"
 abbrev pub mostRestrictive : List ℕ → ℕ
 mostRestrictive l =
     cond (giveExactly (bytes "ND") l) (code "B")
     (cond (giveExactly (bytes "QE") l) (code "Z")
     (cond (giveExactly (bytes "IL") l) (code "J") (shared l)))
 
+-- the letter of a codon, whatever the code
 abbrev pub codonLetter : Code → ℕ → ℕ → ℕ → ℕ
 codonLetter g a b c = mostRestrictive (plainLetters g (basesOf a) (basesOf b) (basesOf c))
 
