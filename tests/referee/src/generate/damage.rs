@@ -614,6 +614,16 @@ fn any_translation(sequence: &Sequence, rng: &mut Rng) -> Option<(usize, usize)>
     Some((f, *rng.pick(&translations)))
 }
 
+/// The letters that are easily stored in place of this one: of a mixed codon, of the two that it may give, and `X`, each for another.
+pub fn mistaken_for(letter: u8) -> impl Iterator<Item = u8> {
+    let groups = [b"BNDX", b"ZQEX", b"JILX"].into_iter();
+    groups
+        .filter(move |group| group.contains(&letter))
+        .flatten()
+        .copied()
+        .filter(move |&other| other != letter)
+}
+
 fn wrong_translation(sequence: &mut Sequence, k: usize, rng: &mut Rng) -> Option<Breaks> {
     nucleic(sequence)?;
     let (f, q) = any_translation(sequence, rng)?;
@@ -629,15 +639,11 @@ fn wrong_translation(sequence: &mut Sequence, k: usize, rng: &mut Rng) -> Option
     if !right.is_empty() {
         let last = right.len() - 1;
         let at = rng.below(right.len());
-        let other = if right.as_bytes()[at] == b'K' {
-            "R"
-        } else {
-            "K"
-        };
-        let mut changed = right.clone();
-        changed.replace_range(at..=at, other);
+        let letter = right.as_bytes()[at];
+        let with = |other| format!("{}{}{}", &right[..at], char::from(other), &right[at + 1..]);
+        wrong.extend(mistaken_for(letter).map(with));
         wrong.extend([
-            changed,
+            with(if letter == b'K' { b'R' } else { b'K' }),
             String::new(),
             right[..last].into(),
             right[1..].into(),
