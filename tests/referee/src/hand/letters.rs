@@ -33,7 +33,7 @@ macro_rules! stored {
     };
 }
 
-/// "Exactly N and D is `B`, exactly Q and E is `Z`, exactly I and L is `J`; otherwise as before."
+/// "A codon whose plain codons give exactly N and D is `B`, exactly Q and E is `Z`, exactly I and L is `J`; otherwise as before."
 pub const LETTERS: &[Case] = letters! {
     // Every codon that has changed.
     "N or D": "B", not "X" "N" "D" "Z",
