@@ -614,7 +614,7 @@ fn any_translation(sequence: &Sequence, rng: &mut Rng) -> Option<(usize, usize)>
     Some((f, *rng.pick(&translations)))
 }
 
-/// The letters that are easily stored in place of this one: of a mixed codon, of the two that it may give, and `X`, each for another.
+/// What is easily stored in place of this letter: one of a mixed codon, the two that it may give, and `X` are taken for one another.
 pub fn mistaken_for(letter: u8) -> impl Iterator<Item = u8> {
     let groups = [b"BNDX", b"ZQEX", b"JILX"].into_iter();
     groups
