@@ -380,7 +380,8 @@ fn coding_feature(rng: &mut Rng, residues: &mut Vec<u8>, cds: Cds) -> Feature {
     let mut must_stop = false;
     match cds {
         Cds::Translated => {
-            let count = rng.between(1, 10);
+            let most = if rng.chance(10) { 150 } else { 10 };
+            let count = rng.between(1, most);
             translation = codons(rng, &mut coding, count);
         }
         Cds::StopInside => {
