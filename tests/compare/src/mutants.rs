@@ -113,7 +113,7 @@ pub fn mutant(seed: u64, number: u64) -> Input {
 }
 
 /// What a text or an attribute's value may get instead of what it has; some of it means something in a value.
-const CHARACTERS: &[u8] = b"0123456789acgtnuACGTMKXZ .,^()-_jo";
+const CHARACTERS: &[u8] = b"0123456789acgtmrsynuACGTMKBJXZ .,^()-_jo";
 
 /// A valid listing with a change or two inside its values, so that it stays of the layout: the rules on values judge it.
 pub fn value_mutant(seed: u64, number: u64) -> Input {

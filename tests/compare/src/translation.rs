@@ -1,8 +1,11 @@
 //! Translations: what the proved code writes into lent room, and what it says of a value, beside the referee.
 
+use crate::check::rng;
 use crate::proved;
 use crate::report::Count;
 use referee::coding::{complement, Coding};
+use referee::generate::damage::mistaken_for;
+use referee::generate::valid::CODONS;
 use referee::generate::Rng;
 use referee::location::COMPLEMENT;
 use referee::{codon_letter, StopInside};
@@ -19,24 +22,29 @@ pub struct Region {
 const SYMBOLS: &[u8; 15] = b"acgtmrwsykvhdbn";
 const PLAIN: &[u8] = b"acgt";
 
-/// Compares all codons and `count` generated regions; whether nothing differs.
+/// Compares all codons, runs with one ambiguous codon, and `count` generated regions; whether nothing differs.
 pub fn run(count: u64, seed: u64) -> Result<bool, String> {
-    let rng = &mut Rng::new(seed);
-    let mut tally = Tally::default();
-    for region in codons() {
-        tally.compare(&region, rng);
-    }
-    tally.tell("codons");
-    let mut generated = Tally {
-        count: tally.count,
+    let ambiguous = &ambiguous_codons();
+    let runs = runs(ambiguous, &mut Rng::new(!seed));
+    let generated = (0..count).map(|number| generated_region(&mut rng(seed, number), ambiguous));
+    let choices = &mut Rng::new(seed);
+    let compared = kind("codons", codons(), Count::default(), choices);
+    let compared = kind("runs", runs.into_iter(), compared, choices);
+    let compared = kind("generated", generated, compared, choices);
+    Ok(compared.close("translation"))
+}
+
+/// Compares the regions of one kind, and tells what they are.
+fn kind(name: &str, regions: impl Iterator<Item = Region>, count: Count, rng: &mut Rng) -> Count {
+    let mut tally = Tally {
+        count,
         ..Tally::default()
     };
-    for _ in 0..count {
-        let region = generated_region(rng);
-        generated.compare(&region, rng);
+    for region in regions {
+        tally.compare(&region, rng);
     }
-    generated.tell("generated");
-    Ok(generated.count.close("translation"))
+    tally.tell(name);
+    tally.count
 }
 
 /// Each codon alone, where a stop is the last, and before another, where a stop is inside; on both strands.
@@ -52,6 +60,41 @@ fn codons() -> impl Iterator<Item = Region> {
             first([b"gcc", &codon], "complement(1..6)"),
         ]
     })
+}
+
+/// Codons, those of one letter together.
+type Codons = Vec<Vec<&'static [u8]>>;
+
+/// The ambiguous ones of the generator's table.
+fn ambiguous_codons() -> Codons {
+    let is_ambiguous = |codon: &&[u8]| codon.iter().any(|symbol| !PLAIN.contains(symbol));
+    let rows = CODONS.iter().map(|(_, codons)| {
+        let codons = codons.split(' ').map(str::as_bytes);
+        codons.filter(is_ambiguous).collect()
+    });
+    rows.filter(|row: &Vec<_>| !row.is_empty()).collect()
+}
+
+/// Plain codons, fewer than a block, as many, and more, with one ambiguous codon of each letter at each place; on both strands.
+fn runs(ambiguous: &Codons, rng: &mut Rng) -> Vec<Region> {
+    let mut runs = Vec::new();
+    for codons in [1, 2, 63, 64, 65, 128, 129] {
+        for (at, row) in (0..codons).flat_map(|at| ambiguous.iter().map(move |row| (at, row))) {
+            let codon_start = rng.between(1, 3);
+            let residues = codon_start - 1 + 3 * codons + rng.below(3);
+            let whole = format!("1..{residues}");
+            for location in [turned(&whole), whole] {
+                let residues = (0..residues).map(|_| *rng.pick(PLAIN)).collect();
+                let mut region = region(residues, &location, codon_start);
+                let positions = positions(&region);
+                without_stops(&mut region.residues, &positions, rng);
+                let codon = *rng.pick(row);
+                put(&mut region.residues, &positions[3 * at..], codon);
+                runs.push(region);
+            }
+        }
+    }
+    runs
 }
 
 fn region(residues: Vec<u8>, location: &str, codon_start: usize) -> Region {
@@ -173,25 +216,37 @@ fn values(right: &[u8], rng: &mut Rng) -> Vec<Vec<u8>> {
         Vec::new(),
     ];
     if let Some((_, but_last)) = right.split_last() {
-        let mut changed = right.to_vec();
+        values.extend([but_last.to_vec(), right[1..].to_vec()]);
+        let mut change = |at: usize, letter: u8| {
+            let mut changed = right.to_vec();
+            changed[at] = letter;
+            values.push(changed);
+        };
         let at = rng.below(right.len());
         let mut others = b"AKMX*k&'".to_vec();
         others.retain(|&letter| letter != right[at]);
-        changed[at] = *rng.pick(&others);
-        values.extend([changed, but_last.to_vec(), right[1..].to_vec()]);
+        change(at, *rng.pick(&others));
+        for letter in b'A'..=b'Z' {
+            let places: Vec<usize> = (0..right.len()).filter(|&at| right[at] == letter).collect();
+            if !places.is_empty() {
+                let at = *rng.pick(&places);
+                mistaken_for(letter).for_each(|other| change(at, other));
+            }
+        }
     }
     values
 }
 
 /// A region of any judged shape, with a stop inside, a last one or none, as far as its members let it.
-fn generated_region(rng: &mut Rng) -> Region {
+fn generated_region(rng: &mut Rng, ambiguous: &Codons) -> Region {
     let longest = *rng.pick(&[8, 30, 120, 1200]);
     let count = rng.between(1, longest);
-    let ambiguous = *rng.pick(&[0, 0, 3, 20, 100]);
-    let residues = (0..count).map(|_| residue(rng, ambiguous)).collect();
+    let percent = *rng.pick(&[0, 0, 3, 20, 100]);
+    let residues = (0..count).map(|_| residue(rng, percent)).collect();
     let location = location(rng, count);
     let mut region = region(residues, &location, rng.between(1, 3));
     let positions = positions(&region);
+    put_ambiguous(&mut region.residues, &positions, ambiguous, rng);
     without_stops(&mut region.residues, &positions, rng);
     let stop = rng.pick(&["taa", "tag", "tga", "tar", "tra"]).as_bytes();
     let codons: Vec<&[Position]> = positions.chunks_exact(3).collect();
@@ -206,8 +261,8 @@ fn generated_region(rng: &mut Rng) -> Region {
     region
 }
 
-fn residue(rng: &mut Rng, ambiguous: usize) -> u8 {
-    *if rng.chance(ambiguous) {
+fn residue(rng: &mut Rng, percent: usize) -> u8 {
+    *if rng.chance(percent) {
         rng.pick(SYMBOLS)
     } else {
         rng.pick(PLAIN)
@@ -286,6 +341,21 @@ fn put(residues: &mut [u8], positions: &[Position], letters: &[u8]) {
     }
 }
 
+/// Puts ambiguous codons in stretches: none, a few, or nothing else.
+fn put_ambiguous(residues: &mut [u8], positions: &[Position], codons: &Codons, rng: &mut Rng) {
+    let mut places = positions.chunks_exact(3);
+    while places.len() > 0 {
+        let percent = *rng.pick(&[0, 2, 100]);
+        for place in places.by_ref().take(rng.between(1, 150)) {
+            if rng.chance(percent) {
+                let row = rng.pick(codons);
+                let codon = *rng.pick(row);
+                put(residues, place, codon);
+            }
+        }
+    }
+}
+
 /// Takes the stops out of the coding text; where members overlap, some may stay.
 fn without_stops(residues: &mut [u8], positions: &[Position], rng: &mut Rng) {
     for _ in 0..3 {
@@ -299,7 +369,7 @@ fn without_stops(residues: &mut [u8], positions: &[Position], rng: &mut Rng) {
                 }
             };
             if codon_letter([read(&codon[0]), read(&codon[1]), read(&codon[2])]) == b'*' {
-                put(residues, &codon[..1], &[*rng.pick(b"acgmn")]);
+                put(residues, &codon[..1], &[*rng.pick(b"acg")]);
             }
         }
     }
@@ -364,17 +434,47 @@ mod tests {
     }
 
     #[test]
+    fn each_run_has_one_ambiguous_codon() {
+        for region in runs(&ambiguous_codons(), &mut Rng::new(1)) {
+            let is_ambiguous = |&(at, _): &Position| !PLAIN.contains(&region.residues[at]);
+            let positions = positions(&region);
+            let codons = positions
+                .chunks(3)
+                .filter(|codon| codon.iter().any(is_ambiguous));
+            assert_eq!(codons.count(), 1, "{region:?}");
+        }
+    }
+
+    #[test]
+    fn each_mixed_letter_is_exchanged() {
+        let values = values(b"MBJXD", &mut Rng::new(1));
+        for wrong in [
+            "MXJXD", "MNJXD", "MDJXD", "MBLXD", "MBIXD", "MBXXD", "MBJBD", "MBJZD", "MBJJD",
+            "MBJXB",
+        ] {
+            assert!(values.contains(&wrong.into()), "{wrong}");
+        }
+    }
+
+    #[test]
     fn the_generated_regions_are_of_every_kind() {
         let rng = &mut Rng::new(1);
+        let ambiguous = &ambiguous_codons();
         let mut tally = Tally::default();
+        let mut letters = Vec::new();
         for _ in 0..1000 {
-            let region = generated_region(rng);
+            let region = generated_region(rng, ambiguous);
             tally.compare(&region, rng);
+            letters.extend(coding(&region).letters().flatten());
         }
         assert_eq!(tally.count.differ, 0);
         assert!(tally.stop_inside > 100, "{}", tally.stop_inside);
         assert!(tally.stop_last > 200, "{}", tally.stop_last);
         assert!(tally.empty > 100, "{}", tally.empty);
         assert!(tally.right > 800, "{}", tally.right);
+        for (letter, _) in &CODONS[..24] {
+            let count = letters.iter().filter(|&&own| own == *letter as u8).count();
+            assert!(count > 150, "{letter}: {count}");
+        }
     }
 }

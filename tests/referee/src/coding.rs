@@ -25,22 +25,38 @@ const SYMBOLS: [(u8, &str); 15] = [
     (b'n', "acgt"),
 ];
 
-/// The letter of a codon: the one that all its plain codons share, else `X`.
-/// A letter outside the symbols has no plain base, which gives `X` too.
+/// The letters that stand for either of two, with these two.
+const PAIRS: [(u8, &[u8; 2]); 3] = [(b'B', b"ND"), (b'Z', b"QE"), (b'J', b"IL")];
+
+/// The letter of a codon: the most restrictive one for all that its plain codons give.
+/// A letter outside the symbols has no plain base, so that such a codon gives nothing.
 pub fn codon_letter(codon: [u8; 3]) -> u8 {
     let [first, second, third] = codon.map(plain_bases);
-    let mut shared = None;
+    let mut given = 0;
     for &a in first {
         for &b in second {
             for &c in third {
-                let letter = CODE_1[16 * base_number(a) + 4 * base_number(b) + base_number(c)];
-                if *shared.get_or_insert(letter) != letter {
-                    return b'X';
-                }
+                given |= set(&[CODE_1[16 * base_number(a) + 4 * base_number(b) + base_number(c)]]);
             }
         }
     }
-    shared.unwrap_or(b'X')
+    most_restrictive(given)
+}
+
+/// A set of letters, `*` too: one bit for each.
+fn set(letters: &[u8]) -> u64 {
+    letters
+        .iter()
+        .fold(0, |set, letter| set | 1 << (letter - b'*'))
+}
+
+/// The only letter of the set, the one of a pair if it has exactly these two, else `X`.
+fn most_restrictive(given: u64) -> u8 {
+    if given.is_power_of_two() {
+        return b'*' + given.trailing_zeros() as u8;
+    }
+    let pair = PAIRS.iter().find(|&&(_, pair)| set(pair) == given);
+    pair.map_or(b'X', |&(letter, _)| letter)
 }
 
 /// Whether the letter is a symbol of DNA and RNA.

@@ -20,7 +20,7 @@ pub enum Damage {
 
 /// Every damage, with the rule that it is meant to break.
 /// They are made for the rich listings, in which everything optional is there.
-pub const DAMAGES: [(u32, Damage); 35] = [
+pub const DAMAGES: [(u32, Damage); 36] = [
     (10, Damage::Header(dtd_version)),
     (11, Damage::Header(production_date)),
     (11, Damage::Header(application_date)),
@@ -48,6 +48,7 @@ pub const DAMAGES: [(u32, Damage); 35] = [
     (25, Damage::Sequence(location_reach)),
     (26, Damage::Sequence(amino_complement)),
     (27, Damage::Sequence(codon_start)),
+    (28, Damage::Sequence(mistaken_letter)),
     (28, Damage::Sequence(wrong_translation)),
     (28, Damage::Sequence(absent_translation)),
     (28, Damage::Sequence(stop_inside)),
@@ -614,6 +615,35 @@ fn any_translation(sequence: &Sequence, rng: &mut Rng) -> Option<(usize, usize)>
     Some((f, *rng.pick(&translations)))
 }
 
+/// What is easily stored in place of this letter: `X` in place of any; a mixed codon's letter and its two in place of one another
+/// and of `X`.
+pub fn mistaken_for(letter: u8) -> impl Iterator<Item = u8> {
+    let groups = [b"BND", b"ZQE", b"JIL"].into_iter();
+    groups
+        .filter(move |group| letter == b'X' || group.contains(&letter))
+        .flatten()
+        .chain(b"X")
+        .copied()
+        .filter(move |&other| other != letter)
+}
+
+fn mistaken_letter(sequence: &mut Sequence, k: usize, rng: &mut Rng) -> Option<Breaks> {
+    nucleic(sequence)?;
+    let (f, q) = any_translation(sequence, rng)?;
+    let value = &mut sequence.table.as_mut()?[f].qualifiers.as_mut()?[q].value;
+    let right = value.as_mut()?;
+    let letters = right.bytes().enumerate();
+    let mistakes: Vec<(usize, u8)> = letters
+        .flat_map(|(at, letter)| mistaken_for(letter).map(move |other| (at, other)))
+        .collect();
+    if mistakes.is_empty() {
+        return None;
+    }
+    let (at, other) = *rng.pick(&mistakes);
+    right.replace_range(at..=at, &char::from(other).to_string());
+    Some(vec![(28, Field::QualifierValue(k, f, q))])
+}
+
 fn wrong_translation(sequence: &mut Sequence, k: usize, rng: &mut Rng) -> Option<Breaks> {
     nucleic(sequence)?;
     let (f, q) = any_translation(sequence, rng)?;
@@ -628,16 +658,7 @@ fn wrong_translation(sequence: &mut Sequence, k: usize, rng: &mut Rng) -> Option
     ];
     if !right.is_empty() {
         let last = right.len() - 1;
-        let at = rng.below(right.len());
-        let other = if right.as_bytes()[at] == b'K' {
-            "R"
-        } else {
-            "K"
-        };
-        let mut changed = right.clone();
-        changed.replace_range(at..=at, other);
         wrong.extend([
-            changed,
             String::new(),
             right[..last].into(),
             right[1..].into(),

@@ -366,7 +366,7 @@ fn codons(rng: &mut Rng, count: usize) -> (String, String) {
     let mut residues = String::new();
     let mut letters = String::new();
     for _ in 0..count {
-        let (letter, patterns) = CODONS[rng.below(19)];
+        let (letter, patterns) = CODONS[rng.below(20)];
         residues += &patterns[..3];
         letters.push(letter);
     }

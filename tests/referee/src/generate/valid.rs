@@ -8,8 +8,8 @@ use crate::location::{BEFORE, BEYOND, COMPLEMENT, SITE};
 use crate::vocabulary::{keys, known, spellings, Key};
 use crate::{Kind, Operator, Span};
 
-/// Each letter with codons that give it, written down by hand.
-pub const CODONS: [(char, &str); 22] = [
+/// Each letter with codons that give it, written down by hand: the amino acids, the letters of mixed codons, and the stop.
+pub const CODONS: [(char, &str); 25] = [
     ('A', "gct gcc gca gcg gcn gcy gcr gcm gcb"),
     ('C', "tgt tgc tgy"),
     ('D', "gat gac gay"),
@@ -29,11 +29,17 @@ pub const CODONS: [(char, &str); 22] = [
     ('T', "act acc aca acg acn acd"),
     ('V', "gtt gtc gta gtg gtn gth"),
     ('W', "tgg"),
+    ('Y', "tat tac tay"),
+    // Of these three, every codon.
+    ('B', "rat rac ray"),
+    ('Z', "saa sag sar"),
+    ('J', "mtt mtc mta mty mtm mtw mth wta hta"),
+    // The second line has those that nearly give one of the three.
     (
         'X',
-        "nnn tgr mtt atr atn ray sar ttn agn tgk trr yar tan wsn",
+        "nnn tgr atr atn ttn agn tgk trr yar tan wsn \
+         vay day rak ran raa say var bar san mar mtr mtk mtn mtg wtg wth hth vta nta mka",
     ),
-    ('Y', "tat tac tay"),
     ('*', "taa tag tga tar tra"),
 ];
 
@@ -374,7 +380,8 @@ fn coding_feature(rng: &mut Rng, residues: &mut Vec<u8>, cds: Cds) -> Feature {
     let mut must_stop = false;
     match cds {
         Cds::Translated => {
-            let count = rng.between(1, 10);
+            let most = if rng.chance(10) { 150 } else { 10 };
+            let count = rng.between(1, most);
             translation = codons(rng, &mut coding, count);
         }
         Cds::StopInside => {
@@ -415,11 +422,13 @@ fn coding_feature(rng: &mut Rng, residues: &mut Vec<u8>, cds: Cds) -> Feature {
     feature(rng, "CDS", place, qualifiers, known)
 }
 
-/// Adds codons that are no stops and gives their letters.
+/// Adds codons that are no stops and gives their letters. Three of ten are of the four mixed letters.
 fn codons(rng: &mut Rng, coding: &mut Vec<u8>, count: usize) -> String {
+    let (amino_acids, mixed) = CODONS[..24].split_at(20);
     (0..count)
         .map(|_| {
-            let (letter, patterns) = *rng.pick(&CODONS[..21]);
+            let rows = if rng.chance(30) { mixed } else { amino_acids };
+            let (letter, patterns) = *rng.pick(rows);
             codon(rng, coding, patterns);
             letter
         })
@@ -427,7 +436,7 @@ fn codons(rng: &mut Rng, coding: &mut Vec<u8>, count: usize) -> String {
 }
 
 fn stop(rng: &mut Rng, coding: &mut Vec<u8>) {
-    codon(rng, coding, CODONS[21].1);
+    codon(rng, coding, CODONS[24].1);
 }
 
 fn codon(rng: &mut Rng, coding: &mut Vec<u8>, patterns: &str) {

@@ -2,17 +2,19 @@
 
 pub mod base;
 pub mod layouts;
+pub mod letters;
 pub mod values;
 pub mod vocabulary;
 
 use base::{edited, BASE, SHORTEST};
 use layouts::{ACCEPTED, REFUSED};
+use letters::LETTERS;
 use values::{Case, FEATURES, HEADER, SAMPLES, SEQUENCES};
 use vocabulary::VOCABULARY;
 
 /// Those about the rules on values, 01's sample sheet first.
 pub fn values() -> impl Iterator<Item = &'static Case> {
-    [SAMPLES, HEADER, SEQUENCES, FEATURES, VOCABULARY]
+    [SAMPLES, HEADER, SEQUENCES, FEATURES, LETTERS, VOCABULARY]
         .into_iter()
         .flatten()
 }

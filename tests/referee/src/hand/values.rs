@@ -1416,15 +1416,6 @@ pub const FEATURES: &[Case] = &[
         [3, 1, 4, 1, 0],
     ),
     accepted(
-        "an ambiguous codon on the other strand",
-        &[
-            residues("yarcgtacgtac"),
-            location("complement(1..3)"),
-            (">MKC<", ">L<"),
-        ],
-        [3, 1, 4, 1, 0],
-    ),
-    accepted(
         "several transl_table 1 leave it judged",
         &[(
             qualifier!("codon_start", "1"),

@@ -26,6 +26,7 @@ fn main() -> ExitCode {
     report.section("the vocabulary in valid listings", vocabulary::coverage);
     report.section("beginnings", places::beginnings);
     report.section("damages", generated::damages);
+    report.section("mistaken letters", translations::mistakes);
     report.section("foreign residues", generated::residues);
     report.section("valid listings", generated::valid);
     report.section("mutants", places::mutants);

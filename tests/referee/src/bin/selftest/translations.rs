@@ -2,9 +2,13 @@
 
 use crate::report::Report;
 use referee::coding::{complement, Coding};
-use referee::generate::valid::CODONS;
+use referee::generate::damage::{Damage, DAMAGES};
+use referee::generate::model::Sequence;
+use referee::generate::valid::{rich, CODONS};
+use referee::generate::Rng;
 use referee::location::{COMPLEMENT, SITE};
 use referee::{codon_letter, translate, Span, StopInside};
+use std::collections::BTreeSet;
 
 const SYMBOLS: &[u8] = b"acgtmrwsykvhdbn";
 
@@ -22,22 +26,19 @@ fn includes(symbol: u8, base: u8) -> bool {
         .any(|&(plain, symbols)| plain == base && symbols.contains(&symbol))
 }
 
-/// The 64 plain codons with their letters, by the generator's hand-made table.
-fn plain_codons() -> Vec<([u8; 3], u8)> {
-    let mut plain = Vec::new();
-    for (letter, patterns) in CODONS {
-        for pattern in patterns.split(' ') {
-            let codon = <[u8; 3]>::try_from(pattern.as_bytes()).expect("three letters");
-            if codon.iter().all(|base| b"acgt".contains(base)) {
-                plain.push((codon, letter as u8));
-            }
-        }
-    }
-    plain
+/// The codons of the generator's hand-made table, with their letters.
+fn listed_codons() -> Vec<(u8, [u8; 3])> {
+    let rows = CODONS.iter().flat_map(|&(letter, patterns)| {
+        let codons = patterns.split(' ').map(|pattern| pattern.as_bytes());
+        codons.map(move |codon| (letter as u8, codon.try_into().expect("three letters")))
+    });
+    rows.collect()
 }
 
 pub fn all(report: &mut Report) {
-    let plain = plain_codons();
+    let listed = listed_codons();
+    let is_plain = |codon: &[u8; 3]| codon.iter().all(|base| b"acgt".contains(base));
+    let plain: Vec<_> = listed.iter().filter(|(_, codon)| is_plain(codon)).collect();
     report.equal(plain.len(), 64, || {
         "the generator's table is complete".into()
     });
@@ -47,27 +48,29 @@ pub fn all(report: &mut Report) {
                 let codon = [a, b, c];
                 let mut letters: Vec<u8> = plain
                     .iter()
-                    .filter(|(bases, _)| (0..3).all(|i| includes(codon[i], bases[i])))
-                    .map(|&(_, letter)| letter)
+                    .filter(|(_, bases)| (0..3).all(|i| includes(codon[i], bases[i])))
+                    .map(|(letter, _)| *letter)
                     .collect();
                 letters.sort_unstable();
                 letters.dedup();
-                let wanted = if let [letter] = letters[..] {
-                    letter
-                } else {
-                    b'X'
+                let wanted = match letters[..] {
+                    [letter] => letter,
+                    [b'D', b'N'] => b'B',
+                    [b'E', b'Q'] => b'Z',
+                    [b'I', b'L'] => b'J',
+                    _ => b'X',
                 };
                 report.equal(codon_letter(codon), wanted, || format!("codon {codon:?}"));
+                // The generator has every codon of these.
+                let is_listed = !b"BZJ".contains(&wanted) || listed.contains(&(wanted, codon));
+                report.check(is_listed, || format!("codon {codon:?} isn't listed"));
             }
         }
     }
-    for (letter, patterns) in CODONS {
-        for pattern in patterns.split(' ') {
-            let codon = <[u8; 3]>::try_from(pattern.as_bytes()).expect("three letters");
-            report.equal(codon_letter(codon), letter as u8, || {
-                format!("codon {pattern}")
-            });
-        }
+    for (letter, codon) in listed {
+        report.equal(codon_letter(codon), letter, || {
+            format!("listed codon {codon:?}")
+        });
     }
     for codon in [b"a-a", b"AAA", b"auu", b"   ", b"aa\xff", b"xtg"] {
         report.equal(codon_letter(*codon), b'X', || {
@@ -104,7 +107,7 @@ fn sites(report: &mut Report) {
 }
 
 fn coding_texts(report: &mut Report) {
-    let texts: [(&str, Result<&str, StopInside>); 15] = [
+    let texts: [(&str, Result<&str, StopInside>); 16] = [
         ("", Ok("")),
         ("a", Ok("")),
         ("at", Ok("")),
@@ -120,6 +123,7 @@ fn coding_texts(report: &mut Report) {
         ("tratg", Ok("")),
         ("tgrtarnnnytrmgrtga", Err(StopInside)),
         ("tgrnnnytrmgrtga", Ok("XXLR")),
+        ("raysarmtttgrtga", Ok("BZJX")),
     ];
     for (text, wanted) in texts {
         let wanted = wanted.map(|letters| letters.as_bytes().to_vec());
@@ -127,4 +131,49 @@ fn coding_texts(report: &mut Report) {
             format!("coding text {text}")
         });
     }
+}
+
+/// Damaged translations have the letter of each mixed codon in place of what it may give and of `X`, and the other way round.
+pub fn mistakes(report: &mut Report) {
+    let rng = &mut Rng::new(8);
+    let mut made = BTreeSet::new();
+    for _ in 0..1000 {
+        for (k, sequence) in rich(rng).sequences.iter().enumerate() {
+            for (_, damage) in DAMAGES.iter().filter(|&&(rule, _)| rule == 28) {
+                let mut damaged = sequence.clone();
+                if let Damage::Sequence(apply) = damage {
+                    apply(&mut damaged, k, rng);
+                }
+                made.extend(exchanged(sequence, &damaged));
+            }
+        }
+    }
+    for (mixed, others) in [(b'B', b"NDX"), (b'Z', b"QEX"), (b'J', b"ILX")] {
+        for &other in others {
+            for pair in [(mixed, other), (other, mixed)] {
+                report.check(made.contains(&pair), || {
+                    let (right, wrong) = (char::from(pair.0), char::from(pair.1));
+                    format!("no damage stores {wrong} for {right}")
+                });
+            }
+        }
+    }
+}
+
+/// Each letter of the one sequence's values that stands alone in being another in the other's.
+fn exchanged(one: &Sequence, other: &Sequence) -> Vec<(u8, u8)> {
+    let features = one.features().iter().zip(other.features());
+    let qualifiers =
+        features.flat_map(|(one, other)| one.qualifiers().iter().zip(other.qualifiers()));
+    let mut exchanged = Vec::new();
+    for (one, other) in qualifiers {
+        if let (Some(one), Some(other)) = (&one.value, &other.value) {
+            let letters = one.bytes().zip(other.bytes());
+            let differing: Vec<_> = letters.filter(|(one, other)| one != other).collect();
+            if one.len() == other.len() && differing.len() == 1 {
+                exchanged.extend(differing);
+            }
+        }
+    }
+    exchanged
 }
