@@ -160,7 +160,7 @@ pub fn mistakes(report: &mut Report) {
     }
 }
 
-/// Each letter of the one sequence's values that stands alone in being another in the other's.
+/// Of the values in which exactly one letter differs, that letter of the one sequence and of the other.
 fn exchanged(one: &Sequence, other: &Sequence) -> Vec<(u8, u8)> {
     let features = one.features().iter().zip(other.features());
     let qualifiers =
