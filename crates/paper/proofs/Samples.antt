@@ -1,4 +1,4 @@
--- The starred cases of document 01's sample sheet: one list, and a single proof over it.
+-- The starred cases of document 01's sample sheet, and codons of request 4 of 02: one list, and a single proof over it.
 use Prim.Native.Nat.{ℕ}
 use Prim.Native.String.{String}
 use native.Mathlib.Omega.{arith}
@@ -27,7 +27,7 @@ pub data Sample : Type 0 where
   breaks-25 : (location : String) → Sample
   breaks-24 : (location : String) → Sample
 
--- "Sequence `atgaaatgctaa`, reversed strand `ttagcatttcat`, L = 12."
+-- "Sequence `atgaaatgctaa`, reversed strand `ttagcatttcat`, L = 12." "So `ray` is B, `sar` is Z, `mtt` is J, and `tgr` stays X."
 pub samples : List Sample
 samples =
     gives "atgaaatgctaa" "1..12" 1 "MKC"
@@ -49,6 +49,7 @@ samples =
     ∷ codon "mtr" "X"
     ∷ codon "vay" "X"
     ∷ codon "var" "X"
+    ∷ codon "aau" "X"
     ∷ fits "12"
     ∷ breaks-25 "13"
     ∷ breaks-24 "0"
