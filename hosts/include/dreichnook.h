@@ -136,7 +136,8 @@ uint32_t dreichnook_spans(const uint8_t *listing, size_t length, uint64_t sequen
 
 /*
  * The translation of a judged CDS of DNA or RNA, at the front of `out`, and its size in bytes. A stop at the end is
- * dropped. Through repeated members of a join it can be longer than the listing.
+ * dropped. An ambiguous codon gives the letter that all its plain codons give; `B` where they give exactly N and D, `Z`
+ * where Q and E, `J` where I and L; else `X`. Through repeated members of a join it can be longer than the listing.
  *
  * Refusals: the check's, 30, 31, 32, 35, 36, 37, 34.
  */
