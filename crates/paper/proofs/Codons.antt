@@ -1,4 +1,4 @@
--- The letter of a codon depends on which letters its plain codons give alone: not on their order, nor on how often each is given.
+-- The letter of a codon depends only on which letters its plain codons give: not on their order, nor on how often each is given.
 use Prim.Native.Nat.{ℕ}
 use Prim.Native.Char.{code}
 use mathlib.Core.Path.{_≡_, refl, sym, ap, _∙_}
@@ -62,7 +62,7 @@ exactly-same those l m h k = go (giveExactly those l) (giveExactly those m) refl
 both-same : (c : ℕ) {p q : Bool} {x y : ℕ} → p ≡ q → x ≡ y → cond p c x ≡ cond q c y
 both-same c e f i = cond (e i) c (f i)
 
--- lists of the same letters
+-- two lists of the same letters have one letter
 pub restrictive-same : (l m : List ℕ) → allAmong m l ≡ true → allAmong l m ≡ true → mostRestrictive l ≡ mostRestrictive m
 restrictive-same l m h k =
     both-same _ (exactly-same _ l m h k)
