@@ -1,51 +1,74 @@
 -- Demands 1 and 2.
 use Prim.Native.Nat.{ℕ, suc}
 use native.Mathlib.Omega.{arith}
-use mathlib.Core.Path.{_≡_, refl, subst}
-use mathlib.Core.Bool.{Bool, false}
+use mathlib.Core.Path.{_≡_, refl, sym, subst}
+use mathlib.Core.Bool.{Bool}
 use mathlib.Core.Logic.{inl, inr}
 use mathlib.Core.Option.{Option, none, some}
 use mathlib.Core.List.{List, [], _∷_, _++_}
 use Rattle.paper.specs.Lists.{_∈_, gather, present}
 use Rattle.paper.specs.Tree.{Text, Qualifier, Feature, Sequence, Listing, featuresOf, qualifiersOf, qualifierTexts, featureTexts, sequenceTexts, attributeTexts, partiesTexts, spokenTexts}
 use Rattle.paper.specs.Layout.{LaidOut}
-use Rattle.paper.specs.Answers.{Checked, give, FindsSequence, FindsFeature, FindsQualifier, FindsTranslation, FindsTranslations, Part, noPart, partOf, valuePart, SequenceSays, FeatureSays, QualifierSays, SpansSays}
+use Rattle.paper.specs.Answers.{Checked, give, FindsSequence, FindsFeature, FindsQualifier, FindsTranslation, FindsTranslations, Part, noPart, partOf, valuePart, SequenceSays, FeatureSays, QualifierSays, SpansSays, TranslationSays, TranslationsSays, NoSequence, NoFeature, NoQualifier, NoSpans, NothingWritten}
+use Rattle.paper.specs.Index.{FindsIndex, IndexCheckSays, WithIndex}
 use Rattle.paper.specs.Demands.{AnswerOrRefusal, InListing, Demand1, Demand2}
 use Rattle.paper.proofs.Lists.{in-first, in-second, in-gather, number-in}
-use Rattle.paper.proofs.Refusals.{checked, own, sequence-refused, feature-refused, qualifier-refused, location-refused, translation-refused, translations-refused, lent-ends}
+use Rattle.paper.proofs.Refusals.{checked, own, sequence-refused, feature-refused, qualifier-refused, location-refused, translation-refused, translations-refused, index-refused, index-check-refused, lent-ends}
 use Rattle.paper.proofs.Inside.{accepted-inside}
 use Rattle.paper.proofs.Shown.{parts-shown}
+
+module _ {w : List ℕ} where
+  sequence-ends : {k n p d : ℕ} {x : Part} → SequenceSays w k n p d x → AnswerOrRefusal n p (NoSequence d x)
+  sequence-ends (SequenceSays.refused c) = inr (sequence-refused c, (refl, refl))
+  sequence-ends (SequenceSays.found d c i) = inl (refl, refl)
+
+  feature-ends : {k j n p : ℕ} {x y : Part} → FeatureSays w k j n p x y → AnswerOrRefusal n p (NoFeature x y)
+  feature-ends (FeatureSays.refused c) = inr (feature-refused c, (refl, refl))
+  feature-ends (FeatureSays.found c) = inl (refl, refl)
+
+  qualifier-ends : {k j i n p : ℕ} {x y : Part} {b : Bool} → QualifierSays w k j i n p x b y → AnswerOrRefusal n p (NoQualifier x b y)
+  qualifier-ends (QualifierSays.refused c) = inr (qualifier-refused c, (refl, refl, refl))
+  qualifier-ends (QualifierSays.found c) = inl (refl, refl)
+
+  spans-ends : {k j n p : ℕ} {out after : List ℕ} {o c : ℕ} → SpansSays w k j out n p o c after → AnswerOrRefusal n p (NoSpans o c out after)
+  spans-ends (SpansSays.refused c) = inr (location-refused c, (refl, refl, refl))
+  spans-ends (SpansSays.short c l) = inr (own 34 (omega arith) (omega arith), (refl, refl, refl))
+  spans-ends (SpansSays.found c l) = inl (refl, refl)
+
+  translation-ends : {k j n p z : ℕ} {out after : List ℕ} → TranslationSays w k j out n p z after → AnswerOrRefusal n p (NothingWritten z out after)
+  translation-ends {k} {j} c = lent-ends (c .outcome) (λ m q e. translation-refused (subst (FindsTranslation w k j) e (c .finds))) (c .lent)
+
+  translations-ends : {k n p z : ℕ} {out after : List ℕ} → TranslationsSays w k out n p z after → AnswerOrRefusal n p (NothingWritten z out after)
+  translations-ends {k} c = lent-ends (c .outcome) (λ m q e. translations-refused (subst (FindsTranslations w k) e (c .finds))) (c .lent)
+
+  index-check-ends : {x : List ℕ} {n p : ℕ} → IndexCheckSays w x n p → AnswerOrRefusal n p (Unit {0})
+  index-check-ends (IndexCheckSays.refused c) = inr (index-check-refused c, tt)
+  index-check-ends (IndexCheckSays.taken c) = inl (refl, refl)
+
+  -- with an index: the checker's refusal, or as without
+  with-index-ends : {x : List ℕ} {n p : ℕ} {nothing plain : Type 0} → (plain → AnswerOrRefusal n p nothing) → WithIndex w x n p nothing plain → AnswerOrRefusal n p nothing
+  with-index-ends h (WithIndex.refused c z) = inr (index-check-refused c, z)
+  with-index-ends h (WithIndex.taken c s) = h s
 
 pub demand1 : Demand1
 demand1 =
     record {
       check = λ w n p c. checked c;
-      sequence = λ w k n p kind x c. sequence-ends c;
+      sequence = λ w k n p d x c. sequence-ends c;
       feature = λ w k j n p x y c. feature-ends c;
       qualifier = λ w k j i n p x y b c. qualifier-ends c;
       spans = λ w k j n p o m out after c. spans-ends c;
-      translation = λ w k j n p m out after c. lent-ends (c .outcome) (λ m q e. translation-refused (subst (FindsTranslation w k j) e (c .finds))) (c .lent);
-      translations = λ w k n p m out after c. lent-ends (c .outcome) (λ m q e. translations-refused (subst (FindsTranslations w k) e (c .finds))) (c .lent);
+      translation = λ w k j n p m out after c. translation-ends c;
+      translations = λ w k n p m out after c. translations-ends c;
+      index = λ w n p m out after c. lent-ends (c .outcome) (λ m q e. index-refused (subst (FindsIndex w) e (c .finds))) (c .lent);
+      index-check = λ w x n p c. index-check-ends c;
+      indexed-sequence = λ w x k n p d r. with-index-ends sequence-ends;
+      indexed-feature = λ w x k j n p a b. with-index-ends feature-ends;
+      indexed-qualifier = λ w x k j i n p a v b. with-index-ends qualifier-ends;
+      indexed-spans = λ w x k j n p o c out after. with-index-ends spans-ends;
+      indexed-translation = λ w x k j n p z out after. with-index-ends translation-ends;
+      indexed-translations = λ w x k n p z out after. with-index-ends translations-ends;
     }
-  where
-    sequence-ends : {w : List ℕ} {k n p d : ℕ} {x : Part} → SequenceSays w k n p d x → AnswerOrRefusal n p ((d ≡ 0) × (x ≡ noPart))
-    sequence-ends (SequenceSays.refused c) = inr (sequence-refused c, (refl, refl))
-    sequence-ends (SequenceSays.found d c i) = inl (refl, refl)
-
-    feature-ends : {w : List ℕ} {k j n p : ℕ} {x y : Part} → FeatureSays w k j n p x y → AnswerOrRefusal n p ((x ≡ noPart) × (y ≡ noPart))
-    feature-ends (FeatureSays.refused c) = inr (feature-refused c, (refl, refl))
-    feature-ends (FeatureSays.found c) = inl (refl, refl)
-
-    qualifier-ends : {w : List ℕ} {k j i n p : ℕ} {x y : Part} {b : Bool} → QualifierSays w k j i n p x b y
-        → AnswerOrRefusal n p ((x ≡ noPart) × (b ≡ false) × (y ≡ noPart))
-    qualifier-ends (QualifierSays.refused c) = inr (qualifier-refused c, (refl, refl, refl))
-    qualifier-ends (QualifierSays.found c) = inl (refl, refl)
-
-    spans-ends : {w : List ℕ} {k j : ℕ} {out after : List ℕ} {n p o c : ℕ} → SpansSays w k j out n p o c after
-        → AnswerOrRefusal n p ((o ≡ 0) × (c ≡ 0) × (after ≡ out))
-    spans-ends (SpansSays.refused c) = inr (location-refused c, (refl, refl, refl))
-    spans-ends (SpansSays.short c l) = inr (own 34 (omega arith) (omega arith), (refl, refl, refl))
-    spans-ends (SpansSays.found c l) = inl (refl, refl)
 
 -- ---- the texts of which parts are shown are texts of the listing
 
@@ -96,6 +119,14 @@ module _ {w : List ℕ} where
       of-value none h = omega arith
       of-value (some t) h = h t (0, refl)
 
+  -- with an index: nothing, or as without
+  with-index-part : {x : List ℕ} {n p : ℕ} {nothing plain A : Type 0} → (nothing → A) → (plain → A) → WithIndex w x n p nothing plain → A
+  with-index-part f g (WithIndex.refused c z) = f z
+  with-index-part f g (WithIndex.taken c s) = g s
+
+none-inside : (w : List ℕ) {x : Part} → x ≡ noPart → InListing w x
+none-inside w e = subst (InListing w) (sym e) (omega arith)
+
 pub demand2 : Demand2
 demand2 =
     record {
@@ -103,6 +134,9 @@ demand2 =
       sequence = λ w k n p d x c. sequence-part c;
       feature = λ w k j n p x y c. feature-parts c;
       qualifier = λ w k j i n p x y b c. qualifier-parts c;
+      indexed-sequence = λ w x k n p d r. with-index-part (λ z. none-inside w (z .1)) sequence-part;
+      indexed-feature = λ w x k j n p a b. with-index-part (λ z. (none-inside w (z .0), none-inside w (z .1))) feature-parts;
+      indexed-qualifier = λ w x k j i n p a v b. with-index-part (λ z. (none-inside w (z .0), none-inside w (z .2))) qualifier-parts;
       locations = λ w l c. accepted-inside c;
       total = λ w t s f j u c. c .2 .totals;
     }

@@ -7,6 +7,7 @@ use mathlib.Core.List.{List}
 use Rattle.paper.specs.Tree.{Sequence, Feature, Listing}
 use Rattle.paper.specs.Rules.{Broken, header, rule-14, sequence, InHeader, ResiduesBy, TextsBy, InTexts, InSource, InLocation, InCoding, InVocabulary, InFeature, InTable, SequenceBy, InSequence}
 use Rattle.paper.specs.Answers.{Outcome, refuse, give, Checked, FindsSequence, FindsFeature, FindsQualifier, FindsLocation, FindsTranslation, FindsTranslations, Translates, Lent}
+use Rattle.paper.specs.Index.{FindsIndex, ChecksIndex}
 use Rattle.paper.specs.Demands.{Refusal, AnswerOrRefusal}
 
 of-value : (n : ℕ) → 10 ≤ n → n ≤ 29 → {p : ℕ} → Refusal n p
@@ -95,6 +96,13 @@ translation-refused (FindsTranslation.feature c t) = translates-refused t
 pub translations-refused : {w : List ℕ} {k n p : ℕ} → FindsTranslations w k (refuse n p) → Refusal n p
 translations-refused (FindsTranslations.earlier c) = sequence-refused c
 
+pub index-refused : {w : List ℕ} {n p : ℕ} → FindsIndex w (refuse n p) → Refusal n p
+index-refused (FindsIndex.own c) = checked c
+
+pub index-check-refused : {w x : List ℕ} {n p : ℕ} → ChecksIndex w x (refuse n p) → Refusal n p
+index-check-refused (ChecksIndex.own c) = checked c
+index-check-refused (ChecksIndex.differs c h) = Refusal.index-differs
+
 -- ---- what is answered
 
 pub lent-ends : {out : List ℕ} {n p size : ℕ} {after : List ℕ} (o : Outcome (List ℕ)) → ((m q : ℕ) → o ≡ refuse m q → Refusal m q) → Lent out o n p size after
@@ -110,6 +118,7 @@ refusal-most Refusal.not-laid-out = omega arith
 refusal-most (Refusal.value h k) = omega (arith, k)
 refusal-most (Refusal.vocabulary h k) = omega (arith, k)
 refusal-most (Refusal.lookup h k) = omega (arith, k)
+refusal-most Refusal.index-differs = omega arith
 
 pub ends-most : {n p : ℕ} {A : Type 0} → AnswerOrRefusal n p A → n ≤ 99
 ends-most (inl e) = omega (arith, e .0)

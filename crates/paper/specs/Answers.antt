@@ -169,6 +169,22 @@ kindNumber dna = 1
 kindNumber rna = 2
 kindNumber aa = 3
 
+-- what a refusal shows and changes
+abbrev pub NoSequence : (kind : ℕ) (residues : Part) → Type 0
+NoSequence d r = (d ≡ 0) × (r ≡ noPart)
+
+abbrev pub NoFeature : (key location : Part) → Type 0
+NoFeature a b = (a ≡ noPart) × (b ≡ noPart)
+
+abbrev pub NoQualifier : (name : Part) (present : Bool) (value : Part) → Type 0
+NoQualifier a b v = (a ≡ noPart) × (b ≡ false) × (v ≡ noPart)
+
+abbrev pub NoSpans : (operator count : ℕ) (out after : List ℕ) → Type 0
+NoSpans o c out after = (o ≡ 0) × (c ≡ 0) × (after ≡ out)
+
+abbrev pub NothingWritten : (size : ℕ) (out after : List ℕ) → Type 0
+NothingWritten z out after = (z ≡ 0) × (after ≡ out)
+
 -- "Sequence: its kind, and its residues as the part of the lent listing."
 pub data SequenceSays (w : List ℕ) (k : ℕ) : (number place kind : ℕ) (residues : Part) → Type 0 where
   refused : {n p : ℕ} → FindsSequence w k (refuse n p) → SequenceSays w k n p 0 noPart

@@ -3,7 +3,7 @@
 -- demands 1 and 2 in paper/proofs/Demands.antt, demand 3 in ask_check/proofs/Demands.antt.
 use Prim.Native.Nat.{ℕ, _+_, _≤_}
 use mathlib.Core.Path.{_≡_}
-use mathlib.Core.Bool.{Bool, false}
+use mathlib.Core.Bool.{Bool}
 use mathlib.Core.Logic.{_⊎_, _↔_}
 use mathlib.Core.List.{List}
 use lib.ListN.{length}
@@ -13,7 +13,8 @@ use Rattle.paper.specs.Tree.{Text, Feature, Sequence, Listing, Bare, tex
 use Rattle.paper.specs.Layout.{LaidOut, Writes}
 use Rattle.paper.specs.Locations.{Location, Locates, Span, spans}
 use Rattle.paper.specs.Rules.{L, Breaks}
-use Rattle.paper.specs.Answers.{limit, give, Checked, CheckSays, Part, shown, noPart, partOf, SequenceSays, FeatureSays, QualifierSays, SpansSays, TranslationSays, TranslationsSays}
+use Rattle.paper.specs.Answers.{limit, give, Checked, CheckSays, Part, shown, noPart, partOf, SequenceSays, FeatureSays, QualifierSays, SpansSays, TranslationSays, TranslationsSays, NoSequence, NoFeature, NoQualifier, NoSpans, NothingWritten}
+use Rattle.paper.specs.Index.{IndexSays, IndexCheckSays, IndexedSequenceSays, IndexedFeatureSays, IndexedQualifierSays, IndexedSpansSays, IndexedTranslationSays, IndexedTranslationsSays}
 use Rattle.paper.specs.declared.Verdict.{Verdict}
 use Rattle.paper.specs.declared.Verdict.the-variants.{Accepted, Refused}
 
@@ -31,6 +32,8 @@ pub data Refusal : (number place : ℕ) → Type 0 where
   vocabulary : {n p : ℕ} → 40 ≤ n → n ≤ 42 → Refusal n p
   -- "30 no such sequence; .. 37 stop inside"
   lookup : {n : ℕ} → 30 ≤ n → n ≤ 37 → Refusal n 0
+  -- "refusal 50 with the first differing place" (02, request 5)
+  index-differs : {p : ℕ} → Refusal 50 p
 
 -- "Each call ends with an answer or one of the numbered refusals of document 01. A refused call leaves lent output as it found it and
 -- shows an empty part.": number 0, or a refusal and then nothing is shown or changed
@@ -39,14 +42,23 @@ AnswerOrRefusal number place nothing = ((number ≡ 0) × (place ≡ 0)) ⊎ (Re
 
 pub record Demand1 : Type 0 where
   pub check : (w : List ℕ) (n p : ℕ) → CheckSays w (Refused n p) → Refusal n p
-  pub sequence : (w : List ℕ) (k n p kind : ℕ) (residues : Part) → SequenceSays w k n p kind residues → AnswerOrRefusal n p ((kind ≡ 0) × (residues ≡ noPart))
-  pub feature : (w : List ℕ) (k j n p : ℕ) (key location : Part) → FeatureSays w k j n p key location → AnswerOrRefusal n p ((key ≡ noPart) × (location ≡ noPart))
-  pub qualifier : (w : List ℕ) (k j i n p : ℕ) (name value : Part) (present : Bool) → QualifierSays w k j i n p name present value
-      → AnswerOrRefusal n p ((name ≡ noPart) × (present ≡ false) × (value ≡ noPart))
-  pub spans : (w : List ℕ) (k j n p operator count : ℕ) (out after : List ℕ) → SpansSays w k j out n p operator count after
-      → AnswerOrRefusal n p ((operator ≡ 0) × (count ≡ 0) × (after ≡ out))
-  pub translation : (w : List ℕ) (k j n p size : ℕ) (out after : List ℕ) → TranslationSays w k j out n p size after → AnswerOrRefusal n p ((size ≡ 0) × (after ≡ out))
-  pub translations : (w : List ℕ) (k n p size : ℕ) (out after : List ℕ) → TranslationsSays w k out n p size after → AnswerOrRefusal n p ((size ≡ 0) × (after ≡ out))
+  pub sequence : (w : List ℕ) (k n p d : ℕ) (r : Part) → SequenceSays w k n p d r → AnswerOrRefusal n p (NoSequence d r)
+  pub feature : (w : List ℕ) (k j n p : ℕ) (a b : Part) → FeatureSays w k j n p a b → AnswerOrRefusal n p (NoFeature a b)
+  pub qualifier : (w : List ℕ) (k j i n p : ℕ) (a v : Part) (b : Bool) → QualifierSays w k j i n p a b v → AnswerOrRefusal n p (NoQualifier a b v)
+  pub spans : (w : List ℕ) (k j n p o c : ℕ) (out after : List ℕ) → SpansSays w k j out n p o c after → AnswerOrRefusal n p (NoSpans o c out after)
+  pub translation : (w : List ℕ) (k j n p z : ℕ) (out after : List ℕ) → TranslationSays w k j out n p z after → AnswerOrRefusal n p (NothingWritten z out after)
+  pub translations : (w : List ℕ) (k n p z : ℕ) (out after : List ℕ) → TranslationsSays w k out n p z after → AnswerOrRefusal n p (NothingWritten z out after)
+  -- and of the calls that request 5 of 02 adds
+  pub index : (w : List ℕ) (n p z : ℕ) (out after : List ℕ) → IndexSays w out n p z after → AnswerOrRefusal n p (NothingWritten z out after)
+  pub index-check : (w x : List ℕ) (n p : ℕ) → IndexCheckSays w x n p → AnswerOrRefusal n p (Unit {0})
+  pub indexed-sequence : (w x : List ℕ) (k n p d : ℕ) (r : Part) → IndexedSequenceSays w x k n p d r → AnswerOrRefusal n p (NoSequence d r)
+  pub indexed-feature : (w x : List ℕ) (k j n p : ℕ) (a b : Part) → IndexedFeatureSays w x k j n p a b → AnswerOrRefusal n p (NoFeature a b)
+  pub indexed-qualifier : (w x : List ℕ) (k j i n p : ℕ) (a v : Part) (b : Bool) → IndexedQualifierSays w x k j i n p a b v → AnswerOrRefusal n p (NoQualifier a b v)
+  pub indexed-spans : (w x : List ℕ) (k j n p o c : ℕ) (out after : List ℕ) → IndexedSpansSays w x k j out n p o c after → AnswerOrRefusal n p (NoSpans o c out after)
+  pub indexed-translation : (w x : List ℕ) (k j n p z : ℕ) (out after : List ℕ) → IndexedTranslationSays w x k j out n p z after
+      → AnswerOrRefusal n p (NothingWritten z out after)
+  pub indexed-translations : (w x : List ℕ) (k n p z : ℕ) (out after : List ℕ) → IndexedTranslationsSays w x k out n p z after
+      → AnswerOrRefusal n p (NothingWritten z out after)
 
 -- ---- demand 2: verdict, counts, spans and translations, the first broken rule and its place stand in Answers
 
@@ -74,6 +86,10 @@ pub record Demand2 : Type 0 where
   pub feature : (w : List ℕ) (k j n p : ℕ) (key location : Part) → FeatureSays w k j n p key location → InListing w key × InListing w location
   pub qualifier : (w : List ℕ) (k j i n p : ℕ) (name value : Part) (present : Bool) → QualifierSays w k j i n p name present value
       → InListing w name × InListing w value
+  -- and "whatever is shown is part of the listing, never of the index" (02, request 5)
+  pub indexed-sequence : (w x : List ℕ) (k n p d : ℕ) (r : Part) → IndexedSequenceSays w x k n p d r → InListing w r
+  pub indexed-feature : (w x : List ℕ) (k j n p : ℕ) (a b : Part) → IndexedFeatureSays w x k j n p a b → InListing w a × InListing w b
+  pub indexed-qualifier : (w x : List ℕ) (k j i n p : ℕ) (a v : Part) (b : Bool) → IndexedQualifierSays w x k j i n p a b v → InListing w a × InListing w v
   -- "No accepted location points outside its sequence .."
   pub locations : (w : List ℕ) (l : Listing ℕ) → Checked w (give l) → (s : Sequence ℕ) → s ∈ l .sequences → (f : Feature ℕ) → f ∈ featuresOf s
       → (t : Location) → Locates t (f .location .read) → (x : Span) → x ∈ spans t → Inside (L s) x

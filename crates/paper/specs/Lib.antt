@@ -9,4 +9,5 @@ pub mod Translation
 pub mod Vocabulary
 pub mod Rules
 pub mod Answers
+pub mod Index
 pub mod Demands
