@@ -10,8 +10,8 @@ use lib.Seq.{sets, sets-eq, length-take-le, take-all, take-at}
 use lib.Dec.{eqb}
 use Rattle.paper.specs.Bytes.{bytes}
 use Rattle.paper.specs.Answers.{front}
-use Rattle.lent_room.specs.Room.{agree, Puts}
-use Rattle.lent_room.specs.Spelled.{littleEnd}
+use Rattle.paper.specs.Index.{littleEnd, agree}
+use Rattle.lent_room.specs.Room.{Puts}
 
 -- ---- one behind another
 

@@ -8,7 +8,8 @@ use mathlib.Core.List.{List, [], _∷_, _++_}
 use lib.ListN.{length, take, drop, set, getD, take-append-drop, drop-of-length-le}
 use lib.Seq.{sets, take-all, take-suc, drop-cons, drop-drop, length-take-le}
 use borrow.Author.Tests.{ne-eqb, eq-eqb}
-use Rattle.lent_room.specs.Room.{agree, InRoom, fits, Agrees, same, differs}
+use Rattle.paper.specs.Index.{agree}
+use Rattle.lent_room.specs.Room.{InRoom, fits, Agrees, same, differs}
 use Rattle.lent_room.proofs.Laws.{sets-append, agree-on}
 
 pub fits-none : {size at room : ℕ} → size ≡ 0 → InRoom size at room true at

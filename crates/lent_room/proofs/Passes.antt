@@ -3,10 +3,12 @@ use Prim.Native.Nat.{ℕ, _+_, _-_, _≤_}
 use native.Mathlib.Omega.{arith}
 use mathlib.Core.Path.{_≡_, refl, sym, ap, _∙_, subst}
 use mathlib.Core.Bool.{Bool, true, false, true≢false}
-use mathlib.Core.List.{List, [], _++_}
+use mathlib.Core.List.{List, [], _++_, append-nil, append-assoc}
 use lib.ListN.{length, drop, length-append}
 use lib.Seq.{sets, length-sets, drop-drop}
-use Rattle.lent_room.specs.Room.{agree, InRoom, fits, Agrees, same, differs, Lays, Puts}
+use Rattle.paper.specs.Index.{agree}
+use Rattle.lent_room.specs.Room.{InRoom, fits, Agrees, same, differs, Lays, LaysMore, Puts}
+use Rattle.lent_room.specs.declared.Laid.{Laid}
 use Rattle.lent_room.specs.declared.Pass.{Pass}
 use Rattle.lent_room.specs.declared.Pass.the-variants.{Measure, Write, Compare}
 use Rattle.lent_room.proofs.Laws.{sets-append, agree-on, agree-off}
@@ -86,6 +88,25 @@ lays-off y (Lays.compared (same h)) e = absurd (true≢false e)
 lays-off {given} {room} {x} {at} y (Lays.compared (differs h)) e =
     let z = agree-off x y (drop at given) h in
     subst (λ (n : ℕ). Lays given at (x ++ y) room Compare false n room) (omega (arith, z)) (Lays.compared (differs (omega (arith, z, length-append x y, h))))
+
+-- ---- behind whatever was laid before
+
+module _ {given y : List ℕ} {p : Pass} {was r : Laid} {room after : List ℕ} where
+  pub more-on : was .on ≡ true → Lays given (was .at) y room p (r .on) (r .at) after → LaysMore given y p was r room after
+  more-on o f = record { kept = lays-kept f; says = λ at x before g. lays-next g o f }
+
+pub more-off : {given y : List ℕ} {p : Pass} {was : Laid} {room : List ℕ} → was .on ≡ false → LaysMore given y p was was room room
+more-off {y = y} o = record { kept = refl; says = λ at x before g. lays-off y g o }
+
+-- nothing more
+pub more-none : {given : List ℕ} {p : Pass} {was : Laid} {room : List ℕ} → LaysMore given [] p was was room room
+more-none = record { kept = refl; says = λ at x before g. lays-as g (sym (append-nil x)) }
+
+-- y, and then z
+pub more-then : {given y z : List ℕ} {p : Pass} {was mid r : Laid} {room now after : List ℕ} → LaysMore given y p was mid room now → LaysMore given z p mid r now after
+    → LaysMore given (y ++ z) p was r room after
+more-then {y = y} {z} f g =
+    record { kept = g .kept ∙ f .kept; says = λ at x before h. lays-as (g .says at (x ++ y) before (f .says at x before h)) (append-assoc x y z) }
 
 -- ---- bytes, by the pass that is asked
 

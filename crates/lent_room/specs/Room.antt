@@ -1,20 +1,15 @@
 -- Content in lent room. `sets room at x` is the room with x stored from `at` on; before and behind x it is as it was.
-use Prim.Native.Nat.{ℕ, suc, _+_, _-_, _≤_, _<_}
+use Prim.Native.Nat.{ℕ, _+_, _-_, _≤_, _<_}
 use mathlib.Core.Path.{_≡_}
-use mathlib.Core.Bool.{Bool, true, false, cond}
-use mathlib.Core.List.{List, [], _∷_}
+use mathlib.Core.Bool.{Bool, true, false}
+use mathlib.Core.List.{List, _++_}
 use lib.ListN.{length, drop}
 use lib.Seq.{sets}
-use lib.Dec.{eqb}
 use Rattle.paper.specs.Bytes.{raw}
+use Rattle.paper.specs.Index.{agree}
+use Rattle.lent_room.specs.declared.Laid.{Laid}
 use Rattle.lent_room.specs.declared.Pass.{Pass}
 use Rattle.lent_room.specs.declared.Pass.the-variants.{Measure, Write, Compare}
-
--- how many bytes two texts begin with alike: the first differing place, or the length of the one that the other begins with
-abbrev pub agree : List ℕ → List ℕ → ℕ
-agree [] y = 0
-agree (a ∷ x) [] = 0
-agree (a ∷ x) (b ∷ y) = cond (eqb a b) (suc (agree x y)) 0
 
 -- whether so many bytes are in the room from a place on: the place behind them, or the room's end
 pub data InRoom (size at room : ℕ) : Bool → ℕ → Type 0 where
@@ -33,6 +28,11 @@ pub data Lays (given : List ℕ) (at : ℕ) (x room : List ℕ) : Pass → Bool 
   written : length x ≤ length room - at → Lays given at x room Write true (at + length x) (sets room at x)
   short : {after : List ℕ} → length room - at < length x → length after ≡ length room → Lays given at x room Write false (length room) after
   compared : {on : Bool} {end : ℕ} → Agrees x at given on end → Lays given at x room Compare on end room
+
+-- whatever content x was laid before, from whatever place, y is laid behind it
+pub record LaysMore (given y : List ℕ) (p : Pass) (was r : Laid) (room after : List ℕ) : Type 0 where
+  pub kept : length after ≡ length room
+  pub says : (at : ℕ) (x before : List ℕ) → Lays given at x before p (was .on) (was .at) room → Lays given at (x ++ y) before p (r .on) (r .at) after
 
 -- the same of the text as read that the bytes are written from; the room keeps its length whatever they are
 pub record LaysRead (given : List ℕ) (at : ℕ) (text room : List ℕ) (p : Pass) (on : Bool) (end : ℕ) (after : List ℕ) : Type 0 where

@@ -6,8 +6,9 @@ ghost use mathlib.Core.Path.{_≡_};
 ghost use lib.ListN.{length, take, drop};
 ghost use lib.Seq.{sets};
 ghost use Rattle.paper.specs.Values.{decimal};
-ghost use Rattle.lent_room.specs.Room.{InRoom, Agrees, Lays, LaysRead};
-ghost use Rattle.lent_room.specs.Spelled.{littleEnd, FirstCharacter};
+ghost use Rattle.paper.specs.Index.{littleEnd, inBytes};
+ghost use Rattle.lent_room.specs.Room.{InRoom, Agrees, Lays, LaysMore, LaysRead};
+ghost use Rattle.lent_room.specs.Spelled.{FirstCharacter};
 
 // What a pass over content does with it.
 pub enum Pass {
@@ -116,6 +117,39 @@ pub fn lay_u32(pass: Pass, n: u32, at: usize, given: &[u8], room: &mut [u8]) -> 
         (n / 16_777_216) as u8,
     ];
     lay_bytes(pass, &bytes, at, given, room)
+}
+
+// Numbers of 32 bits, one behind another.
+pub fn lay_numbers(
+    pass: Pass,
+    numbers: &[u32],
+    at: usize,
+    given: &[u8],
+    room: &mut [u8],
+) -> Laid
+    ensures { λ r. ⌜ Lays (now (given .entry)) at (inBytes (now (numbers .entry))) (now (room .entry)) pass (r .on) (r .at) (now (room .exit)) ⌝ }
+{
+    let mut i: usize = 0;
+    let mut end = at;
+    while i < numbers.len() {
+        let r = lay_u32(pass, numbers[i], end, given, room);
+        if !r.on {
+            return r;
+        }
+        i += 1;
+        end = r.at;
+    }
+    Laid { on: true, at: end }
+}
+
+// The same behind what was laid, if that pass goes on.
+pub fn lay_more(pass: Pass, was: Laid, numbers: &[u32], given: &[u8], room: &mut [u8]) -> Laid
+    ensures { λ r. ⌜ LaysMore (now (given .entry)) (inBytes (now (numbers .entry))) pass was r (now (room .entry)) (now (room .exit)) ⌝ }
+{
+    if was.on {
+        return lay_numbers(pass, numbers, was.at, given, room);
+    }
+    was
 }
 
 // The digits of a number at the end of a table of 20: where they start.

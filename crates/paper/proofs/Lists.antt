@@ -3,7 +3,7 @@ use Prim.Native.Nat.{ℕ, zero, suc, _+_, _<_}
 use native.Mathlib.Omega.{arith}
 use mathlib.Core.Path.{_≡_, refl, sym, ap, _∙_, subst}
 use mathlib.Core.Logic.{_⊎_, inl, inr}
-use mathlib.Core.List.{List, [], _∷_, _++_, map}
+use mathlib.Core.List.{List, [], _∷_, _++_, map, append-assoc}
 use lib.ListN.{length}
 use Rattle.paper.specs.Lists.{Nth, _∈_, Numbered, Count, end, has, lacks, gather}
 
@@ -132,3 +132,7 @@ module _ {A : Type 0} where
 
   pub number-in : (l : List A) (k : ℕ) (x : A) → Numbered l k x → x ∈ l
   number-in l k x n = (n .0, n .2)
+
+pub gather-append : {A B : Type 0} (f : A → List B) (l k : List A) → gather f (l ++ k) ≡ gather f l ++ gather f k
+gather-append f [] k = refl
+gather-append f (a ∷ l) k = ap (_++_ (f a)) (gather-append f l k) ∙ sym (append-assoc (f a) (gather f l) (gather f k))

@@ -3,7 +3,7 @@ use Prim.Native.Nat.{_+_, _-_, _≤_}
 use native.Mathlib.Omega.{arith}
 use mathlib.Core.Path.{_≡_, refl}
 use lib.ListN.{length, take, drop}
-use Rattle.lent_room.specs.Room.{agree}
+use Rattle.paper.specs.Index.{agree}
 use Rattle.lent_room.proofs.Leaves.{agrees-end, agrees-other, agrees-more, agrees-all}
 use borrow.Author.Needs.{needs}
 use Rattle.lent_room.proofs.compare.Statement.{statement}
