@@ -6,7 +6,7 @@ use mathlib.Core.Path.{_≡_, refl, sym, ap, _∙_}
 use mathlib.Core.Bool.{Bool, true, false, cond}
 use mathlib.Core.List.{List, [], _∷_, _++_, append-nil}
 use lib.ListN.{length, take, drop, set, length-append, length-drop, take-append-drop, drop-of-length-le}
-use lib.Seq.{sets, sets-eq, length-take-le, take-all, take-at}
+use lib.Seq.{sets, sets-eq, set-comm, length-take-le, take-all, take-at}
 use lib.Dec.{eqb}
 use Rattle.paper.specs.Bytes.{bytes}
 use Rattle.paper.specs.Answers.{front}
@@ -20,6 +20,17 @@ sets-append [] y room at = ap (λ (k : ℕ). sets room k y) (add-zero at)
 sets-append (a ∷ x) y room at =
     let e : at + suc (length x) ≡ suc at + length x = omega arith in
     rw e (sets-append x y (set room at a) (suc at))
+
+-- side by side: the order doesn't matter
+pub sets-swap : (x y room : List ℕ) (i j : ℕ) → i + length x ≤ j → sets (sets room i x) j y ≡ sets (sets room j y) i x
+sets-swap [] y room i j h = refl
+sets-swap (a ∷ x) y room i j h =
+    sets-swap x y (set room i a) (suc i) j (omega (arith, h)) ∙ ap (λ (z : List ℕ). sets z (suc i) x) (one y room j (omega (arith, h)))
+  where
+    one : (y room : List ℕ) (j : ℕ) → i < j → sets (set room i a) j y ≡ set (sets room j y) i a
+    one [] room j l = refl
+    one (b ∷ y) room j l =
+        ap (λ (z : List ℕ). sets z (suc j) y) (set-comm room i j a b (λ e. omega (arith, e, l))) ∙ one y (set room j b) (suc j) (omega (arith, l))
 
 -- at the front
 pub sets-front : (x room : List ℕ) → length x ≤ length room → sets room 0 x ≡ front x room

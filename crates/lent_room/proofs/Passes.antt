@@ -26,6 +26,14 @@ module _ {given room x : List ℕ} {at : ℕ} where
   lays-written (Lays.written h) k = record { ends = refl; is = refl }
   lays-written (Lays.short h l) k = absurd (omega (arith, h, k))
 
+-- what is compared, and the room as it was
+pub lays-compared : {given room x after : List ℕ} {at end : ℕ} {on : Bool} → Lays given at x room Compare on end after → Agrees x at given on end × (after ≡ room)
+lays-compared (Lays.compared f) = (f, refl)
+
+pub agrees-end : {given x : List ℕ} {at end : ℕ} {on : Bool} → Agrees x at given on end → on ≡ true → end ≡ at + length x
+agrees-end (same h) e = refl
+agrees-end (differs h) e = absurd (true≢false (sym e))
+
 -- a pass that writes something ends in the room
 pub lays-within : {given room x after : List ℕ} {at end : ℕ} {on : Bool} → Lays given at x room Write on end after → 1 ≤ length x → end ≤ length room
 lays-within (Lays.written h) k = omega (arith, h, k)

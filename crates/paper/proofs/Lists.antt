@@ -3,7 +3,7 @@ use Prim.Native.Nat.{ℕ, zero, suc, _+_, _<_}
 use native.Mathlib.Omega.{arith}
 use mathlib.Core.Path.{_≡_, refl, sym, ap, _∙_, subst}
 use mathlib.Core.Logic.{_⊎_, inl, inr}
-use mathlib.Core.List.{List, [], _∷_, _++_, map, append-assoc}
+use mathlib.Core.List.{List, [], _∷_, _++_, map, append-assoc, append-nil}
 use lib.ListN.{length}
 use Rattle.paper.specs.Lists.{Nth, _∈_, Numbered, Count, end, has, lacks, gather}
 
@@ -136,3 +136,6 @@ module _ {A : Type 0} where
 pub gather-append : {A B : Type 0} (f : A → List B) (l k : List A) → gather f (l ++ k) ≡ gather f l ++ gather f k
 gather-append f [] k = refl
 gather-append f (a ∷ l) k = ap (_++_ (f a)) (gather-append f l k) ∙ sym (append-assoc (f a) (gather f l) (gather f k))
+
+pub gather-last : {A B : Type 0} (f : A → List B) (l : List A) (a : A) → gather f (l ++ (a ∷ [])) ≡ gather f l ++ f a
+gather-last f l a = gather-append f l (a ∷ []) ∙ ap (_++_ (gather f l)) (append-nil (f a))

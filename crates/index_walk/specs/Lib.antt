@@ -1,0 +1,2 @@
+-- What the crate's promises cite.
+pub mod Bodies
