@@ -125,9 +125,16 @@ spans-inside n t {w} h e =
 
 -- ---- an accepted listing
 
-no-features : {P : Type 0} (t : Option (Table P)) (f : Feature P) → f ∈ featuresIn t → ¬ (t ≡ none)
-no-features none f h e = h .1
-no-features (some t) f h e = let z : _≡_ {A = ℕ} 0 1 = cc in omega arith
+-- a skipped sequence has no table (rule 29)
+pub skipped-bare : {w : List ℕ} {l : Listing ℕ} → Checked w (give l) → (s : Sequence ℕ) → s ∈ l .sequences → Skipped s → s .table ≡ none
+skipped-bare (accepted short laid clean) s i k = go (s .table) refl
+  where
+    go : (o : Option (Table ℕ)) → s .table ≡ o → s .table ≡ none
+    go none e = e
+    go (some t) e =
+        absurd
+        (clean 29 (s .residues .place)
+        (sequence (suc (i .0)) s (i .0, refl, i .1) (rule-29 k (λ z. let n = z .4 in let y : _≡_ {A = ℕ} 0 1 = cc in omega arith))))
 
 -- every span of every feature of an accepted listing lies in its sequence
 pub accepted-inside : {w : List ℕ} {l : Listing ℕ} → Checked w (give l) → (s : Sequence ℕ) → s ∈ l .sequences → (f : Feature ℕ) → f ∈ featuresOf s
@@ -139,5 +146,5 @@ accepted-inside {w} {l} (accepted short laid clean) s i f j t h = go (List-discr
     kept u false e = e
 
     go : Dec (Skipped s) → (x : Span) → x ∈ spans t → Inside (L s) x
-    go (yes k) = absurd (clean 29 (s .residues .place) (sequence (suc (i .0)) s (i .0, refl, i .1) (rule-29 k (λ z. no-features (s .table) f j (z .4)))))
+    go (yes k) = absurd (subst (λ (o : Option (Table ℕ)). f ∈ featuresIn o) (skipped-bare (accepted short laid clean) s i k) j .1)
     go (no u) = spans-inside (L s) t h (kept u (breaks25 (L s) t) refl)

@@ -2,8 +2,8 @@
 use Prim.Native.Nat.{ℕ, zero, suc, _+_, _<_}
 use native.Mathlib.Omega.{arith}
 use mathlib.Core.Path.{_≡_, refl, sym, ap, _∙_, subst}
-use mathlib.Core.Logic.{_⊎_, inl, inr}
-use mathlib.Core.List.{List, [], _∷_, _++_, map}
+use mathlib.Core.Logic.{_⊎_, inl, inr, ⊎-elim}
+use mathlib.Core.List.{List, [], _∷_, _++_, map, append-assoc}
 use lib.ListN.{length}
 use Rattle.paper.specs.Lists.{Nth, _∈_, Numbered, Count, end, has, lacks, gather}
 
@@ -129,6 +129,17 @@ module _ {A : Type 0} where
   in-gather f [] b m x h = absurd (m .1)
   in-gather {B} f (c ∷ l) b (zero, n) x h = in-first (f c) (gather f l) x (subst (λ (d : B). x ∈ f d) n h)
   in-gather f (c ∷ l) b (suc i, n) x h = in-second (f c) (gather f l) x (in-gather f l b (i, n) x h)
+
+  -- what holds of all that f gives for each element holds of all that is gathered
+  pub of-gather : {B : Type 0} (f : B → List A) (l : List B) (R : A → Type 0) → ((b : B) → b ∈ l → (x : A) → x ∈ f b → R x)
+      → (x : A) → x ∈ gather f l → R x
+  of-gather f [] R g x m = absurd (m .1)
+  of-gather f (b ∷ l) R g x m =
+      ⊎-elim (g b (0, refl) x) (of-gather f l R (λ c i. g c (suc (i .0), i .1)) x) (of-append (f b) (gather f l) x m)
+
+  pub gather-append : {B : Type 0} (f : B → List A) (l k : List B) → gather f (l ++ k) ≡ gather f l ++ gather f k
+  gather-append f [] k = refl
+  gather-append f (b ∷ l) k = ap (_++_ (f b)) (gather-append f l k) ∙ sym (append-assoc (f b) (gather f l) (gather f k))
 
   pub number-in : (l : List A) (k : ℕ) (x : A) → Numbered l k x → x ∈ l
   number-in l k x n = (n .0, n .2)
