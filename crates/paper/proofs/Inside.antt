@@ -1,5 +1,5 @@
--- No accepted location points outside its sequence.
-use Prim.Native.Nat.{ℕ, zero, suc}
+-- What an accepted listing has. No accepted location points outside its sequence.
+use Prim.Native.Nat.{ℕ, zero, suc, _≤_}
 use native.Mathlib.Omega.{arith}
 use native.Mathlib.Decide.{ℕ-discrete}
 use mathlib.Core.Path.{_≡_, refl, sym, ap, _∙_, subst}
@@ -7,14 +7,16 @@ use mathlib.Core.Bool.{Bool, true, false, _||_}
 use mathlib.Core.Logic.{_⊎_, inl, inr}
 use mathlib.Core.List.{List, [], _∷_, map, reverseAux, List-discrete}
 use mathlib.Core.Option.{Option, none, some}
+use lib.ListN.{length}
 use lib.Dec.{ltb}
 use borrow.Author.Tests.{ltb-false}
 use Rattle.paper.specs.Bytes.{bytes}
 use Rattle.paper.specs.Lists.{Nth, _∈_}
 use Rattle.paper.specs.Tree.{Feature, Table, Sequence, Listing, featuresIn, featuresOf}
+use Rattle.paper.specs.Layout.{LaidOut}
 use Rattle.paper.specs.Locations.{Piece, point, before, after, range, site, Member, Location, one, many, pieceText, complement, memberText, membersText, locationText, Locates, Span, spanOf, memberSpan, spans, membersOf, any, isWrong, breaks25}
 use Rattle.paper.specs.Rules.{L, Skipped, sequence, table, feature, rule-25, rule-29}
-use Rattle.paper.specs.Answers.{give, Checked, accepted}
+use Rattle.paper.specs.Answers.{limit, give, Checked, accepted}
 use Rattle.paper.specs.Demands.{Inside}
 use Rattle.paper.proofs.Decimal.{number-positive}
 use Rattle.paper.proofs.Lists.{of-map}
@@ -124,6 +126,13 @@ spans-inside n t {w} h e =
     piece-inside n c (m .piece) (s .0) (s .1) (none-such (λ (m : Member). isWrong n (m .piece)) (membersOf t) e (i .0) m (i .1)) (s .2))
 
 -- ---- an accepted listing
+
+module _ {w : List ℕ} {l : Listing ℕ} where
+  pub within-limit : Checked w (give l) → length w ≤ limit
+  within-limit (accepted short laid clean) = short
+
+  pub laid-out : Checked w (give l) → LaidOut l w
+  laid-out (accepted short laid clean) = laid
 
 -- a skipped sequence has no table (rule 29)
 pub skipped-bare : {w : List ℕ} {l : Listing ℕ} → Checked w (give l) → (s : Sequence ℕ) → s ∈ l .sequences → Skipped s → s .table ≡ none
