@@ -5,17 +5,16 @@ use mathlib.Core.Path.{_≡_, refl, sym, subst}
 use mathlib.Core.Bool.{Bool}
 use mathlib.Core.Logic.{inl, inr}
 use mathlib.Core.Option.{Option, none, some}
-use mathlib.Core.List.{List, [], _∷_, _++_}
+use mathlib.Core.List.{List, [], _∷_}
 use Rattle.paper.specs.Lists.{_∈_, gather, present}
-use Rattle.paper.specs.Tree.{Text, Qualifier, Feature, Sequence, Listing, featuresOf, qualifiersOf, qualifierTexts, featureTexts, sequenceTexts, attributeTexts, partiesTexts, spokenTexts}
-use Rattle.paper.specs.Layout.{LaidOut}
-use Rattle.paper.specs.Answers.{Checked, give, FindsSequence, FindsFeature, FindsQualifier, FindsTranslation, FindsTranslations, Part, noPart, partOf, valuePart, SequenceSays, FeatureSays, QualifierSays, SpansSays, TranslationSays, TranslationsSays, NoSequence, NoFeature, NoQualifier, NoSpans, NothingWritten}
+use Rattle.paper.specs.Tree.{Text, Qualifier, Feature, Sequence, featuresOf, qualifiersOf, qualifierTexts, featureTexts}
+use Rattle.paper.specs.Answers.{give, FindsSequence, FindsFeature, FindsQualifier, FindsTranslation, FindsTranslations, Part, noPart, partOf, valuePart, SequenceSays, FeatureSays, QualifierSays, SpansSays, TranslationSays, TranslationsSays, NoSequence, NoFeature, NoQualifier, NoSpans, NothingWritten}
 use Rattle.paper.specs.Index.{FindsIndex, IndexCheckSays, WithIndex}
 use Rattle.paper.specs.Demands.{AnswerOrRefusal, InListing, Demand1, Demand2}
-use Rattle.paper.proofs.Lists.{in-first, in-second, in-gather, number-in}
+use Rattle.paper.proofs.Lists.{in-second, in-gather, number-in}
 use Rattle.paper.proofs.Refusals.{checked, own, sequence-refused, feature-refused, qualifier-refused, location-refused, translation-refused, translations-refused, index-refused, index-check-refused, lent-ends}
-use Rattle.paper.proofs.Inside.{accepted-inside}
-use Rattle.paper.proofs.Shown.{parts-shown}
+use Rattle.paper.proofs.Inside.{laid-out, accepted-inside}
+use Rattle.paper.proofs.Shown.{parts-shown, residues-inside, feature-inside}
 
 module _ {w : List ℕ} where
   sequence-ends : {k n p d : ℕ} {x : Part} → SequenceSays w k n p d x → AnswerOrRefusal n p (NoSequence d x)
@@ -72,44 +71,26 @@ demand1 =
 
 -- ---- the texts of which parts are shown are texts of the listing
 
--- those of a sequence before its features
-abbrev headTexts : Sequence ℕ → List (Text ℕ)
-headTexts s = (s .number ∷ s .declared ∷ s .moltype ∷ s .division ∷ []) ++ gather (present {A = Text ℕ}) (present (s .otherIds))
-
 module _ {w : List ℕ} where
-  laid : {l : Listing ℕ} → Checked w (give l) → LaidOut l w
-  laid (Checked.accepted short h clean) = h
-
-  -- a text of a sequence
-  text-inside : {l : Listing ℕ} → Checked w (give l) → (s : Sequence ℕ) → s ∈ l .sequences → (t : Text ℕ) → t ∈ sequenceTexts s → InListing w (partOf t)
-  text-inside {l} c s i t m =
-      let front = partiesTexts l ++ gather spokenTexts (l .titles) ++ (l .total ∷ []) in
-      let rest = gather sequenceTexts (l .sequences) in
-      parts-shown w l (laid c) t (in-second (attributeTexts l) (front ++ rest) t (in-second front rest t (in-gather sequenceTexts (l .sequences) s i t m))) .inside
-
-  residues-inside : {k : ℕ} {s : Sequence ℕ} → FindsSequence w k (give s) → InListing w (partOf (s .residues))
-  residues-inside {k} {s} (FindsSequence.sequence {l = l} c i u) =
-      text-inside c s (number-in (l .sequences) k s i) (s .residues)
-      (in-second (headTexts s ++ gather featureTexts (featuresOf s)) (s .residues ∷ []) (s .residues) (0, refl))
+  found-inside : {k : ℕ} {s : Sequence ℕ} → FindsSequence w k (give s) → InListing w (partOf (s .residues))
+  found-inside {k} {s} (FindsSequence.sequence {l = l} c i u) = residues-inside (laid-out c) s (number-in (l .sequences) k s i)
 
   -- a text of a feature
-  feature-inside : {k j : ℕ} {s : Sequence ℕ} {f : Feature ℕ} → FindsFeature w k j (give (s, f)) → (t : Text ℕ) → t ∈ featureTexts f → InListing w (partOf t)
-  feature-inside {k} {j} {s} {f} (FindsFeature.feature (FindsSequence.sequence {l = l} c i u) n) t m =
-      let features = gather featureTexts (featuresOf s) in
-      text-inside c s (number-in (l .sequences) k s i) t
-      (in-first (headTexts s ++ features) (s .residues ∷ []) t (in-second (headTexts s) features t (in-gather featureTexts (featuresOf s) f (number-in (featuresOf s) j f n) t m)))
+  text-inside : {k j : ℕ} {s : Sequence ℕ} {f : Feature ℕ} → FindsFeature w k j (give (s, f)) → (t : Text ℕ) → t ∈ featureTexts f → InListing w (partOf t)
+  text-inside {k} {j} {s} {f} (FindsFeature.feature (FindsSequence.sequence {l = l} c i u) n) =
+      feature-inside (laid-out c) s (number-in (l .sequences) k s i) f (number-in (featuresOf s) j f n)
 
   qualifier-inside : {k j i : ℕ} {q : Qualifier ℕ} → FindsQualifier w k j i (give q) → (t : Text ℕ) → t ∈ qualifierTexts q → InListing w (partOf t)
   qualifier-inside {i = i} {q} (FindsQualifier.qualifier {f = f} c n) t m =
-      feature-inside c t (in-second (f .key ∷ f .location ∷ []) (gather qualifierTexts (qualifiersOf f)) t (in-gather qualifierTexts (qualifiersOf f) q (number-in (qualifiersOf f) i q n) t m))
+      text-inside c t (in-second (f .key ∷ f .location ∷ []) (gather qualifierTexts (qualifiersOf f)) t (in-gather qualifierTexts (qualifiersOf f) q (number-in (qualifiersOf f) i q n) t m))
 
   sequence-part : {k n p kind : ℕ} {x : Part} → SequenceSays w k n p kind x → InListing w x
   sequence-part (SequenceSays.refused c) = omega arith
-  sequence-part (SequenceSays.found d c i) = residues-inside c
+  sequence-part (SequenceSays.found d c i) = found-inside c
 
   feature-parts : {k j n p : ℕ} {x y : Part} → FeatureSays w k j n p x y → InListing w x × InListing w y
   feature-parts (FeatureSays.refused c) = (omega arith, omega arith)
-  feature-parts (FeatureSays.found {f = f} c) = (feature-inside c (f .key) (0, refl), feature-inside c (f .location) (1, refl))
+  feature-parts (FeatureSays.found {f = f} c) = (text-inside c (f .key) (0, refl), text-inside c (f .location) (1, refl))
 
   qualifier-parts : {k j i n p : ℕ} {x y : Part} {b : Bool} → QualifierSays w k j i n p x b y → InListing w x × InListing w y
   qualifier-parts (QualifierSays.refused c) = (omega arith, omega arith)

@@ -1,5 +1,5 @@
--- No accepted location points outside its sequence.
-use Prim.Native.Nat.{ℕ, zero, suc}
+-- What an accepted listing has. No accepted location points outside its sequence.
+use Prim.Native.Nat.{ℕ, zero, suc, _≤_}
 use native.Mathlib.Omega.{arith}
 use native.Mathlib.Decide.{ℕ-discrete}
 use mathlib.Core.Path.{_≡_, refl, sym, ap, _∙_, subst}
@@ -7,14 +7,16 @@ use mathlib.Core.Bool.{Bool, true, false, _||_}
 use mathlib.Core.Logic.{_⊎_, inl, inr}
 use mathlib.Core.List.{List, [], _∷_, map, reverseAux, List-discrete}
 use mathlib.Core.Option.{Option, none, some}
+use lib.ListN.{length}
 use lib.Dec.{ltb}
 use borrow.Author.Tests.{ltb-false}
 use Rattle.paper.specs.Bytes.{bytes}
 use Rattle.paper.specs.Lists.{Nth, _∈_}
 use Rattle.paper.specs.Tree.{Feature, Table, Sequence, Listing, featuresIn, featuresOf}
+use Rattle.paper.specs.Layout.{LaidOut}
 use Rattle.paper.specs.Locations.{Piece, point, before, after, range, site, Member, Location, one, many, pieceText, complement, memberText, membersText, locationText, Locates, Span, spanOf, memberSpan, spans, membersOf, any, isWrong, breaks25}
 use Rattle.paper.specs.Rules.{L, Skipped, sequence, table, feature, rule-25, rule-29}
-use Rattle.paper.specs.Answers.{give, Checked, accepted}
+use Rattle.paper.specs.Answers.{limit, give, Checked, accepted}
 use Rattle.paper.specs.Demands.{Inside}
 use Rattle.paper.proofs.Decimal.{number-positive}
 use Rattle.paper.proofs.Lists.{of-map}
@@ -125,9 +127,23 @@ spans-inside n t {w} h e =
 
 -- ---- an accepted listing
 
-no-features : {P : Type 0} (t : Option (Table P)) (f : Feature P) → f ∈ featuresIn t → ¬ (t ≡ none)
-no-features none f h e = h .1
-no-features (some t) f h e = let z : _≡_ {A = ℕ} 0 1 = cc in omega arith
+module _ {w : List ℕ} {l : Listing ℕ} where
+  pub within-limit : Checked w (give l) → length w ≤ limit
+  within-limit (accepted short laid clean) = short
+
+  pub laid-out : Checked w (give l) → LaidOut l w
+  laid-out (accepted short laid clean) = laid
+
+-- a skipped sequence has no table (rule 29)
+pub skipped-bare : {w : List ℕ} {l : Listing ℕ} → Checked w (give l) → (s : Sequence ℕ) → s ∈ l .sequences → Skipped s → s .table ≡ none
+skipped-bare (accepted short laid clean) s i k = go (s .table) refl
+  where
+    go : (o : Option (Table ℕ)) → s .table ≡ o → s .table ≡ none
+    go none e = e
+    go (some t) e =
+        absurd
+        (clean 29 (s .residues .place)
+        (sequence (suc (i .0)) s (i .0, refl, i .1) (rule-29 k (λ z. let n = z .4 in let y : _≡_ {A = ℕ} 0 1 = cc in omega arith))))
 
 -- every span of every feature of an accepted listing lies in its sequence
 pub accepted-inside : {w : List ℕ} {l : Listing ℕ} → Checked w (give l) → (s : Sequence ℕ) → s ∈ l .sequences → (f : Feature ℕ) → f ∈ featuresOf s
@@ -139,5 +155,5 @@ accepted-inside {w} {l} (accepted short laid clean) s i f j t h = go (List-discr
     kept u false e = e
 
     go : Dec (Skipped s) → (x : Span) → x ∈ spans t → Inside (L s) x
-    go (yes k) = absurd (clean 29 (s .residues .place) (sequence (suc (i .0)) s (i .0, refl, i .1) (rule-29 k (λ z. no-features (s .table) f j (z .4)))))
+    go (yes k) = absurd (subst (λ (o : Option (Table ℕ)). f ∈ featuresIn o) (skipped-bare (accepted short laid clean) s i k) j .1)
     go (no u) = spans-inside (L s) t h (kept u (breaks25 (L s) t) refl)

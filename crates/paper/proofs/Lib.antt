@@ -16,6 +16,8 @@ pub mod Once
 pub mod Refusals
 pub mod Shown
 pub mod Demands
+pub mod Sizes
+pub mod Index
 pub mod Tries
 pub mod Samples
 pub mod Keeps

@@ -2,7 +2,7 @@
 use Prim.Native.Nat.{ℕ, zero, suc, _+_, _<_}
 use native.Mathlib.Omega.{arith}
 use mathlib.Core.Path.{_≡_, refl, sym, ap, _∙_, subst}
-use mathlib.Core.Logic.{_⊎_, inl, inr}
+use mathlib.Core.Logic.{_⊎_, inl, inr, ⊎-elim}
 use mathlib.Core.List.{List, [], _∷_, _++_, map, append-assoc, append-nil}
 use lib.ListN.{length}
 use Rattle.paper.specs.Lists.{Nth, _∈_, Numbered, Count, end, has, lacks, gather}
@@ -130,12 +130,19 @@ module _ {A : Type 0} where
   in-gather {B} f (c ∷ l) b (zero, n) x h = in-first (f c) (gather f l) x (subst (λ (d : B). x ∈ f d) n h)
   in-gather f (c ∷ l) b (suc i, n) x h = in-second (f c) (gather f l) x (in-gather f l b (i, n) x h)
 
+  -- what holds of all that f gives for each element holds of all that is gathered
+  pub of-gather : {B : Type 0} (f : B → List A) (l : List B) (R : A → Type 0) → ((b : B) → b ∈ l → (x : A) → x ∈ f b → R x)
+      → (x : A) → x ∈ gather f l → R x
+  of-gather f [] R g x m = absurd (m .1)
+  of-gather f (b ∷ l) R g x m =
+      ⊎-elim (g b (0, refl) x) (of-gather f l R (λ c i. g c (suc (i .0), i .1)) x) (of-append (f b) (gather f l) x m)
+
+  pub gather-append : {B : Type 0} (f : B → List A) (l k : List B) → gather f (l ++ k) ≡ gather f l ++ gather f k
+  gather-append f [] k = refl
+  gather-append f (b ∷ l) k = ap (_++_ (f b)) (gather-append f l k) ∙ sym (append-assoc (f b) (gather f l) (gather f k))
+
   pub number-in : (l : List A) (k : ℕ) (x : A) → Numbered l k x → x ∈ l
   number-in l k x n = (n .0, n .2)
-
-pub gather-append : {A B : Type 0} (f : A → List B) (l k : List A) → gather f (l ++ k) ≡ gather f l ++ gather f k
-gather-append f [] k = refl
-gather-append f (a ∷ l) k = ap (_++_ (f a)) (gather-append f l k) ∙ sym (append-assoc (f a) (gather f l) (gather f k))
 
 pub gather-last : {A B : Type 0} (f : A → List B) (l : List A) (a : A) → gather f (l ++ (a ∷ [])) ≡ gather f l ++ f a
 gather-last f l a = gather-append f l (a ∷ []) ∙ ap (_++_ (gather f l)) (append-nil (f a))

@@ -11,10 +11,11 @@ use lib.Seq.{take-at, drop-at}
 use Rattle.paper.specs.Bytes.{bytes, isPrinted, isPrintedOrHigh, raw}
 use Rattle.paper.specs.Form.{Form, these, lit, _·_, _∪_, given, maybe, each, each⁺}
 use Rattle.paper.specs.Lists.{_∈_, gather, present}
-use Rattle.paper.specs.Tree.{Text, Spoken, Party, Identification, Heading, reference, application, Qualifier, Feature, Table, Sequence, Listing, featuresIn, listed, spokenTexts, partyTexts, identificationTexts, headingTexts, qualifierTexts, featureTexts, sequenceTexts, attributeTexts, partiesTexts, textsOf}
+use Rattle.paper.specs.Tree.{Text, Spoken, Party, Identification, Heading, reference, application, Qualifier, Feature, Table, Sequence, Listing, featuresIn, featuresOf, listed, spokenTexts, partyTexts, identificationTexts, headingTexts, qualifierTexts, featureTexts, sequenceTexts, attributeTexts, partiesTexts, textsOf}
 use Rattle.paper.specs.Layout.{blanks, gap, text, tag, close, attribute, content, leaf, spoken, child, child?, holding, holding?, identification, heading, party, qualifier, quals, feature, table, otherIds, inner, sequence, attributes, parties, root, doctype, LaidOut}
-use Rattle.paper.specs.Demands.{StatedStretch}
-use Rattle.paper.proofs.Lists.{of-append}
+use Rattle.paper.specs.Answers.{partOf}
+use Rattle.paper.specs.Demands.{InListing, StatedStretch}
+use Rattle.paper.proofs.Lists.{of-append, in-first, in-second, in-gather}
 
 -- the text t stands in the bytes w, which stand at `at`
 record Standing (t : Text ℕ) (at : ℕ) (w : List ℕ) : Type 0 where
@@ -276,3 +277,27 @@ parts-shown w l laid t m =
           ∙ ap (take (length r)) (drop-at (s .before) (r ++ s .behind) (t .place) (sym p))
           ∙ take-at r (s .behind) (length r) refl;
     }
+
+-- ---- of a sequence
+
+-- its texts before its features
+abbrev headTexts : Sequence ℕ → List (Text ℕ)
+headTexts s = (s .number ∷ s .declared ∷ s .moltype ∷ s .division ∷ []) ++ gather (present {A = Text ℕ}) (present (s .otherIds))
+
+module _ {w : List ℕ} {l : Listing ℕ} (laid : LaidOut l w) (s : Sequence ℕ) (i : s ∈ l .sequences) where
+  text-inside : (t : Text ℕ) → t ∈ sequenceTexts s → InListing w (partOf t)
+  text-inside t m =
+      let front = partiesTexts l ++ gather spokenTexts (l .titles) ++ (l .total ∷ []) in
+      let rest = gather sequenceTexts (l .sequences) in
+      parts-shown w l laid t (in-second (attributeTexts l) (front ++ rest) t (in-second front rest t (in-gather sequenceTexts (l .sequences) s i t m))) .inside
+
+  pub residues-inside : InListing w (partOf (s .residues))
+  residues-inside =
+      text-inside (s .residues) (in-second (headTexts s ++ gather featureTexts (featuresOf s)) (s .residues ∷ []) (s .residues) (0, refl))
+
+  -- a text of a feature
+  pub feature-inside : (f : Feature ℕ) → f ∈ featuresOf s → (t : Text ℕ) → t ∈ featureTexts f → InListing w (partOf t)
+  feature-inside f j t m =
+      let features = gather featureTexts (featuresOf s) in
+      text-inside t
+      (in-first (headTexts s ++ features) (s .residues ∷ []) t (in-second (headTexts s) features t (in-gather featureTexts (featuresOf s) f j t m)))
