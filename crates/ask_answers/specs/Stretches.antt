@@ -1,10 +1,15 @@
--- A part of the listing as a stretch: where it starts, and how long it is.
+-- A part of the listing as a stretch: where it starts, and how long it is; and the answers of a refusal, which show none.
 use Prim.Native.Nat.{ℕ, _+_, _≤_}
+use mathlib.Core.Bool.{false}
 use mathlib.Core.List.{List}
 use lib.ListN.{length}
 use Rattle.paper.specs.Answers as paper
 use Rattle.ask_answers.specs.declared.Stretch.{Stretch}
+use Rattle.ask_answers.specs.declared.SequenceAnswer.{SequenceAnswer}
+use Rattle.ask_answers.specs.declared.FeatureAnswer.{FeatureAnswer}
+use Rattle.ask_answers.specs.declared.QualifierAnswer.{QualifierAnswer}
 use Rattle.ask_answers.specs.declared.SpansAnswer.{SpansAnswer}
+use Rattle.ask_answers.specs.declared.TranslationAnswer.{TranslationAnswer}
 
 abbrev pub noStretch : Stretch
 noStretch = record { start = 0; size = 0 }
@@ -17,5 +22,19 @@ partIs x = record { start = x .start; size = x .size }
 abbrev pub Lies : List ℕ → Stretch → Type 0
 Lies w x = x .start + x .size ≤ length w
 
+-- ---- a refusal and its place
+
+abbrev pub noSequence : ℕ → ℕ → SequenceAnswer
+noSequence n p = record { number = n; place = p; kind = 0; residues = noStretch }
+
+abbrev pub noFeature : ℕ → ℕ → FeatureAnswer
+noFeature n p = record { number = n; place = p; key = noStretch; location = noStretch }
+
+abbrev pub noQualifier : ℕ → ℕ → QualifierAnswer
+noQualifier n p = record { number = n; place = p; name = noStretch; present = false; value = noStretch }
+
 abbrev pub noSpans : ℕ → ℕ → SpansAnswer
 noSpans n p = record { number = n; place = p; operator = 0; count = 0 }
+
+abbrev pub noTranslation : ℕ → ℕ → TranslationAnswer
+noTranslation n p = record { number = n; place = p; size = 0 }

@@ -3,7 +3,7 @@
 use paper::Verdict;
 ghost use mathlib.Core.Path.{_≡_};
 ghost use Rattle.ask_answers.specs.Handed.{Narrow, flagOf, HandsVerdict, HandsSequence, HandsFeature, HandsQualifier, HandsSpans, HandsTranslation};
-ghost use Rattle.ask_answers.specs.Stretches.{noStretch, noSpans};
+ghost use Rattle.ask_answers.specs.Stretches.{noStretch, noSequence, noFeature, noQualifier, noSpans, noTranslation};
 
 // A stretch of the listing.
 pub struct Stretch {
@@ -27,6 +27,17 @@ pub struct SequenceAnswer {
     pub residues: Stretch,
 }
 
+pub fn no_sequence(number: usize, place: usize) -> SequenceAnswer
+    ensures { λ r. ⌜ r ≡ noSequence number place ⌝ }
+{
+    SequenceAnswer {
+        number,
+        place,
+        kind: 0,
+        residues: no_stretch(),
+    }
+}
+
 // ---- a feature
 
 // Where its key and its location stand; or the number of a refusal and its place.
@@ -35,6 +46,17 @@ pub struct FeatureAnswer {
     pub place: usize,
     pub key: Stretch,
     pub location: Stretch,
+}
+
+pub fn no_feature(number: usize, place: usize) -> FeatureAnswer
+    ensures { λ r. ⌜ r ≡ noFeature number place ⌝ }
+{
+    FeatureAnswer {
+        number,
+        place,
+        key: no_stretch(),
+        location: no_stretch(),
+    }
 }
 
 // ---- a qualifier
@@ -46,6 +68,18 @@ pub struct QualifierAnswer {
     pub name: Stretch,
     pub present: bool,
     pub value: Stretch,
+}
+
+pub fn no_qualifier(number: usize, place: usize) -> QualifierAnswer
+    ensures { λ r. ⌜ r ≡ noQualifier number place ⌝ }
+{
+    QualifierAnswer {
+        number,
+        place,
+        name: no_stretch(),
+        present: false,
+        value: no_stretch(),
+    }
 }
 
 // ---- spans
@@ -76,6 +110,16 @@ pub struct TranslationAnswer {
     pub number: usize,
     pub place: usize,
     pub size: usize,
+}
+
+pub fn no_translation(number: usize, place: usize) -> TranslationAnswer
+    ensures { λ r. ⌜ r ≡ noTranslation number place ⌝ }
+{
+    TranslationAnswer {
+        number,
+        place,
+        size: 0,
+    }
 }
 
 // ---- handed over as numbers

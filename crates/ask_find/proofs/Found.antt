@@ -32,14 +32,22 @@ use Rattle.ask_find.specs.Finds.{FirstIs, SequenceIs, FeatureIs, Feature
 laid-out : {w : List ℕ} {l : Listing ℕ} → Checked w (give l) → LaidOut l w
 laid-out (paper.accepted short laid clean) = laid
 
-pub first-found : {w : List ℕ} {t s f j u : ℕ} {h : Headed} → CheckSays w (Accepted t s f j u) → JudgesHeader w h → FirstIs w (h .first)
+pub first-found : {w : List ℕ} {t s f j u : ℕ} {h : Headed} → CheckSays w (Accepted t s f j u) → JudgesHeader w h → FirstIs w (h .first) t f
 first-found c j =
     let y = j .says (c .0) (laid-out (c .1)) in
-    record { listing = c .0; accepted = c .1; end = y .end; sequences = y .sequences; closes = y .closes }
+    record {
+      listing = c .0;
+      accepted = c .1;
+      totals = c .2 .totals;
+      featured = c .2 .featured;
+      end = y .end;
+      sequences = y .sequences;
+      closes = y .closes;
+    }
 
 -- ---- a sequence
 
-module _ {w : List ℕ} {first k : ℕ} (f : FirstIs w first) where
+module _ {w : List ℕ} {first total features k : ℕ} (f : FirstIs w first total features) where
   sought : {r : Place} → SeeksIn (child layout.sequence) w first k r → PlaceIs (child layout.sequence) w (f .listing .sequences) k r
   sought n = n .says (f .listing .sequences) (f .end) (f .sequences) (f .closes)
 

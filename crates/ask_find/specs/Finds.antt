@@ -1,11 +1,12 @@
 -- What is promised of the items of an accepted listing: which of the paper's tree is found, and where it stands.
 use Prim.Native.Nat.{ℕ}
+use mathlib.Core.Path.{_≡_}
 use mathlib.Core.List.{List}
-use lib.ListN.{drop}
+use lib.ListN.{length, drop}
 use Rattle.paper.specs.Form.{each}
 use Rattle.paper.specs.Tree.{Qualifier, Sequence, Listing}
 use Rattle.paper.specs.Layout.{child, sequence}
-use Rattle.paper.specs.Answers.{refuse, give, Checked, FindsSequence, FindsFeature, FindsQualifier}
+use Rattle.paper.specs.Answers.{refuse, give, Checked, everyFeature, FindsSequence, FindsFeature, FindsQualifier}
 use Rattle.read_steps.specs.Follow.{Starts, closing}
 use Rattle.walk_steps.specs.Stands.{Stands}
 use Rattle.walk_items.specs.Items.{IsSequence, IsQualifier}
@@ -17,23 +18,25 @@ use Rattle.walk_seek.specs.declared.FeatureAt.{FeatureAt}
 use Rattle.walk_seek.specs.declared.FeatureAt.the-variants as feature
 use Rattle.walk_seek.specs.declared.QualifierAt.{QualifierAt}
 use Rattle.walk_seek.specs.declared.QualifierAt.the-variants as qualifier
-use Rattle.ask_find.specs.declared.SequencesFrom.{SequencesFrom}
-use Rattle.ask_find.specs.declared.SequencesFrom.the-variants as first
+use Rattle.ask_find.specs.declared.AcceptedAt.{AcceptedAt}
+use Rattle.ask_find.specs.declared.AcceptedAt.the-variants as first
 use Rattle.ask_find.specs.declared.SequenceAt.{SequenceAt}
 use Rattle.ask_find.specs.declared.SequenceAt.the-variants as sequence
 
 -- ---- the sequences of an accepted listing
 
-pub record FirstIs (w : List ℕ) (at : ℕ) : Type 0 where
+pub record FirstIs (w : List ℕ) (at total features : ℕ) : Type 0 where
   pub listing : Listing ℕ
   pub accepted : Checked w (give listing)
+  pub totals : total ≡ length (listing .sequences)
+  pub featured : features ≡ length (everyFeature listing)
   pub end : ℕ
   pub sequences : Stands (each (child sequence) (listing .sequences)) w at end
   pub closes : Starts closing (drop end w)
 
-abbrev pub FindsFirst : List ℕ → SequencesFrom → Type 0
+abbrev pub FindsFirst : List ℕ → AcceptedAt → Type 0
 FindsFirst w (first.Refused n p) = Checked w (refuse n p)
-FindsFirst w (first.At at) = FirstIs w at
+FindsFirst w (first.At at total features) = FirstIs w at total features
 
 -- ---- a sequence
 

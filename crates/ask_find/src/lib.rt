@@ -12,21 +12,28 @@ use walk_seek::nth;
 use walk_seek::qualifier_in;
 ghost use Rattle.ask_find.specs.Finds.{FindsFirst, SequenceAsked, FeatureAsked, QualifierAsked};
 
-// Where the sequences of an accepted listing start; or the check's refusal.
-enum SequencesFrom {
-    Refused { rule: usize, place: usize },
-    At(usize),
+// Where the sequences of an accepted listing start, and the check's counts of sequences and of features; or its refusal.
+pub enum AcceptedAt {
+    Refused {
+        rule: usize,
+        place: usize,
+    },
+    At {
+        first: usize,
+        total: usize,
+        features: usize,
+    },
 }
 
-fn first_sequence(listing: &[u8]) -> SequencesFrom
+pub fn accepted(listing: &[u8]) -> AcceptedAt
     ensures { λ r. ⌜ FindsFirst (now (listing .entry)) r ⌝ }
 {
     match ask_check::check(listing) {
-        Verdict::Refused { rule, place } => SequencesFrom::Refused { rule, place },
+        Verdict::Refused { rule, place } => AcceptedAt::Refused { rule, place },
         Verdict::Accepted {
-            total: _,
+            total,
             skipped: _,
-            features: _,
+            features,
             judged: _,
             unjudged: _,
         } => {
@@ -35,7 +42,11 @@ fn first_sequence(listing: &[u8]) -> SequencesFrom
                 total: _,
                 first,
             } = judge_header::judge_header(listing);
-            SequencesFrom::At(first)
+            AcceptedAt::At {
+                first,
+                total,
+                features,
+            }
         }
     }
 }
@@ -49,9 +60,13 @@ pub enum SequenceAt {
 pub fn find_sequence(listing: &[u8], k: usize) -> SequenceAt
     ensures { λ r. ⌜ SequenceAsked (now (listing .entry)) k r ⌝ }
 {
-    match first_sequence(listing) {
-        SequencesFrom::Refused { rule, place } => SequenceAt::Refused { rule, place },
-        SequencesFrom::At(first) => match nth(listing, first, k, Item::Sequence) {
+    match accepted(listing) {
+        AcceptedAt::Refused { rule, place } => SequenceAt::Refused { rule, place },
+        AcceptedAt::At {
+            first,
+            total: _,
+            features: _,
+        } => match nth(listing, first, k, Item::Sequence) {
             Place::Missing => SequenceAt::Refused { rule: 30, place: 0 },
             Place::At(at) => {
                 let found = walk_items::sequence(listing, at);

@@ -14,14 +14,14 @@ use Rattle.lent_room.specs.declared.Pass.the-variants.{Write}
 use Rattle.lent_room.proofs.Laws.{sets-front, puts-none, puts-next, puts-lent, lent, back, length-lent, length-back}
 use Rattle.lent_room.proofs.Passes.{lays-kept, lays-written, lays-within}
 use Rattle.walk_steps.specs.Stands.{TellsChild}
-use Rattle.walk_items.specs.Items.{IsFeature, MeetsFeature}
+use Rattle.walk_items.specs.Items.{IsFeature, MeetsFeature, PassesFeature}
 use Rattle.walk_items.specs.declared.FoundFeature.{FoundFeature}
 use Rattle.judge_faults.specs.Known.{Knows}
 use Rattle.judge_faults.specs.declared.Known.{Known}
 use Rattle.judge_qualifiers.proofs.Lists.{in-last}
 use Rattle.ask_translation.specs.Plans.{Keeps}
 use Rattle.ask_translation.specs.Ones.{TranslatesOne}
-use Rattle.ask_translations.specs.Lines.{Line, PassesFeature, KeepAll, PutsLine, PutsLines}
+use Rattle.ask_translations.specs.Lines.{Line, KeepAll, PutsLine, PutsLines}
 use Rattle.ask_translation.specs.declared.Written.{Written}
 use Rattle.ask_translations.proofs.Laid.{lineOf, line-once, lines-last}
 use Rattle.ask_translations.proofs.Walks.{SeenFeatures, none-seen, one-more, stuck, all-seen, keep-front}

@@ -12,7 +12,7 @@ use Rattle.paper.specs.Answers.{Translates}
 use Rattle.paper.specs.Answers as paper
 use Rattle.read_steps.specs.Parts.{ShowsBytes}
 use Rattle.walk_steps.specs.Stands.{TellsChild}
-use Rattle.walk_items.specs.Items.{MeetsFeature}
+use Rattle.walk_items.specs.Items.{MeetsFeature, PassesFeature}
 use Rattle.walk_items.specs.declared.FoundFeature.{FoundFeature}
 use Rattle.protein_codons.specs.Letters.{lettersOf}
 use Rattle.protein_measure.specs.Measuring.{Measured, Measures}
@@ -23,7 +23,7 @@ use Rattle.judge_faults.specs.Known.{Knows}
 use Rattle.judge_faults.specs.declared.Known.{Known}
 use Rattle.judge_qualifiers.proofs.Lists.{in-last}
 use Rattle.ask_translation.specs.Plans.{PlanIs, Plans}
-use Rattle.ask_translations.specs.Lines.{Line, SizeIs, Within, Adds, Dashes, MeasuresLine, PassesFeature, KeepAll, LinesSized, MeasuresLines}
+use Rattle.ask_translations.specs.Lines.{Line, SizeIs, Within, Adds, Dashes, MeasuresLine, KeepAll, LinesSized, MeasuresLines}
 use Rattle.ask_translation.specs.declared.Plan.{Plan}
 use Rattle.ask_translation.specs.declared.Plan.the-variants.{NoCds, From}
 use Rattle.ask_translation.specs.declared.Plan.the-variants as plan

@@ -3,7 +3,7 @@ use Prim.Native.Nat.{ℕ, _≤_, _<_}
 use mathlib.Core.Path.{_≡_}
 use mathlib.Core.List.{List, [], _++_}
 use lib.ListN.{length, drop}
-use Rattle.paper.specs.Bytes.{bytes, isBlank}
+use Rattle.paper.specs.Bytes.{bytes}
 use Rattle.paper.specs.Lists.{_∈_}
 use Rattle.paper.specs.Form.{each}
 use Rattle.paper.specs.Layout.{child, feature}
@@ -11,7 +11,7 @@ use Rattle.paper.specs.Tree.{Sequence, Feature, featuresOf}
 use Rattle.paper.specs.Answers.{refuse, give, Translates, Lent, front}
 use Rattle.paper.specs.Answers as paper
 use Rattle.lent_room.specs.Room.{Puts}
-use Rattle.read_steps.specs.Follow.{Not, Starts, closing}
+use Rattle.read_steps.specs.Follow.{Starts, closing}
 use Rattle.walk_steps.specs.Stands.{Stands}
 use Rattle.walk_items.specs.Items.{IsFeature, TableIs}
 use Rattle.walk_items.specs.declared.FoundFeature.{FoundFeature}
@@ -59,10 +59,6 @@ pub record LineSized (q : Sequence ℕ) (f : Feature ℕ) (room : ℕ) (r : Line
 pub record MeasuresLine (s : List ℕ) (known : Known) (g : FoundFeature) (room : ℕ) (r : Lined) : Type 0 where
   pub within : Within room r
   pub says : (q : Sequence ℕ) (f : Feature ℕ) (e : ℕ) → Knows s q known → IsFeature s f e g → Keeps q f → LineSized q f room r
-
--- whichever feature was found so ends there
-pub record PassesFeature (s : List ℕ) (g : FoundFeature) (r : ℕ) : Type 0 where
-  pub is : (f : Feature ℕ) (e : ℕ) → IsFeature s f e g → Not isBlank (drop e s) → r ≡ e
 
 -- ---- the lines of all features
 

@@ -16,7 +16,7 @@ use walk_items::FoundTable;
 ghost use Rattle.paper.specs.Translation.{code1};
 ghost use Rattle.protein_code.specs.Tables.{CodeTable};
 ghost use Rattle.value_vocabulary.specs.Tables.{VocabularyTable};
-ghost use Rattle.ask_translations.specs.Lines.{Dashes, MeasuresLine, PassesFeature, Adds, MeasuresLines, PutsLine, PutsLines, TranslatesAll};
+ghost use Rattle.ask_translations.specs.Lines.{Dashes, MeasuresLine, Adds, MeasuresLines, PutsLine, PutsLines, TranslatesAll};
 
 // The length of some lines, or that they are longer than the room.
 pub enum Lined {
@@ -67,14 +67,6 @@ fn line_size(
     }
 }
 
-// From behind its last qualifier past the end of a feature.
-fn past(s: &[u8], feature: FoundFeature) -> usize
-    ensures { λ r. ⌜ PassesFeature (now (s .entry)) feature r ⌝ }
-{
-    let a = walk_items::qualifiers_over(s, feature.quals);
-    walk_items::feature_end(s, a, feature.long)
-}
-
 // The length of two texts, one behind the other.
 fn both(a: Lined, b: Lined, room: usize) -> Lined
     ensures { λ r. ⌜ Adds a b room r ⌝ }
@@ -112,7 +104,7 @@ fn lines_size(
     loop {
         if walk_steps::child_here(s, at) {
             let feature = walk_items::feature(s, at);
-            let next = past(s, feature);
+            let next = walk_items::feature_past(s, feature);
             if next <= at {
                 return Lined::Short;
             }
@@ -166,7 +158,7 @@ fn put_lines(
     loop {
         if walk_steps::child_here(s, at) {
             let feature = walk_items::feature(s, at);
-            let next = past(s, feature);
+            let next = walk_items::feature_past(s, feature);
             if next <= at {
                 return;
             }

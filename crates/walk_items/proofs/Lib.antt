@@ -1,3 +1,4 @@
 pub mod Features
 pub mod Quiet
 pub mod Sequences
+pub mod Inner

@@ -16,10 +16,10 @@ use Rattle.walk_steps.specs.Stands.{Stands, Ends, Over, Finds, FindsMaybe, ente
 use Rattle.walk_steps.specs.declared.Found.{Found}
 use Rattle.walk_steps.specs.declared.FoundMaybe.{FoundMaybe}
 use Rattle.walk_steps.specs.declared.Opened.{Opened}
-use Rattle.walk_steps.proofs.Places.{part, join, wider, some-each, from}
+use Rattle.walk_steps.proofs.Places.{part, join, wider, some-each, some-not, from}
 use Rattle.walk_steps.proofs.Leaves.{starts-at, no-blank}
 use Rattle.walk_steps.proofs.Elements.{Sharp, inside, held, within, missing-none, there-some, there-tells, tag-starts, tag-leads, leaf-leads}
-use Rattle.walk_items.specs.Items.{MeetsQualifier, MeetsFeature, featureTail, FindsIds, FindsTable, MeetsSequence, residuesNext, tableNext, tableClosing}
+use Rattle.walk_items.specs.Items.{MeetsQualifier, MeetsFeature, PassesFeature, featureTail, FindsIds, FindsTable, MeetsSequence, residuesNext, tableNext, tableClosing}
 use Rattle.walk_items.specs.declared.FoundQualifier.{FoundQualifier}
 use Rattle.walk_items.specs.declared.FoundFeature.{FoundFeature}
 use Rattle.walk_items.specs.declared.FoundIds.{FoundIds}
@@ -30,10 +30,12 @@ use Rattle.walk_items.specs.declared.FoundTable.{FoundTable}
 pub qualifier-over : {s : List ℕ} {at : ℕ} {r : FoundQualifier} → MeetsQualifier s at r → Over (child qualifier) (Not isBlank) s at (r .next)
 qualifier-over f = record { is = λ q e d fol. f q e d fol .next }
 
-pub feature-over : {s : List ℕ} {at a n : ℕ} {r : FoundFeature} → MeetsFeature s at r → Over (each (child qualifier)) (Starts closing) s (r .quals) a
-    → Ends (featureTail (r .long)) (Not isBlank) s a n → Over (child feature) (Not isBlank) s at n
-feature-over f q t =
-    record { is = λ x e d fol. let y = f x e d fol in t .is e (from (q .is (qualifiersOf x) (y .stop) (y .quals) (y .closes)) (y .ends)) fol }
+pub passes : {s : List ℕ} {g : FoundFeature} {a n : ℕ} → Over (each (child qualifier)) (Starts closing) s (g .quals) a → Ends (featureTail (g .long)) (Not isBlank) s a n
+    → PassesFeature s g n
+passes over ends = record { is = λ f e i fol. ends .is e (from (over .is (qualifiersOf f) (i .stop) (i .quals) (i .closes)) (i .ends)) fol }
+
+pub feature-over : {s : List ℕ} {at n : ℕ} {g : FoundFeature} → MeetsFeature s at g → PassesFeature s g n → Over (child feature) (Not isBlank) s at n
+feature-over f p = record { is = λ x e d fol. p .is x e (f x e d fol) fol }
 
 pub feature-leads : (f : Feature ℕ) → Leads (bytes "<INSDFeature") (child feature f)
 feature-leads f =
@@ -87,7 +89,7 @@ table-closes d =
     starts-at k (leads-seq k (close (bytes "INSDSeq_feature-table")) blanks (leads-seq k (these k · blanks) (lit ">") (leads-seq k (these k) blanks (leads-all k)))) d
 
 -- a table is an element at its place
-table-at : (t : Table ℕ) {s : List ℕ} {at e : ℕ} → Stands (child table t) s at e → (at ≡ t .place) × Stands (Tabled t) s at e
+pub table-at : (t : Table ℕ) {s : List ℕ} {at e : ℕ} → Stands (child table t) s at e → (at ≡ t .place) × Stands (Tabled t) s at e
 table-at t d =
     let u = part (table t) blanks d in
     (sym (u .1 .laid .0), join (wider (λ a w h. h .1) (u .1)) (u .2))
@@ -112,32 +114,32 @@ module _ {s : List ℕ} {at : ℕ} where
       let u = held (bytes "INSDSeq_feature-table") (each⁺ (child feature) (x .features)) (features-sharp (x .features)) p i (y .1) in
       let g = wider (some-each (child feature) (x .features)) (u .children) in
       record {
-        table = rw (k .1) (refl, record { is = y .0; stop = u .end; features = g; closes = u .closes });
+        table = rw (k .1) (refl, record { is = y .0; some = some-not (child feature) (x .features) (u .children); stop = u .end; features = g; closes = u .closes });
         next = l .is e (from (f .is (x .features) (u .end) g (table-closes (u .leaves))) (u .leaves)) (starts-sharp isBlank residuesNext refl (drop e s) fol);
       }
 
 -- ---- a sequence
 
 module _ (q : Sequence ℕ) where
-  abbrev D : Form
+  abbrev pub D : Form
   D = child (leaf (bytes "INSDSeq_length")) (q .declared)
 
-  abbrev M : Form
+  abbrev pub M : Form
   M = child (leaf (bytes "INSDSeq_moltype")) (q .moltype)
 
-  abbrev B : Form
+  abbrev pub B : Form
   B = child (leaf (bytes "INSDSeq_division")) (q .division)
 
-  abbrev I : Form
+  abbrev pub I : Form
   I = child? otherIds (q .otherIds)
 
-  abbrev T : Form
+  abbrev pub T : Form
   T = child? table (q .table)
 
-  abbrev R : Form
+  abbrev pub R : Form
   R = child (leaf (bytes "INSDSeq_sequence")) (q .residues)
 
-  abbrev Children : Form
+  abbrev pub Children : Form
   Children = D · M · B · I · T · R
 
   children-sharp : Sharp Children

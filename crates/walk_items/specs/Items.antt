@@ -7,10 +7,11 @@ use mathlib.Core.Option.{Option, none, some}
 use lib.ListN.{length, drop, getD}
 use Rattle.paper.specs.Bytes.{bytes, isBlank}
 use Rattle.paper.specs.Form.{Form, _·_, each}
-use Rattle.paper.specs.Tree.{Text, Qualifier, Feature, Table, Sequence, qualifiersOf}
-use Rattle.paper.specs.Layout.{child, child?, qualifier, feature, table, otherIds, sequence}
+use Rattle.paper.specs.Tree.{Text, Qualifier, Feature, Table, Sequence, featuresOf, qualifiersOf}
+use Rattle.paper.specs.Layout.{child, child?, qualifier, quals, feature, table, otherIds, sequence}
 use Rattle.read_steps.specs.Follow.{Not, Starts, closing}
 use Rattle.walk_steps.specs.Stands.{Stands, IsPart, MaybeIs, leaving, shutting, isThere}
+use Rattle.walk_steps.specs.declared.Range.{Range}
 use Rattle.walk_items.specs.declared.FoundQualifier.{FoundQualifier}
 use Rattle.walk_items.specs.declared.FoundFeature.{FoundFeature}
 use Rattle.walk_items.specs.declared.FoundTable.{FoundTable}
@@ -41,6 +42,20 @@ pub record IsFeature (s : List ℕ) (f : Feature ℕ) (e : ℕ) (r : FoundFeatur
 
 abbrev pub MeetsFeature : List ℕ → ℕ → FoundFeature → Type 0
 MeetsFeature s at r = (f : Feature ℕ) (e : ℕ) → Stands (child feature f) s at e → Not isBlank (drop e s) → IsFeature s f e r
+
+-- whichever feature has this key and this location, and its qualifiers from `at` on
+pub record FeatureRest (s : List ℕ) (key location : Range) (at : ℕ) (r : FoundFeature) : Type 0 where
+  pub says : (f : Feature ℕ) (stop e : ℕ) → IsPart s (f .key) key → IsPart s (f .location) location → Stands (child? quals (f .quals)) s at stop
+      → Starts closing (drop stop s) → Stands (leaving (bytes "INSDFeature")) s stop e → IsFeature s f e r
+
+-- whichever feature has this key and this location, wherever it stands: behind a location that isn't empty stands its end tag
+pub record FeatureFrom (s : List ℕ) (key location : Range) (r : FoundFeature) : Type 0 where
+  pub says : (f : Feature ℕ) (at e : ℕ) → Stands (child feature f) s at e → Not isBlank (drop e s) → IsPart s (f .key) key
+      → IsPart s (f .location) location → ¬ (f .location .read ≡ []) → IsFeature s f e r
+
+-- whichever feature was found so ends there
+pub record PassesFeature (s : List ℕ) (g : FoundFeature) (r : ℕ) : Type 0 where
+  pub is : (f : Feature ℕ) (e : ℕ) → IsFeature s f e g → Not isBlank (drop e s) → r ≡ e
 
 -- ---- the end of a feature table
 
@@ -85,9 +100,10 @@ pub record IsIds (o : Option (Option (Text ℕ))) (e : ℕ) (r : FoundIds) : Typ
 abbrev pub FindsIds : List ℕ → ℕ → FoundIds → Type 0
 FindsIds s at r = (o : Option (Option (Text ℕ))) (e : ℕ) → Stands (child? otherIds o) s at e → Starts tableNext (drop e s) → IsIds o e r
 
--- the features of the table t stand from `first` on
+-- the features of the table t stand from `at` on, one at least
 pub record TableAt (s : List ℕ) (t : Table ℕ) (place at : ℕ) : Type 0 where
   pub is : place ≡ t .place
+  pub some : ¬ (t .features ≡ [])
   pub stop : ℕ
   pub features : Stands (each (child feature) (t .features)) s at stop
   pub closes : Starts closing (drop stop s)
@@ -115,3 +131,15 @@ pub record IsSequence (s : List ℕ) (q : Sequence ℕ) (e : ℕ) (r : FoundSequ
 
 abbrev pub MeetsSequence : List ℕ → ℕ → FoundSequence → Type 0
 MeetsSequence s at r = (q : Sequence ℕ) (e : ℕ) → Stands (child sequence q) s at e → Not isBlank (drop e s) → IsSequence s q e r
+
+-- g is the first feature of q, and the others stand behind it
+pub record FirstFeature (s : List ℕ) (q : Sequence ℕ) (g : FoundFeature) : Type 0 where
+  pub first : Feature ℕ
+  pub others : List (Feature ℕ)
+  pub are : featuresOf q ≡ first ∷ others
+  pub next : ℕ
+  pub is : IsFeature s first next g
+  pub follows : Not isBlank (drop next s)
+  pub end : ℕ
+  pub behind : Stands (each (child feature) others) s next end
+  pub closes : Starts closing (drop end s)

@@ -14,7 +14,7 @@ ghost use Rattle.paper.specs.Layout as Form;
 ghost use Rattle.paper.specs.Form.{each};
 ghost use Rattle.read_steps.specs.Follow.{Not, Starts, closing};
 ghost use Rattle.walk_steps.specs.Stands.{Ends, Over};
-ghost use Rattle.walk_items.specs.Items.{MeetsQualifier, MeetsFeature, featureTail, Ending, Endings, FirstEnding, tableClosing, FindsTable, FindsIds, MeetsSequence};
+ghost use Rattle.walk_items.specs.Items.{MeetsQualifier, MeetsFeature, FeatureRest, FeatureFrom, PassesFeature, featureTail, Ending, Endings, FirstEnding, tableClosing, FindsTable, FindsIds, MeetsSequence};
 
 // ---- qualifiers and features
 
@@ -52,6 +52,23 @@ pub struct FoundFeature {
     pub long: bool,
 }
 
+// The feature of this key and this location, whose qualifiers stand from here on.
+fn feature_rest(s: &[u8], key: Range, location: Range, at: usize) -> FoundFeature
+    ensures { λ r. ⌜ FeatureRest (now (s .entry)) key location at r ⌝ }
+{
+    let Opened {
+        present: _,
+        long,
+        first: quals,
+    } = walk_steps::children(s, at, b"INSDFeature_quals", walk_steps::child_here(s, at));
+    FoundFeature {
+        key,
+        location,
+        quals,
+        long,
+    }
+}
+
 pub fn feature(s: &[u8], at: usize) -> FoundFeature
     ensures { λ r. ⌜ MeetsFeature (now (s .entry)) at r ⌝ }
 {
@@ -62,17 +79,15 @@ pub fn feature(s: &[u8], at: usize) -> FoundFeature
         part: location,
         next: d,
     } = walk_steps::leaf(s, c, b"INSDFeature_location");
-    let Opened {
-        present: _,
-        long,
-        first: quals,
-    } = walk_steps::children(s, d, b"INSDFeature_quals", walk_steps::child_here(s, d));
-    FoundFeature {
-        key,
-        location,
-        quals,
-        long,
-    }
+    feature_rest(s, key, location, d)
+}
+
+// The feature of this key and this location, which isn't empty: it isn't walked to.
+pub fn feature_from(s: &[u8], key: Range, location: Range) -> FoundFeature
+    ensures { λ r. ⌜ FeatureFrom (now (s .entry)) key location r ⌝ }
+{
+    let d = walk_steps::leave(s, location.to, b"INSDFeature_location");
+    feature_rest(s, key, location, d)
 }
 
 // From behind its last qualifier past the end of a feature.
@@ -84,7 +99,7 @@ pub fn feature_end(s: &[u8], at: usize, long: bool) -> usize
 }
 
 // Past the qualifiers that stand here.
-pub fn qualifiers_over(s: &[u8], first: usize) -> usize
+fn qualifiers_over(s: &[u8], first: usize) -> usize
     ensures { λ r. ⌜ Over (each (Form.child Form.qualifier)) (Starts closing) (now (s .entry)) first r ⌝ }
 {
     let mut at = first;
@@ -105,18 +120,19 @@ pub fn qualifiers_over(s: &[u8], first: usize) -> usize
     }
 }
 
+// Past a feature that was found.
+pub fn feature_past(s: &[u8], feature: FoundFeature) -> usize
+    ensures { λ r. ⌜ PassesFeature (now (s .entry)) feature r ⌝ }
+{
+    let a = qualifiers_over(s, feature.quals);
+    feature_end(s, a, feature.long)
+}
+
 // Past a feature.
 pub fn feature_over(s: &[u8], at: usize) -> usize
     ensures { λ r. ⌜ Over (Form.child Form.feature) (Not isBlank) (now (s .entry)) at r ⌝ }
 {
-    let FoundFeature {
-        key: _,
-        location: _,
-        quals,
-        long,
-    } = feature(s, at);
-    let a = qualifiers_over(s, quals);
-    feature_end(s, a, long)
+    feature_past(s, feature(s, at))
 }
 
 // ---- the end of a feature table

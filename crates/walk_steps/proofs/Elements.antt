@@ -178,18 +178,34 @@ closes-at name d = starts-at (bytes "</") (close-leads name) d
 abbrev pub Sharp : Form → Type 0
 Sharp C = (at : ℕ) (w z : List ℕ) → C at w → Starts closing z → Not isBlank (w ++ z)
 
-pub inside : (name : List ℕ) (C : Form) {s : List ℕ} {a m r e : ℕ} → Sharp C → Ends entering (Not isBlank) s a r
-    → Stands (holding name C) s a m → Stands blanks s m e → Inside name C s r e
-inside name C {s} sharp p d after =
+-- wherever they start
+pub inside-at : (name : List ℕ) (C : Form) {s : List ℕ} {a m e : ℕ} → Stands (holding name C) s a m → Stands blanks s m e
+    → (r : ℕ) × Stands entering s a r × Inside name C s r e
+inside-at name C d after =
     let w = part blanks (lit ">" · blanks · C · close name) d in
     let k = part (lit ">" · blanks · C) (close name) (w .2) in
     let c = part (lit ">" · blanks) C (k .1) in
     let n = part (lit ">") blanks (c .1) in
-    let cl = closes-at name (k .2) in
-    let er = p .is (c .0) (join (join (w .1) (n .1)) (n .2)) (before (Not isBlank) (c .2) (sharp (c .0) (c .2 .word) (drop (k .0) s) (c .2 .laid) cl)) in
-    record { end = k .0; children = from er (c .2); closes = cl; leaves = join (k .2) after }
+    (c .0, join (join (w .1) (n .1)) (n .2), record { end = k .0; children = c .2; closes = closes-at name (k .2); leaves = join (k .2) after })
+
+-- where the walk has come to
+pub inside : (name : List ℕ) (C : Form) {s : List ℕ} {a m r e : ℕ} → Sharp C → Ends entering (Not isBlank) s a r
+    → Stands (holding name C) s a m → Stands blanks s m e → Inside name C s r e
+inside name C {s} sharp p d after =
+    let y = inside-at name C d after in
+    let i = y .2 in
+    let c = i .children in
+    let er = p .is (y .0) (y .1) (before (Not isBlank) c (sharp (y .0) (c .word) (drop (i .end) s) (c .laid) (i .closes))) in
+    record { end = i .end; children = from er c; closes = i .closes; leaves = i .leaves }
 
 -- such a child
+pub held-at : (name : List ℕ) (C : Form) {s : List ℕ} {at e : ℕ} → Stands ((tag name · holding name C) · blanks) s at e → (r : ℕ) × Inside name C s r e
+held-at name C d =
+    let u = part (tag name · holding name C) blanks d in
+    let v = part (tag name) (holding name C) (u .1) in
+    let y = inside-at name C (v .2) (u .2) in
+    (y .0, y .2)
+
 pub held : (name : List ℕ) (C : Form) {s : List ℕ} {at a r e : ℕ} → Sharp C → Ends (tag name) anything s at a → Ends entering (Not isBlank) s a r
     → Stands ((tag name · holding name C) · blanks) s at e → Inside name C s r e
 held name C sharp p q d =

@@ -18,9 +18,10 @@ use Rattle.read_steps.specs.Follow.{Not, Starts, anything, sharp}
 use Rattle.read_steps.specs.Texts.{allowedIn, Scanned}
 use Rattle.read_steps.proofs.Fronts.{Leads, leads-all, leads-starts, leads-sharp}
 use Rattle.read_tags.proofs.Tags.{Body, Long, body-sharp, close-leads, long-leads}
-use Rattle.walk_steps.specs.Stands.{Stands, Past, others, tagOf, Ends, Finds, FindsContent, IsPart, IsFound}
+use Rattle.walk_steps.specs.Stands.{Stands, Past, others, tagOf, Ends, Finds, FindsContent, IsPart, IsFound, leaving}
+use Rattle.walk_steps.specs.declared.Range.{Range}
 use Rattle.walk_steps.specs.declared.Found.{Found}
-use Rattle.walk_steps.proofs.Places.{part, these-inside, before, from, past-these, pasts, scan-end, run-ends}
+use Rattle.walk_steps.proofs.Places.{part, join, these-inside, before, from, past-these, pasts, scan-end, run-ends}
 
 -- ---- what a text starts with
 
@@ -150,11 +151,33 @@ pub tag-inside : {name s : List ℕ} {at e : ℕ} → Stands (tag name) s at e �
 tag-inside {name} d = omega (arith, d .size, these-inside (bytes "<" ++ name) d (omega arith))
 
 -- a leaf and the blanks after it
-pub leaf-found : {name s : List ℕ} {at a n : ℕ} {r : Found} → Ends (tag name) anything s at a → FindsContent name (allowedIn false) at s a r
-    → Scanned isBlank s (r .next) (length s) n → Finds (child (leaf name)) (Not isBlank) s at (record { part = r .part; next = n })
-leaf-found {name} {at = at} p finds q t e d fol =
+leaf-parts : (name : List ℕ) (t : Text ℕ) {s : List ℕ} {at e : ℕ} → Stands (child (leaf name) t) s at e
+    → (a : ℕ) × (m : ℕ) × Stands (tag name) s at a × Stands (content name (allowedIn false) at t) s a m × Stands blanks s m e
+leaf-parts name t {at = at} d =
     let u = part (leaf name t) blanks d in
     let w = u .1 in
     let v = part (tag name) (content name (allowedIn false) at t) (record { word = w .word; laid = w .laid; size = w .size; here = w .here }) in
-    let r = finds .says (tag-inside (v .1)) t (u .0) (from (p .is (v .0) (v .1) tt) (v .2)) tt in
-    record { part = r .part; next = run-ends isBlank q .is e (from (r .next) (u .2)) fol }
+    (v .0, u .0, v .1, v .2, u .2)
+
+pub leaf-found : {name s : List ℕ} {at a n : ℕ} {r : Found} → Ends (tag name) anything s at a → FindsContent name (allowedIn false) at s a r
+    → Scanned isBlank s (r .next) (length s) n → Finds (child (leaf name)) (Not isBlank) s at (record { part = r .part; next = n })
+leaf-found {name} p finds q t e d fol =
+    let u = leaf-parts name t d in
+    let r = finds .says (tag-inside (u .2)) t (u .1) (from (p .is (u .0) (u .2) tt) (u .3)) tt in
+    record { part = r .part; next = run-ends isBlank q .is e (from (r .next) (u .4)) fol }
+
+-- behind the text of a leaf that isn't empty stands its end tag
+pub text-leaves : (name : List ℕ) (t : Text ℕ) {s : List ℕ} {at e : ℕ} {p : Range} → ¬ (t .read ≡ []) → Stands (child (leaf name) t) s at e → IsPart s t p
+    → Stands (leaving name) s (p .to) e
+text-leaves name t {s} {at} {e} {p} some d i =
+    let u = leaf-parts name t d in
+    let y = part blanks (Body name false at t) (u .3) in
+    let z = y .2 in
+    join (by-kind (y .0) (u .1) (z .word) (z .laid) (z .size) (z .here)) (u .4)
+  where
+    by-kind : (h m : ℕ) (w : List ℕ) → Body name false at t h w → m ≡ h + length w → drop h s ≡ w ++ drop m s → Stands (close name) s (p .to) m
+    by-kind h m w (inl l) z k = absurd (some (l .0 .1))
+    by-kind h m w (inr l) z k =
+        let u = part (lit ">" · text (allowedIn false) t) (close name) (record { word = w; laid = l; size = z; here = k }) in
+        let v = part (lit ">") (text (allowedIn false) t) (u .1) in
+        from (omega (arith, i .behind, v .2 .laid .0, v .2 .size, ap length (v .2 .laid .2))) (u .2)

@@ -38,6 +38,13 @@ module _ {A : Type 0} (name : List ℕ) (F : A → Form) (leads : (a : A) → Le
       let u = part (F a) (each F k) d in
       absurd (t .none h (tag-stands name (F a) (leads a) (u .1)))
 
+  -- no blank stands where the list starts
+  pub list-sharp : {q e : ℕ} → StandsBefore name fl → Starts fl (drop e s) → (k : List A) → Stands (each F k) s q e → Not isBlank (drop q s)
+  list-sharp {q} {e} c fol k d =
+      before (Not isBlank) d
+      (starts-sharp isBlank (tagOf name ∷ fl) (c .sharps) (d .word ++ drop e s)
+      (each-starts whole (tagOf name) F (leads-by (tagOf name) F leads) fl k q (d .word) (drop e s) (d .laid) fol))
+
   -- where one starts it is the first of the list
   pub left-some : {q e : ℕ} {t : Bool} → StandsBefore name fl → t ≡ true → TellsTag name fl s q t → Starts fl (drop e s)
       → (k : List A) → Stands (each F k) s q e → Item F s k q e
@@ -52,10 +59,7 @@ module _ {A : Type 0} (name : List ℕ) (F : A → Form) (leads : (a : A) → Le
         is = refl;
         here = u .1;
         behind = u .2;
-        follows =
-            before (Not isBlank) (u .2)
-            (starts-sharp isBlank (tagOf name ∷ fl) (c .sharps) (u .2 .word ++ drop e s)
-            (each-starts whole (tagOf name) F (leads-by (tagOf name) F leads) fl k (u .0) (u .2 .word) (drop e s) (u .2 .laid) fol));
+        follows = list-sharp c fol k (u .2);
         onward = omega (arith, u .1 .size, leads-long 60 name (F a) (leads a) q (u .1 .word) (u .1 .laid));
       }
 

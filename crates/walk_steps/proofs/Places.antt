@@ -53,6 +53,9 @@ pub some-each : {A : Type 0} (F : A → Form) (l : List A) (at : ℕ) (w : List 
 some-each F [] at w d = absurd d
 some-each F (a ∷ l) at w d = d
 
+pub some-not : {A : Type 0} (F : A → Form) (l : List A) {s : List ℕ} {at e : ℕ} → Stands (each⁺ F l) s at e → ¬ (l ≡ [])
+some-not F l {at = at} d h = subst (λ (k : List _). each⁺ F k at (d .word)) h (d .laid)
+
 -- where nothing stands, what follows is here
 pub nothing-stands : {s : List ℕ} {at e : ℕ} → Stands (these []) s at e → at ≡ e
 nothing-stands d = omega (arith, d .size, ap length (d .laid))

@@ -9,8 +9,8 @@ use borrow.Author.Needs.{needs}
 use Rattle.ask_find.proofs.find_sequence.Statement.{statement}
 use Rattle.ask_find.proofs.find_sequence.Tie as tie
 
-first-sequence-requires : tie.Need-first-sequence-requires
-first-sequence-requires c κs = search needs
+accepted-requires : tie.Need-accepted-requires
+accepted-requires c κs = search needs
 
 enum-known-rule : tie.Need-enum-known-rule
 enum-known-rule c = search needs
@@ -36,32 +36,32 @@ is-skipped-requires c κs = search needs
 returns : tie.Need-returns
 returns c =
     let args = c .before .before .before .before .before .before .before .before .before .before .before .before .args in
-    let first-sequence = c .before .before .before .before .before .before .before .before .before .before .first-sequence in
+    let accepted = c .before .before .before .before .before .before .before .before .before .before .accepted in
     let first = c .before .before .before .before .before .before .before .before .first in
     let nth = c .before .before .before .before .before .before .nth in
-    skipped-so (subst (FindsFirst (now (args .listing))) (first .given .1) (first-sequence .ensures))
+    skipped-so (subst (FindsFirst (now (args .listing))) (first .given .1) (accepted .ensures))
     (placed (c .before .before .before .before .at .given .1) (nth .ensures)) (c .before .before .sequence .ensures)
     (c .before .is-skipped .ensures) (c .if1 .taken)
 
 returns-2 : tie.Need-returns-2
 returns-2 c =
     let args = c .before .before .before .before .before .args in
-    paper.own (subst (FindsFirst (now (args .listing))) (c .before .rule .given .1) (c .before .before .before .first-sequence .ensures))
+    paper.own (subst (FindsFirst (now (args .listing))) (c .before .rule .given .1) (c .before .before .before .accepted .ensures))
 
 returns-3 : tie.Need-returns-3
 returns-3 c =
     let args = c .before .before .before .before .before .before .before .before .args in
-    let first-sequence = c .before .before .before .before .before .before .first-sequence in
-    no-sequence (subst (FindsFirst (now (args .listing))) (c .before .before .before .before .first .given .1) (first-sequence .ensures))
+    let accepted = c .before .before .before .before .before .before .accepted in
+    no-sequence (subst (FindsFirst (now (args .listing))) (c .before .before .before .before .first .given .1) (accepted .ensures))
     (placed (c .enum-told .given .1) (c .before .before .nth .ensures))
 
 returns-4 : tie.Need-returns-4
 returns-4 c =
     let args = c .before .before .before .before .before .before .before .before .before .before .before .before .args in
-    let first-sequence = c .before .before .before .before .before .before .before .before .before .before .first-sequence in
+    let accepted = c .before .before .before .before .before .before .before .before .before .before .accepted in
     let first = c .before .before .before .before .before .before .before .before .first in
     let nth = c .before .before .before .before .before .before .nth in
-    sequence-so (subst (FindsFirst (now (args .listing))) (first .given .1) (first-sequence .ensures))
+    sequence-so (subst (FindsFirst (now (args .listing))) (first .given .1) (accepted .ensures))
     (placed (c .before .before .before .before .at .given .1) (nth .ensures)) (c .before .before .sequence .ensures)
     (c .before .is-skipped .ensures) (c .if1 .left)
 
@@ -69,7 +69,7 @@ pub find-sequence-spec : {M : Type 1} → statement M
 find-sequence-spec =
     tie.close
     (tie.spec
-    first-sequence-requires
+    accepted-requires
     enum-known-rule
     enum-known-first
     nth-requires

@@ -23,14 +23,14 @@ child-here-requires c κs = search needs
 feature-requires : tie.Need-feature-requires Inv-loop μ-loop
 feature-requires c κs = search needs
 
-past-requires : tie.Need-past-requires Inv-loop μ-loop
-past-requires c κs = search needs
+feature-past-requires : tie.Need-feature-past-requires Inv-loop μ-loop
+feature-past-requires c κs = search needs
 
 returns : tie.Need-returns Inv-loop μ-loop
 returns c =
     let loop' = c .before .before .before .before .before .loop in
     sizing-stuck (c .before .before .before .before .child-here .ensures) (loop' .inv) (c .before .before .before .if1 .taken)
-    (c .before .before .feature .ensures) (c .before .past .ensures) (c .if2 .taken)
+    (c .before .before .feature .ensures) (c .before .feature-past .ensures) (c .if2 .taken)
 
 line-size-requires : tie.Need-line-size-requires Inv-loop μ-loop
 line-size-requires c κs = search needs
@@ -50,7 +50,7 @@ loop-again c =
     let child-here = c .before .before .before .before .before .before .child-here in
     let if1 = c .before .before .before .before .before .if1 in
     sizing-more (child-here .ensures) (loop' .inv) (if1 .taken) (c .before .before .before .before .feature .ensures)
-    (c .before .before .before .past .ensures) (c .before .line-size .ensures) (c .both .ensures)
+    (c .before .before .before .feature-past .ensures) (c .before .line-size .ensures) (c .both .ensures)
 
 returns-2 : tie.Need-returns-2 Inv-loop μ-loop
 returns-2 c = sizing-done (c .before .child-here .ensures) (c .before .before .loop .inv) (c .if1 .left)
@@ -64,7 +64,7 @@ lines-size-spec =
     loop-holds
     child-here-requires
     feature-requires
-    past-requires
+    feature-past-requires
     returns
     line-size-requires
     both-requires

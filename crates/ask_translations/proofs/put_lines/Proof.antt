@@ -23,8 +23,8 @@ child-here-requires c κs = search needs
 feature-requires : tie.Need-feature-requires Inv-loop μ-loop
 feature-requires c κs = search needs
 
-past-requires : tie.Need-past-requires Inv-loop μ-loop
-past-requires c κs = search needs
+feature-past-requires : tie.Need-feature-past-requires Inv-loop μ-loop
+feature-past-requires c κs = search needs
 
 same-length : tie.Need-same-length Inv-loop μ-loop
 same-length c =
@@ -35,7 +35,7 @@ returns : tie.Need-returns Inv-loop μ-loop
 returns c =
     let loop' = c .before .before .before .before .before .loop in
     putting-stuck (c .before .before .before .before .child-here .ensures) (loop' .inv) (c .before .before .before .if1 .taken)
-    (c .before .before .feature .ensures) (c .before .past .ensures) (c .if2 .taken)
+    (c .before .before .feature .ensures) (c .before .feature-past .ensures) (c .if2 .taken)
 
 sub-put-line : tie.Need-sub-put-line Inv-loop μ-loop
 sub-put-line c =
@@ -73,7 +73,7 @@ loop-again c =
     let child-here = c .before .before .before .before .before .before .before .before .child-here in
     let if1 = c .before .before .before .before .before .before .before .if1 in
     let feature = c .before .before .before .before .before .before .feature in
-    let past = c .before .before .before .before .before .past in
+    let past = c .before .before .before .before .before .feature-past in
     putting-more (child-here .ensures) (loop' .inv) (if1 .taken) (feature .ensures) (past .ensures) (c .before .before .put-line .ensures)
 
 same-length-2 : tie.Need-same-length-2 Inv-loop μ-loop
@@ -91,7 +91,7 @@ put-lines-spec =
     loop-holds
     child-here-requires
     feature-requires
-    past-requires
+    feature-past-requires
     same-length
     returns
     sub-put-line

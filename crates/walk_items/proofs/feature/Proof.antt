@@ -25,22 +25,15 @@ slice-aggregate-leaf-2 c = search needs
 leaf-requires-2 : tie.Need-leaf-requires-2
 leaf-requires-2 c κs = search needs
 
-slice-aggregate-children : tie.Need-slice-aggregate-children
-slice-aggregate-children c = search needs
-
-child-here-requires : tie.Need-child-here-requires
-child-here-requires c κs = search needs
-
-children-requires : tie.Need-children-requires
-children-requires c κs = search needs
+feature-rest-requires : tie.Need-feature-rest-requires
+feature-rest-requires c κs = search needs
 
 returns : tie.Need-returns
 returns c =
-    let tag = c .before .before .before .before .before .before .before .before .before .before .tag in
-    let enter = c .before .before .before .before .before .before .before .before .before .enter in
-    let leaf = c .before .before .before .before .before .before .before .leaf in
-    feature-found (tag .ensures) (enter .ensures) (leaf .ensures) (c .before .before .before .before .leaf2 .ensures)
-    (c .before .child-here .ensures) (c .children .ensures)
+    let tag = c .before .before .before .before .before .before .before .before .tag in
+    let enter = c .before .before .before .before .before .before .before .enter in
+    let leaf = c .before .before .before .before .before .leaf in
+    feature-found (tag .ensures) (enter .ensures) (leaf .ensures) (c .before .before .leaf2 .ensures) (c .feature-rest .ensures)
 
 pub feature-spec : {M : Type 1} → statement M
 feature-spec =
@@ -53,7 +46,5 @@ feature-spec =
     leaf-requires
     slice-aggregate-leaf-2
     leaf-requires-2
-    slice-aggregate-children
-    child-here-requires
-    children-requires
+    feature-rest-requires
     returns)
