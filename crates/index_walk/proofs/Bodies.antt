@@ -2,27 +2,30 @@
 use Prim.Native.Nat.{ℕ, _+_, _%_, _^_, _≤_}
 use native.Mathlib.Omega.{arith}
 use mathlib.Core.Path.{_≡_, refl, sym, ap, _∙_, subst}
-use mathlib.Core.Bool.{Bool, true, false}
-use mathlib.Core.List.{List, [], _∷_, _++_}
+use mathlib.Core.Bool.{Bool, true, false, true≢false}
+use mathlib.Core.List.{List, [], _∷_, _++_, append-nil}
+use mathlib.Core.Option.{Option, none, some}
 use lib.ListN.{length, length-append}
 use Rattle.paper.specs.Bytes.{bytes, isBlank}
 use Rattle.paper.specs.Lists.{gather}
-use Rattle.paper.specs.Tree.{Feature}
+use Rattle.paper.specs.Tree.{Feature, Table, Sequence, featuresIn, featuresOf}
 use Rattle.paper.specs.Layout.{child, feature}
 use Rattle.paper.specs.Answers.{limit}
-use Rattle.paper.specs.Index.{littleEnd, inBytes, sizeOf, featureEntry}
+use Rattle.paper.specs.Index.{littleEnd, inBytes, sizeOf, placeAndLength, kindIn, featureEntry, bodyOf}
 use Rattle.paper.proofs.Lists.{gather-append, gather-last}
+use Rattle.paper.proofs.Index.{is-skipped, kind-skipped, kind-none, unskipped}
 use Rattle.lent_room.specs.Room.{LaysMore}
 use Rattle.lent_room.specs.declared.Laid.{Laid}
 use Rattle.lent_room.specs.declared.Pass.{Pass}
 use Rattle.lent_room.proofs.Passes.{more-none, more-then}
 use Rattle.read_steps.specs.Follow.{Not, closing}
 use Rattle.walk_steps.specs.Stands.{IsPart, Over, TellsChild}
-use Rattle.walk_items.specs.Items.{MeetsFeature, PassesFeature}
+use Rattle.walk_items.specs.Items.{MeetsFeature, PassesFeature, TableIs, IsSequence}
 use Rattle.walk_items.specs.declared.FoundFeature.{FoundFeature}
+use Rattle.walk_items.specs.declared.FoundSequence.{FoundSequence}
 use Rattle.walk_items.proofs.Sequences.{feature-leads}
 use Rattle.judge_faults.proofs.Seen.{Seen, seen-none, seen-next, seen-stuck, seen-all}
-use Rattle.index_walk.specs.Bodies.{IsEntry, InWord, LaidNumbers, LaysFeatures}
+use Rattle.index_walk.specs.Bodies.{IsEntry, KindOfBody, IsHead, InWord, LaidNumbers, LaysFeatures, LaysBody}
 use Rattle.index_walk.specs.declared.Sized.{Sized}
 
 -- ---- numbers behind numbers
@@ -89,7 +92,7 @@ module _ {p : Pass} {s : List ℕ} {first : ℕ} {was : Laid} {given room : List
               → Done p was given room mid n after (l ++ (x ∷ []))
           one short l x k y done i =
               let z = gather-last featureEntry l x in
-              let u = omega (arith, i, ap length z, length-append (entriesOf l) (featureEntry x)) in
+              let u : InWord (sizeOf (entriesOf l)) = omega (arith, i, ap length z, length-append (entriesOf l) (featureEntry x)) in
               let r = done u in
               subst (λ (v : List ℕ). LaidNumbers p v was given room (record { laid = mid; size = n }) after) (sym z)
               (numbers-then (entriesOf l) (featureEntry x) r (subst (λ (v : List ℕ). LaysMore given (inBytes v) p laid mid now after) (entry .says s x short k y) more) (omega (arith, e, r .size, u)))
@@ -103,3 +106,62 @@ module _ {p : Pass} {s : List ℕ} {first : ℕ} {was : Laid} {given room : List
               seen-all (bytes "INSDFeature") (child feature) feature-leads closing (record { clash = refl; sharps = refl }) (Done p was given room laid size now) h
               (here .tells (bytes "INSDFeature") refl) (w .seen short) l e d fol .0;
         }
+
+-- ---- a body
+
+-- what a body starts with
+abbrev headOf : Sequence ℕ → List ℕ
+headOf q = kindIn q ∷ placeAndLength (q .residues)
+
+module _ {p : Pass} {s : List ℕ} {found : FoundSequence} {was mid : Laid} {given room now numbers : List ℕ} {kind : ℕ}
+    (k : KindOfBody s (found .moltype) (found .residues) kind) (h : IsHead kind (found .residues) numbers) (m : LaysMore given (inBytes numbers) p was mid room now) where
+  kind-is : (q : Sequence ℕ) (e : ℕ) → IsSequence s q e found → kind ≡ kindIn q
+  kind-is q e i = k .says q (i .moltype) (i .residues)
+
+  head-laid : length s ≤ limit → (q : Sequence ℕ) (e : ℕ) → IsSequence s q e found → LaidNumbers p (headOf q) was given room (record { laid = mid; size = 12 }) now
+  head-laid short q e i =
+      let z : numbers ≡ headOf q = h .says s (q .residues) short (i .residues) ∙ ap (λ (n : ℕ). n ∷ placeAndLength (q .residues)) (kind-is q e i) in
+      numbers-then [] (headOf q) numbers-none (subst (λ (v : List ℕ). LaysMore given (inBytes v) p was mid room now) z m) refl
+
+  -- no entries
+  pub body-head : ((q : Sequence ℕ) (e : ℕ) → IsSequence s q e found → bodyOf q ≡ headOf q ++ []) → LaysBody p s found was given room (record { laid = mid; size = 12 }) now
+  body-head bare =
+      record {
+        kept = m .kept;
+        says =
+            λ short q e i w.
+            subst (λ (v : List ℕ). LaidNumbers p v was given room (record { laid = mid; size = 12 }) now) (sym (bare q e i ∙ append-nil (headOf q))) (head-laid short q e i);
+      }
+
+  pub skipped-none : kind ≡ 0 → (q : Sequence ℕ) (e : ℕ) → IsSequence s q e found → bodyOf q ≡ headOf q ++ []
+  skipped-none z q e i = rw (is-skipped q (kind-none q (sym (kind-is q e i) ∙ z))) refl
+
+  module _ (k≢0 : ¬ (kind ≡ 0)) where
+    unskipped-body : (q : Sequence ℕ) (e : ℕ) → IsSequence s q e found → bodyOf q ≡ headOf q ++ entriesOf (featuresOf q)
+    unskipped-body q e i = unskipped q (λ x. k≢0 (kind-is q e i ∙ kind-skipped q x))
+
+    pub table-none : found .table .present ≡ false → (q : Sequence ℕ) (e : ℕ) → IsSequence s q e found → bodyOf q ≡ headOf q ++ []
+    table-none z q e i = unskipped-body q e i ∙ ap (λ (l : List (Feature ℕ)). headOf q ++ entriesOf l) (none-in (q .table) (i .table))
+      where
+        none-in : (o : Option (Table ℕ)) → TableIs s o (found .table) → featuresIn o ≡ []
+        none-in none t = refl
+        none-in (some x) t = absurd (true≢false (sym (t .0) ∙ z))
+
+    pub body-features : {r : Sized} {n : ℕ} {after : List ℕ} → found .table .present ≡ true → LaysFeatures p s (found .table .first) mid given now r after
+        → n ≡ (12 + r .size) % 2 ^ 64 → LaysBody p s found was given room (record { laid = r .laid; size = n }) after
+    body-features {r} {n} {after} z f e =
+        record {
+          kept = f .kept ∙ m .kept;
+          says =
+              λ short q d i w.
+              let b = unskipped-body q d i in
+              let u : InWord (sizeOf (entriesOf (featuresOf q))) = omega (arith, w, ap length b, length-append (headOf q) (entriesOf (featuresOf q))) in
+              let y = in-table (q .table) (i .table) short u in
+              subst (λ (v : List ℕ). LaidNumbers p v was given room (record { laid = r .laid; size = n }) after) (sym b)
+              (numbers-then (headOf q) (entriesOf (featuresOf q)) (head-laid short q d i) (y .laid) (omega (arith, e, y .size, u)));
+        }
+      where
+        in-table : (o : Option (Table ℕ)) → TableIs s o (found .table) → length s ≤ limit → InWord (sizeOf (entriesOf (featuresIn o)))
+            → LaidNumbers p (entriesOf (featuresIn o)) mid given now r after
+        in-table none t short u = absurd (true≢false (sym z ∙ t))
+        in-table (some x) t short u = f .says short (x .features) (t .1 .stop) (t .1 .features) (t .1 .closes) u

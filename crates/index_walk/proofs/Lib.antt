@@ -1,3 +1,4 @@
 pub mod Numbers
 pub mod Sides
 pub mod Bodies
+pub mod Whole

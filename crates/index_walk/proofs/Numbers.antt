@@ -24,10 +24,11 @@ use Rattle.index_walk.specs.Bodies.{SizeOfPart, IsEntry, IsHead, KindOfB
 -- a part of a listing has an end, and both are small
 part-ends : {s : List ℕ} {t : Text ℕ} {p : Range} → length s ≤ limit → IsPart s t p
     → (p .from ≤ limit) × (length (raw (t .read)) ≤ limit) × (p .to ≡ p .from + length (raw (t .read)))
-part-ends {s} {t} {p} h i =
-    (omega (arith, h, i .inside),
-    omega (arith, h, ap length (i .here), length-append (raw (t .read)) (drop (p .to) s), length-drop (p .from) s),
-    omega (arith, i .first, i .behind))
+part-ends {s} {t} {p} h i = (
+  omega (arith, h, i .inside),
+  omega (arith, h, ap length (i .here), length-append (raw (t .read)) (drop (p .to) s), length-drop (p .from) s),
+  omega (arith, i .first, i .behind),
+)
 
 pub size-none : {p : Range} → p .to < p .from → SizeOfPart p 0
 size-none l = record { says = λ s t h i. absurd (omega (arith, l, part-ends h i .2)) }
@@ -82,8 +83,8 @@ module _ {s : List ℕ} {residues : Range} {b : Bool} (t : TellsSkipped s residu
   skips : (q : Sequence ℕ) → IsPart s (q .residues) residues → isSkipped q ≡ b
   skips q j = told-same (q .residues .read) (bytes "000") b (t .says q j)
 
-  pub kind-skipped : {moltype : Range} → b ≡ true → KindOfBody s moltype residues 0
-  kind-skipped h = record { says = λ q i j. rw (skips q j ∙ h) refl }
+  pub kind-zero : {moltype : Range} → b ≡ true → KindOfBody s moltype residues 0
+  kind-zero h = record { says = λ q i j. rw (skips q j ∙ h) refl }
 
   pub kind-named : b ≡ false → {moltype : Range} {m : List ℕ} {c d : Molecule} → ShowsBytes s (moltype .from) (moltype .to) m → Moltypes m c → c ≡ d → KindOfBody s moltype residues (kindWord d)
   kind-named h {c = c} w k e =

@@ -14,6 +14,17 @@ use Rattle.lent_room.proofs.Laws.{sets-append, sets-swap}
 use Rattle.lent_room.proofs.Passes.{lays-compared, lays-next, lays-off, agrees-end}
 use Rattle.index_walk.specs.Bodies.{IndexLaid}
 
+-- so much fits, if it is written
+abbrev pub Roomy : Pass → (size room : ℕ) → Type 0
+Roomy Measure size room = Unit {0}
+Roomy Write size room = size ≤ room
+Roomy Compare size room = Unit {0}
+
+pub roomy-less : (p : Pass) (a b room : ℕ) → a ≤ b → Roomy p b room → Roomy p a room
+roomy-less Measure a b room h r = tt
+roomy-less Write a b room h r = omega (arith, h, r)
+roomy-less Compare a b room h r = tt
+
 module _ (given room : List ℕ) (start : ℕ) where
   -- a and b are laid: whether each goes on, and where; and the room now
   pub data Sides (a b : List ℕ) : Pass → Bool → ℕ → Bool → ℕ → List ℕ → Type 0 where
@@ -23,13 +34,13 @@ module _ (given room : List ℕ) (start : ℕ) where
 
   -- they fit, if they are written
   abbrev pub Fit : Pass → (a b : List ℕ) → Type 0
-  Fit p a b = (length a ≤ start) × (p ≡ Write → start + length b ≤ length room)
+  Fit p a b = (length a ≤ start) × Roomy p (start + length b) (length room)
 
   -- the first, and nothing of the second
   pub sides-first : {a now : List ℕ} {p : Pass} {o : Bool} {m : ℕ} → Fit p a [] → Lays given 0 a room p o m now → Sides a [] p o m true start now
   sides-first {a} f (Lays.measured x) = measured
   sides-first {a} f (Lays.written h) = subst (λ (n : ℕ). Sides a [] Write true (0 + length a) true n (sets room 0 a)) (omega arith) written
-  sides-first {a} f (Lays.short h k) = absurd (omega (arith, h, f .0, f .1 refl))
+  sides-first {a} f (Lays.short h k) = absurd (omega (arith, h, f .0, f .1))
   sides-first {a} {o = o} {m} f (Lays.compared x) = subst (λ (n : ℕ). Sides a [] Compare o m true n room) (omega arith) (compared x (same refl))
 
   -- y behind the second
@@ -38,11 +49,11 @@ module _ (given room : List ℕ) (start : ℕ) where
   sides-second f measured l = measured
   sides-second {a} {b} {y} f written l =
       let z = length-sets room 0 a in
-      go (l start b (sets room 0 a) (Lays.written (omega (arith, z, length-append b y, f .1 refl))))
+      go (l start b (sets room 0 a) (Lays.written (omega (arith, z, length-append b y, f .1))))
     where
       go : {q : Bool} {n : ℕ} {after : List ℕ} → Lays given start (b ++ y) (sets room 0 a) Write q n after → Sides a (b ++ y) Write true (0 + length a) q n after
       go (Lays.written h) = written
-      go (Lays.short h k) = absurd (omega (arith, h, length-sets room 0 a, f .1 refl))
+      go (Lays.short h k) = absurd (omega (arith, h, length-sets room 0 a, f .1))
   sides-second {a} {b} {y} {o = o} {q' = q'} {m = m} {n' = n'} f (compared x z) l =
       let r = lays-compared (l start b room (Lays.compared z)) in
       subst (Sides a (b ++ y) Compare o m q' n') (sym (r .1)) (compared x (r .0))
@@ -54,12 +65,12 @@ module _ (given room : List ℕ) (start : ℕ) where
   sides-more {a} {b} {y} f written l =
       let z = length-sets room start b in
       let e = sets-swap a b room 0 start (omega (arith, length-append a y, f .0)) in
-      go (l 0 a (sets room start b) (subst (Lays given 0 a (sets room start b) Write true (0 + length a)) (sym e) (Lays.written (omega (arith, z, length-append a y, f .0, f .1 refl)))))
+      go (l 0 a (sets room start b) (subst (Lays given 0 a (sets room start b) Write true (0 + length a)) (sym e) (Lays.written (omega (arith, z, length-append a y, f .0, f .1)))))
     where
       go : {o : Bool} {m : ℕ} {after : List ℕ} → Lays given 0 (a ++ y) (sets room start b) Write o m after → Sides (a ++ y) b Write o m true (start + length b) after
       go (Lays.written h) =
           subst (Sides (a ++ y) b Write true (0 + length (a ++ y)) true (start + length b)) (sets-swap (a ++ y) b room 0 start (omega (arith, f .0))) written
-      go (Lays.short h k) = absurd (omega (arith, h, length-sets room start b, f .0, f .1 refl))
+      go (Lays.short h k) = absurd (omega (arith, h, length-sets room start b, f .0, f .1))
   sides-more {a} {b} {y} {o' = o'} {q = q} {m' = m'} {n = n} f (compared x z) l =
       let r = lays-compared (l 0 a room (Lays.compared x)) in
       subst (Sides (a ++ y) b Compare o' m' q n) (sym (r .1)) (compared (r .0) z)

@@ -1,7 +1,7 @@
 -- What is promised of the walk that lays an index: of whatever items of the paper's tree stand where it goes.
 use Prim.Native.Nat.{ℕ, _+_, _*_, _≤_, _<_}
 use mathlib.Core.Path.{_≡_}
-use mathlib.Core.List.{List, _∷_, _++_, map}
+use mathlib.Core.List.{List, [], _∷_, _++_, map}
 use lib.ListN.{length, drop}
 use lib.Seq.{sets}
 use Rattle.paper.specs.Bytes.{raw}
@@ -11,7 +11,7 @@ use Rattle.paper.specs.Tree.{Text, Feature, Sequence}
 use Rattle.paper.specs.Layout.{child, feature, sequence}
 use Rattle.paper.specs.Answers.{limit}
 use Rattle.paper.specs.Index.{inBytes, sizeOf, placeAndLength, kindIn, featureEntry, bodyOf, entries}
-use Rattle.lent_room.specs.Room.{Agrees, LaysMore}
+use Rattle.lent_room.specs.Room.{Agrees, Lays, LaysMore}
 use Rattle.lent_room.specs.declared.Laid.{Laid}
 use Rattle.lent_room.specs.declared.Pass.{Pass}
 use Rattle.lent_room.specs.declared.Pass.the-variants.{Measure, Write, Compare}
@@ -68,6 +68,13 @@ abbrev pub IndexLaid : Pass → (x given room : List ℕ) → Laid → List ℕ 
 IndexLaid Measure x given room r after = Unit {0}
 IndexLaid Write x given room r after = length x ≤ length room → after ≡ sets room 0 x
 IndexLaid Compare x given room r after = Agrees x 0 given (r .on) (r .at)
+
+-- behind the count, which was laid in the room `before`
+pub record LaysSequences (p : Pass) (s : List ℕ) (first bodies : ℕ) (count : Laid) (given room : List ℕ) (r : Laid) (after : List ℕ) : Type 0 where
+  pub kept : length after ≡ length room
+  pub says : (l : List (Sequence ℕ)) (before : List ℕ) → Lays given 0 (inBytes (length l ∷ [])) before p (count .on) (count .at) room
+      → length s ≤ limit → (e : ℕ) → Stands (each (child sequence) l) s first e → Starts closing (drop e s)
+      → bodies ≡ 4 + 8 * length l → InWord (sizeOf (numbersOf l)) → IndexLaid p (inBytes (numbersOf l)) given before r after
 
 pub record LaysIndex (p : Pass) (s : List ℕ) (first total bodies : ℕ) (given room : List ℕ) (r : Laid) (after : List ℕ) : Type 0 where
   pub kept : length after ≡ length room

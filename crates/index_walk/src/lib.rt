@@ -9,7 +9,7 @@ use walk_items::FoundSequence;
 use walk_steps::Range;
 ghost use Prim.Native.Nat.{_%_};
 ghost use mathlib.Core.Path.{_≡_};
-ghost use Rattle.index_walk.specs.Bodies.{SizeOfPart, IsEntry, KindOfBody, IsHead, LaysFeatures, LaysBody, LaysIndex};
+ghost use Rattle.index_walk.specs.Bodies.{SizeOfPart, IsEntry, KindOfBody, IsHead, LaysFeatures, LaysBody, LaysSequences, LaysIndex};
 
 // A number as 32 bits hold it. No number of an index is above them.
 fn word(n: usize) -> u32
@@ -127,20 +127,19 @@ fn lay_body(
     }
 }
 
-// The index of the `total` sequences that stand from here on, the first body at `bodies`.
-pub fn lay_index(
+// The entries and the bodies of the sequences that stand from here on, the first body at `bodies`.
+fn lay_sequences(
     pass: Pass,
     s: &[u8],
     first: usize,
-    total: usize,
     bodies: usize,
+    count: Laid,
     given: &[u8],
     room: &mut [u8],
 ) -> Laid
-    ensures { λ r. ⌜ LaysIndex pass (now (s .entry)) first total bodies (now (given .entry)) (now (room .entry)) r (now (room .exit)) ⌝ }
+    ensures { λ r. ⌜ LaysSequences pass (now (s .entry)) first bodies count (now (given .entry)) (now (room .entry)) r (now (room .exit)) ⌝ }
 {
-    let count = [word(total)];
-    let mut contents = lay_more(pass, Laid { on: true, at: 0 }, &count, given, room);
+    let mut contents = count;
     let mut laid = Laid {
         on: true,
         at: bodies,
@@ -167,4 +166,21 @@ pub fn lay_index(
             return contents;
         }
     }
+}
+
+// The index of the `total` sequences that stand from here on, the first body at `bodies`.
+pub fn lay_index(
+    pass: Pass,
+    s: &[u8],
+    first: usize,
+    total: usize,
+    bodies: usize,
+    given: &[u8],
+    room: &mut [u8],
+) -> Laid
+    ensures { λ r. ⌜ LaysIndex pass (now (s .entry)) first total bodies (now (given .entry)) (now (room .entry)) r (now (room .exit)) ⌝ }
+{
+    let numbers = [word(total)];
+    let count = lay_more(pass, Laid { on: true, at: 0 }, &numbers, given, room);
+    lay_sequences(pass, s, first, bodies, count, given, room)
 }

@@ -120,13 +120,7 @@ pub fn lay_u32(pass: Pass, n: u32, at: usize, given: &[u8], room: &mut [u8]) -> 
 }
 
 // Numbers of 32 bits, one behind another.
-pub fn lay_numbers(
-    pass: Pass,
-    numbers: &[u32],
-    at: usize,
-    given: &[u8],
-    room: &mut [u8],
-) -> Laid
+pub fn lay_numbers(pass: Pass, numbers: &[u32], at: usize, given: &[u8], room: &mut [u8]) -> Laid
     ensures { λ r. ⌜ Lays (now (given .entry)) at (inBytes (now (numbers .entry))) (now (room .entry)) pass (r .on) (r .at) (now (room .exit)) ⌝ }
 {
     let mut i: usize = 0;

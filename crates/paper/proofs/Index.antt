@@ -49,7 +49,7 @@ entries-append f start (x ∷ a) b =
 -- ---- a sequence's kind and body
 
 module _ (s : Sequence ℕ) where
-  is-skipped : Skipped s → isSkipped s ≡ true
+  pub is-skipped : Skipped s → isSkipped s ≡ true
   is-skipped k = ap (λ (v : List ℕ). same v (bytes "000")) k
 
   not-skipped : ¬ Skipped s → isSkipped s ≡ false

@@ -1,5 +1,5 @@
 -- 0 of a skipped sequence, else what its moltype names.
-use Rattle.index_walk.proofs.Numbers.{kind-skipped, kind-named}
+use Rattle.index_walk.proofs.Numbers.{kind-zero, kind-named}
 use borrow.Author.Needs.{needs}
 use Rattle.index_walk.proofs.kind_of_body.Statement.{statement}
 use Rattle.index_walk.proofs.kind_of_body.Tie as tie
@@ -8,7 +8,7 @@ is-skipped-requires : tie.Need-is-skipped-requires
 is-skipped-requires c κs = search needs
 
 returns : tie.Need-returns
-returns c = kind-skipped (c .before .is-skipped .ensures) (c .if1 .taken)
+returns c = kind-zero (c .before .is-skipped .ensures) (c .if1 .taken)
 
 bytes-of-requires : tie.Need-bytes-of-requires
 bytes-of-requires c κs = search needs
