@@ -99,7 +99,7 @@ accepted-body c s i = go (List-discrete ℕ-discrete (s .residues .read) (bytes 
     go (yes k) = rw (is-skipped s k, skipped-bare c s i k)
     go (no u) = unskipped s u
 
-length-features : (l : List (Feature ℕ)) → length (gather featureEntry l) ≡ 4 * length l
+pub length-features : (l : List (Feature ℕ)) → length (gather featureEntry l) ≡ 4 * length l
 length-features [] = refl
 length-features (f ∷ l) = omega (arith, length-features l)
 
@@ -145,7 +145,7 @@ entry-most f start (x ∷ l) n (suc zero, e) = omega (arith, e, length-append (f
 entry-most f start (x ∷ l) n (suc (suc i), e) =
     omega (arith, entry-most f (start + sizeOf (f x)) l n (i, e), length-append (f x) (gather f l))
 
-kind-small : (s : Sequence ℕ) → kindIn s < 4
+pub kind-small : (s : Sequence ℕ) → kindIn s < 4
 kind-small s = by (isSkipped s) (isOf dna s) (isOf rna s)
   where
     by : (a b c : Bool) → cond a 0 (cond b 1 (cond c 2 3)) < 4
