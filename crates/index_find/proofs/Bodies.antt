@@ -1,7 +1,7 @@
 -- The body of a sequence: where its entry in the contents points, and what stands there.
 use Prim.Native.Nat.{ℕ, _+_, _*_, _-_, _/_, _≤_, _<_}
 use native.Mathlib.Omega.{arith}
-use mathlib.Core.Path.{_≡_, refl, sym, ap, _∙_, subst}
+use mathlib.Core.Path.{_≡_, sym, ap, _∙_, subst}
 use mathlib.Core.List.{List, [], _∷_, _++_, map, append-assoc}
 use lib.ListN.{length, length-append}
 use Rattle.paper.specs.Lists.{Numbered, gather}
@@ -56,12 +56,11 @@ module _ {x : List ℕ} (l : Listing ℕ) (e : x ≡ indexOf l) (f : Fits (conte
     body-here =
         let rest = gather bodyOf (p .behind) in
         let is =
-            ap (_++_ (contentsOf l)) (gather-parted bodyOf p)
-            ∙ sym (append-assoc (contentsOf l) (gather bodyOf (p .before)) (bodyOf (p .item) ++ rest)) in
+        ap (_++_ (contentsOf l)) (gather-parted bodyOf p)
+        ∙ sym (append-assoc (contentsOf l) (gather bodyOf (p .before)) (bodyOf (p .item) ++ rest)) in
         numbers-first (bodyOf (p .item)) rest
         (numbers-behind (contentsOf l ++ gather bodyOf (p .before)) (bodyOf (p .item) ++ rest) (subst (NumbersAt x 0) is whole)
-        (omega
-        (
+        (omega (
           arith,
           length-append (contentsOf l) (gather bodyOf (p .before)),
           length-entries (firstBody l) (map bodyOf (l .sequences)),
@@ -84,6 +83,7 @@ module _ {x : List ℕ} {k : ℕ} where
   pub none-above : {count : ℕ} → count ≡ numberAt x 0 → count < k → BodyFound x k (body.Refused 30 0)
   none-above a h = record { says = λ l e f. no-sequence (λ s n. omega (arith, a, h, counted l e f, numbered-inside (l .sequences) k s n)) }
 
+  -- the count of sequences, the start of the body and its size; n stands at its start
   module _ {count first size n : ℕ} (some : ¬ (k ≡ 0)) (a : count ≡ numberAt x 0) (within : k ≤ count)
       (b : first ≡ numberAt x (8 * k - 4)) (c : size ≡ numberAt x (8 * k)) (d : n ≡ numberAt x first) where
     here : (l : Listing ℕ) → x ≡ indexOf l → Fits (contentsOf l ++ gather bodyOf (l .sequences)) → Here x l k first size
@@ -92,12 +92,12 @@ module _ {x : List ℕ} {k : ℕ} where
         go : Parted (l .sequences) (k - 1) → Here x l k first size
         go p =
             let at : 8 * k - 4 ≡ 4 + 8 * (k - 1) = omega (arith, some) in
-            let behind : 8 * k ≡ 8 + 8 * (k - 1) = omega (arith, some) in
+            let next : 8 * k ≡ 8 + 8 * (k - 1) = omega (arith, some) in
             record {
               sequence = p .item;
               numbered = (k - 1, omega (arith, some), p .nth);
               numbers = rw (b, at, number-is (entry-here l e f p)) (body-here l e f p);
-              size-is = rw (c, behind) (size-here l e f p);
+              size-is = rw (c, next) (size-here l e f p);
             }
 
     kind-is : {l : Listing ℕ} (h : Here x l k first size) → n ≡ kindIn (h .sequence)
@@ -107,9 +107,11 @@ module _ {x : List ℕ} {k : ℕ} where
     body-skipped z =
         record { says = λ l e f. let h = here l e f in skipped (h .sequence) (h .numbered) (kind-none (h .sequence) (sym (kind-is h) ∙ z)) }
 
-    pub body-found : ¬ (n ≡ 0) → {kind : Molecule} → (n < 4 → moleculeNumber kind ≡ n) → {residues : Range} → PartFound x (first + 4) residues
-        → BodyFound x k (body.Found (record { kind = kind; residues = residues; first = first + 12; count = size / 16 }))
-    body-found z m r =
+    pub body-found : ¬ (n ≡ 0) → {kind : Molecule} → (n < 4 → moleculeNumber kind ≡ n)
+        → {place : ℕ} {residues : Range} → PartFound x place residues → place ≡ first + 4
+        → {entries features : ℕ} → entries ≡ first + 12 → features ≡ size / 16
+        → BodyFound x k (body.Found (record { kind = kind; residues = residues; first = entries; count = features }))
+    body-found z m r place-is entries-are counts =
         record {
           says =
               λ l e f.
@@ -118,8 +120,7 @@ module _ {x : List ℕ} {k : ℕ} where
               let u : ¬ Skipped s = λ q. z (kind-is h ∙ kind-skipped s q) in
               let features = gather featureEntry (featuresOf s) in
               let numbers = subst (NumbersAt x first) (unskipped s u) (h .numbers) in
-              let entries = numbers-behind (kindIn s ∷ placeAndLength (s .residues)) features numbers refl in
-              (
+              let entries = numbers-behind (kindIn s ∷ placeAndLength (s .residues)) features numbers entries-are in (
                 s,
                 h .numbered,
                 u,
@@ -127,8 +128,8 @@ module _ {x : List ℕ} {k : ℕ} where
                   kind = m (omega (arith, kind-is h, kind-small s)) ∙ kind-is h;
                   residues = r .says (s .residues)
                       (numbers-first (placeAndLength (s .residues)) features
-                      (numbers-behind (kindIn s ∷ []) (placeAndLength (s .residues) ++ features) numbers refl));
-                  count = omega (arith, h .size-is, ap length (unskipped s u), length-features (featuresOf s));
+                      (numbers-behind (kindIn s ∷ []) (placeAndLength (s .residues) ++ features) numbers place-is));
+                  count = omega (arith, counts, h .size-is, ap length (unskipped s u), length-features (featuresOf s));
                   behind = entries .behind;
                   entries = entries .here;
                   fits = entries .fits;

@@ -6,8 +6,7 @@ use mathlib.Core.Path.{_≡_, refl, sym, ap, _∙_}
 use mathlib.Core.List.{List, [], _∷_, _++_, append-assoc, append-nil}
 use lib.ListN.{length, drop, getD, length-append, length-drop}
 use lib.Seq.{getD-drop, drop-drop, drop-at}
-use Rattle.paper.specs.Tree.{Text}
-use Rattle.paper.specs.Index.{inBytes, placeAndLength}
+use Rattle.paper.specs.Index.{inBytes}
 use Rattle.paper.proofs.Lists.{in-first, in-second}
 use Rattle.paper.proofs.Index.{length-in-bytes, in-bytes-append}
 use Rattle.walk_steps.specs.Stands.{Past}
@@ -38,8 +37,7 @@ module _ (x : List ℕ) (at : ℕ) where
   pub number-some : at + 4 ≤ length x
       → numberAt x at ≡ getD x at 0 + 256 * getD x (at + 1) 0 + 65536 * getD x (at + 2) 0 + 16777216 * getD x (at + 3) 0
   number-some h =
-      omega
-      (
+      omega (
         arith,
         four (drop at x) (omega (arith, h, length-drop at x)),
         getD-drop at x 0 0 ∙ ap (λ (k : ℕ). getD x k 0) (add-zero at),
@@ -83,13 +81,13 @@ module _ {x : List ℕ} where
           (p .is (omega (arith, e, ap length here, length-append (inBytes a) (inBytes b ++ h .behind), length-in-bytes a)) ∙ omega (arith, e))
 
 -- a text's place, and its length behind that
-pub part-found : {x : List ℕ} {at next a b : ℕ} {r : Range} → a ≡ numberAt x at → Past x at 4 next → b ≡ numberAt x next → r .from ≡ a → r .to ≡ a + b
-    → PartFound x at r
-part-found {x} e p d f t =
+pub part-found : {x : List ℕ} {at m next a b : ℕ} {r : Range} → a ≡ numberAt x at → Past x at m next → m ≡ 4 → b ≡ numberAt x next
+    → r .from ≡ a → r .to ≡ a + b → PartFound x at r
+part-found e p g d f t =
     record {
       says =
           λ y h.
           let place = e ∙ number-is h in
-          let size = d ∙ number-is (numbers-past (y .place ∷ []) _ h refl p) in
+          let size = d ∙ number-is (numbers-past (y .place ∷ []) _ h g p) in
           record { first = f ∙ place; behind = t ∙ omega (arith, place, size) };
     }

@@ -14,7 +14,6 @@ use Rattle.walk_steps.specs.declared.Range.{Range}
 use Rattle.index_find.specs.declared.Body.{Body}
 use Rattle.index_find.specs.declared.BodyAt.{BodyAt}
 use Rattle.index_find.specs.declared.BodyAt.the-variants as body
-use Rattle.index_find.specs.declared.Entry.{Entry}
 use Rattle.index_find.specs.declared.EntryAt.{EntryAt}
 use Rattle.index_find.specs.declared.EntryAt.the-variants as entry
 

@@ -1,4 +1,5 @@
 -- `index_find::body_of` meets its contract: 30, 31, or the body.
+use native.Mathlib.Omega.{arith}
 use Rattle.index_find.proofs.Bodies.{none-zero, none-above, body-skipped, body-found}
 use borrow.Author.Needs.{needs}
 use Rattle.index_find.proofs.body_of.Statement.{statement}
@@ -59,7 +60,7 @@ returns-4 c =
     let number-at2 = c .before .before .before .before .before .number-at2 in
     body-found (if1 .left) (number-at .ensures .0) (if2 .left) (number-at2 .ensures .0)
     (c .before .before .before .before .number-at3 .ensures .0) (c .before .before .before .number-at4 .ensures .0)
-    (c .before .before .if3 .left) (c .before .molecule .ensures) (c .part-at .ensures)
+    (c .before .before .if3 .left) (c .before .molecule .ensures) (c .part-at .ensures) (omega arith) (omega arith) (omega arith)
 
 pub body-of-spec : {M : Type 1} → statement M
 body-of-spec =

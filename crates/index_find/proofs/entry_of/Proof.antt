@@ -1,4 +1,5 @@
 -- `index_find::entry_of` meets its contract: there is none, or the two parts.
+use native.Mathlib.Omega.{arith}
 use Rattle.index_find.proofs.Entries.{entry-zero, entry-above, entry-outside, entry-found}
 use borrow.Author.Needs.{needs}
 use Rattle.index_find.proofs.entry_of.Statement.{statement}
@@ -35,7 +36,7 @@ returns-4 : tie.Need-returns-4
 returns-4 c =
     let if1 = c .before .before .before .before .before .before .before .if1 in
     let if2 = c .before .before .before .before .before .if2 in
-    entry-found (if1 .left) (if2 .left) (c .before .before .before .past .ensures) (c .before .past2 .ensures)
+    entry-found (if1 .left) (if2 .left) (c .before .before .before .past .ensures) (omega arith) (c .before .past2 .ensures) (omega arith)
     (c .before .before .part-at .ensures) (c .part-at2 .ensures)
 
 pub entry-of-spec : {M : Type 1} → statement M

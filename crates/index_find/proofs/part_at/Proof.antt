@@ -1,4 +1,5 @@
 -- `index_find::part_at` meets its contract.
+use native.Mathlib.Omega.{arith}
 use mathlib.Core.Path.{refl}
 use Rattle.index_find.proofs.Numbers.{part-found}
 use borrow.Author.Needs.{needs}
@@ -18,7 +19,7 @@ add-t5 : tie.Need-add-t5
 add-t5 c = search needs
 
 returns : tie.Need-returns
-returns c = part-found (c .before .before .number-at .ensures .0) (c .before .past .ensures) (c .number-at2 .ensures .0) refl refl
+returns c = part-found (c .before .before .number-at .ensures .0) (c .before .past .ensures) (omega arith) (c .number-at2 .ensures .0) refl refl
 
 pub part-at-spec : {M : Type 1} → statement M
 part-at-spec =
