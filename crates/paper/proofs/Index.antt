@@ -99,7 +99,7 @@ accepted-body c s i = go (List-discrete ℕ-discrete (s .residues .read) (bytes 
     go (yes k) = rw (is-skipped s k, skipped-bare c s i k)
     go (no u) = unskipped s u
 
-length-features : (l : List (Feature ℕ)) → length (gather featureEntry l) ≡ 4 * length l
+pub length-features : (l : List (Feature ℕ)) → length (gather featureEntry l) ≡ 4 * length l
 length-features [] = refl
 length-features (f ∷ l) = omega (arith, length-features l)
 
@@ -145,7 +145,7 @@ entry-most f start (x ∷ l) n (suc zero, e) = omega (arith, e, length-append (f
 entry-most f start (x ∷ l) n (suc (suc i), e) =
     omega (arith, entry-most f (start + sizeOf (f x)) l n (i, e), length-append (f x) (gather f l))
 
-kind-small : (s : Sequence ℕ) → kindIn s < 4
+pub kind-small : (s : Sequence ℕ) → kindIn s < 4
 kind-small s = by (isSkipped s) (isOf dna s) (isOf rna s)
   where
     by : (a b c : Bool) → cond a 0 (cond b 1 (cond c 2 3)) < 4
@@ -154,36 +154,36 @@ kind-small s = by (isSkipped s) (isOf dna s) (isOf rna s)
     by false false true = omega arith
     by false false false = omega arith
 
-abbrev Fits : ℕ → Type 0
-Fits n = n < 4294967296
+abbrev Small : ℕ → Type 0
+Small n = n < 4294967296
 
 module _ {w : List ℕ} {l : Listing ℕ} (c : Checked w (give l)) where
-  in-contents : (n : ℕ) → n ∈ contentsOf l → Fits n
+  in-contents : (n : ℕ) → n ∈ contentsOf l → Small n
   in-contents n (zero, e) = omega (arith, e, within-limit c, index-room (laid-out c) c, index-size c)
   in-contents n (suc i, e) =
       omega
       (arith, entry-most bodyOf (firstBody l) (l .sequences) n (i, e), index-ends l, within-limit c, index-room (laid-out c) c)
 
-  in-part : (t : Text ℕ) → InListing w (partOf t) → Every Fits (placeAndLength t)
+  in-part : (t : Text ℕ) → InListing w (partOf t) → Every Small (placeAndLength t)
   in-part t h = (omega (arith, h, within-limit c), (omega (arith, h, within-limit c), tt))
 
   module _ (s : Sequence ℕ) (i : s ∈ l .sequences) where
-    in-entry : (f : Feature ℕ) → f ∈ featuresOf s → (n : ℕ) → n ∈ featureEntry f → Fits n
+    in-entry : (f : Feature ℕ) → f ∈ featuresOf s → (n : ℕ) → n ∈ featureEntry f → Small n
     in-entry f j n m =
         let inside = feature-inside (laid-out c) s i f j in
         ⊎-elim
-        (every Fits (placeAndLength (f .key)) (in-part (f .key) (inside (f .key) (0, refl))) n)
-        (every Fits (placeAndLength (f .location)) (in-part (f .location) (inside (f .location) (1, refl))) n)
+        (every Small (placeAndLength (f .key)) (in-part (f .key) (inside (f .key) (0, refl))) n)
+        (every Small (placeAndLength (f .location)) (in-part (f .location) (inside (f .location) (1, refl))) n)
         (of-append (placeAndLength (f .key)) (placeAndLength (f .location)) n m)
 
-    in-body : (n : ℕ) → n ∈ bodyOf s → Fits n
+    in-body : (n : ℕ) → n ∈ bodyOf s → Small n
     in-body n m =
         let head = kindIn s ∷ placeAndLength (s .residues) in
         ⊎-elim
-        (every Fits head (omega (arith, kind-small s), in-part (s .residues) (residues-inside (laid-out c) s i)) n)
-        (of-gather featureEntry (featuresOf s) Fits in-entry n)
+        (every Small head (omega (arith, kind-small s), in-part (s .residues) (residues-inside (laid-out c) s i)) n)
+        (of-gather featureEntry (featuresOf s) Small in-entry n)
         (of-append head (gather featureEntry (featuresOf s)) n (subst (λ (x : List ℕ). n ∈ x) (accepted-body c s i) m))
 
   pub fits : (n : ℕ) → n ∈ (contentsOf l ++ gather bodyOf (l .sequences)) → n < 4294967296
   fits n m =
-      ⊎-elim (in-contents n) (of-gather bodyOf (l .sequences) Fits in-body n) (of-append (contentsOf l) (gather bodyOf (l .sequences)) n m)
+      ⊎-elim (in-contents n) (of-gather bodyOf (l .sequences) Small in-body n) (of-append (contentsOf l) (gather bodyOf (l .sequences)) n m)

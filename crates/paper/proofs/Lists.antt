@@ -1,5 +1,5 @@
 -- Laws of lists: elements and counts, also through a map.
-use Prim.Native.Nat.{ℕ, zero, suc, _+_, _<_}
+use Prim.Native.Nat.{ℕ, zero, suc, _≤_, _<_}
 use native.Mathlib.Omega.{arith}
 use mathlib.Core.Path.{_≡_, refl, sym, ap, _∙_, subst}
 use mathlib.Core.Logic.{_⊎_, inl, inr, ⊎-elim}
@@ -20,6 +20,10 @@ nth-inside (y ∷ l) (suc i) x h = omega (arith, nth-inside l i x h)
 -- a number stands for one element
 pub numbered-once : {A : Type 0} (l : List A) (k : ℕ) (x y : A) → Numbered l k x → Numbered l k y → x ≡ y
 numbered-once l k x y a b = nth-once l (a .0) x y (a .2) (subst (λ (i : ℕ). Nth l i y) (omega (arith, a .1, b .1)) (b .2))
+
+-- it is one of 1 to their count
+pub numbered-inside : {A : Type 0} (l : List A) (k : ℕ) (x : A) → Numbered l k x → (1 ≤ k) × (k ≤ length l)
+numbered-inside l k x n = let h = nth-inside l (n .0) x (n .2) in (omega (arith, n .1), omega (arith, n .1))
 
 -- what holds of each element, by its number from 0
 abbrev pub EachAt : {A : Type 0} → (ℕ → A → Type 0) → List A → Type 0
@@ -141,8 +145,27 @@ module _ {A : Type 0} where
   gather-append f [] k = refl
   gather-append f (b ∷ l) k = ap (_++_ (f b)) (gather-append f l k) ∙ sym (append-assoc (f b) (gather f l) (gather f k))
 
+  -- a list taken apart at one of its elements
+  pub record Parted (l : List A) (i : ℕ) : Type 0 where
+    pub before : List A
+    pub item : A
+    pub behind : List A
+    pub is : l ≡ before ++ (item ∷ behind)
+    pub size : length before ≡ i
+    pub nth : Nth l i item
+
+  pub parted : (l : List A) (i : ℕ) → i < length l → Parted l i
+  parted [] i h = absurd (omega (arith, h))
+  parted (y ∷ l) zero h = record { before = []; item = y; behind = l; is = refl; size = refl; nth = refl }
+  parted (y ∷ l) (suc i) h =
+      let r = parted l i (omega (arith, h)) in
+      record { before = y ∷ r .before; item = r .item; behind = r .behind; is = ap (_∷_ y) (r .is); size = ap suc (r .size); nth = r .nth }
+
   pub number-in : (l : List A) (k : ℕ) (x : A) → Numbered l k x → x ∈ l
   number-in l k x n = (n .0, n .2)
 
 pub gather-last : {A B : Type 0} (f : A → List B) (l : List A) (a : A) → gather f (l ++ (a ∷ [])) ≡ gather f l ++ f a
 gather-last f l a = gather-append f l (a ∷ []) ∙ ap (_++_ (gather f l)) (append-nil (f a))
+
+pub gather-parted : {A B : Type 0} (f : A → List B) {l : List A} {i : ℕ} (p : Parted l i) → gather f l ≡ gather f (p .before) ++ (f (p .item) ++ gather f (p .behind))
+gather-parted f p = ap (gather f) (p .is) ∙ gather-append f (p .before) (p .item ∷ p .behind)

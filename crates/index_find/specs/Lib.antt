@@ -1,0 +1,3 @@
+-- What the crate's promises cite.
+pub mod Numbers
+pub mod Finds
