@@ -1,25 +1,28 @@
 // The calls of document 01 that show a piece of an accepted listing: each is the check, a walk to the item, and its answer.
 // Any bytes, any numbers and any room may be given; nobody need check anything first.
-// Relies on the other crates of this floor, and on the parts of the judge for the kind and L.
+// Relies on the other crates of this floor, ask_find and ask_found first, and on the parts of the judge for the kind and L.
 use ask_answers::FeatureAnswer;
 use ask_answers::QualifierAnswer;
 use ask_answers::SequenceAnswer;
 use ask_answers::SpansAnswer;
 use ask_answers::TranslationAnswer;
+use ask_answers::no_feature;
+use ask_answers::no_qualifier;
+use ask_answers::no_sequence;
 use ask_answers::no_spans;
-use ask_answers::no_stretch;
+use ask_answers::no_translation;
 use ask_find::SequenceAt;
 use ask_find::find_feature;
 use ask_find::find_qualifier;
 use ask_find::find_sequence;
-use ask_show::is_present;
-use ask_show::kind_number;
+use ask_found::feature_answer;
+use ask_found::qualifier_answer;
+use ask_found::sequence_answer;
+use ask_found::spans_answer;
+use ask_found::translation_answer;
+use ask_found::translations_answer;
 use ask_show::shown;
-use ask_show::stretch_of;
-use ask_show::value_stretch;
-use ask_translation::Written;
 use judge_faults::Known;
-use location_spans::room::Answer;
 use read_steps::bytes_of;
 use walk_items::FoundSequence;
 use walk_seek::FeatureAt;
@@ -35,21 +38,11 @@ pub fn locate_sequence(listing: &[u8], k: usize) -> SequenceAnswer
     ensures { λ r. ⌜ Lies (now (listing .entry)) (r .residues) ⌝ }
 {
     match find_sequence(listing, k) {
-        SequenceAt::Refused { rule, place } => SequenceAnswer {
-            number: rule,
-            place,
-            kind: 0,
-            residues: no_stretch(),
-        },
+        SequenceAt::Refused { rule, place } => no_sequence(rule, place),
         SequenceAt::Found(found) => {
             let moltype = found.moltype;
             let kind = value_words::kind_of(bytes_of(listing, moltype.from, moltype.to));
-            SequenceAnswer {
-                number: 0,
-                place: 0,
-                kind: kind_number(kind),
-                residues: stretch_of(found.residues),
-            }
+            sequence_answer(kind, found.residues)
         }
     }
 }
@@ -83,21 +76,11 @@ pub fn locate_feature(listing: &[u8], k: usize, j: usize) -> FeatureAnswer
     ensures { λ r. ⌜ Lies (now (listing .entry)) (r .key) × Lies (now (listing .entry)) (r .location) ⌝ }
 {
     match find_feature(listing, k, j) {
-        FeatureAt::Refused { rule, place } => FeatureAnswer {
-            number: rule,
-            place,
-            key: no_stretch(),
-            location: no_stretch(),
-        },
+        FeatureAt::Refused { rule, place } => no_feature(rule, place),
         FeatureAt::Found {
             sequence: _,
             feature,
-        } => FeatureAnswer {
-            number: 0,
-            place: 0,
-            key: stretch_of(feature.key),
-            location: stretch_of(feature.location),
-        },
+        } => feature_answer(feature.key, feature.location),
     }
 }
 
@@ -131,23 +114,8 @@ pub fn locate_qualifier(listing: &[u8], k: usize, j: usize, i: usize) -> Qualifi
     ensures { λ r. ⌜ Lies (now (listing .entry)) (r .name) × Lies (now (listing .entry)) (r .value) ⌝ }
 {
     match find_qualifier(listing, k, j, i) {
-        QualifierAt::Refused { rule, place } => QualifierAnswer {
-            number: rule,
-            place,
-            name: no_stretch(),
-            present: false,
-            value: no_stretch(),
-        },
-        QualifierAt::Found(found) => {
-            let value = found.value;
-            QualifierAnswer {
-                number: 0,
-                place: 0,
-                name: stretch_of(found.name),
-                present: is_present(value),
-                value: value_stretch(value),
-            }
-        }
+        QualifierAt::Refused { rule, place } => no_qualifier(rule, place),
+        QualifierAt::Found(found) => qualifier_answer(found),
     }
 }
 
@@ -196,19 +164,7 @@ pub fn spans(listing: &[u8], k: usize, j: usize, out: &mut [u32]) -> SpansAnswer
         FeatureAt::Refused { rule, place } => no_spans(rule, place),
         FeatureAt::Found { sequence, feature } => {
             let known = known_of(listing, sequence);
-            let location = feature.location;
-            match location_spans::room::spans(listing, location.from, location.to, known.top, out) {
-                Answer::Are(operator, count) => SpansAnswer {
-                    number: 0,
-                    place: 0,
-                    operator,
-                    count,
-                },
-                Answer::Short => no_spans(34, 0),
-                // An accepted listing has neither.
-                Answer::Bad => no_spans(24, 0),
-                Answer::Wrong => no_spans(25, 0),
-            }
+            spans_answer(listing, known.top, feature.location, out)
         }
     }
 }
@@ -220,28 +176,10 @@ pub fn translation(listing: &[u8], k: usize, j: usize, out: &mut [u8]) -> Transl
     ensures { λ r. ⌜ TranslationSays (now (listing .entry)) k j (now (out .entry)) (r .number) (r .place) (r .size) (now (out .exit)) ⌝ }
 {
     match find_feature(listing, k, j) {
-        FeatureAt::Refused { rule, place } => TranslationAnswer {
-            number: rule,
-            place,
-            size: 0,
-        },
+        FeatureAt::Refused { rule, place } => no_translation(rule, place),
         FeatureAt::Found { sequence, feature } => {
             let known = known_of(listing, sequence);
-            let code = protein_code::code_table();
-            let vocabulary = value_vocabulary::vocabulary_table();
-            let Written { number, size } = ask_translation::translate(
-                listing,
-                known,
-                feature,
-                &code,
-                &vocabulary,
-                out,
-            );
-            TranslationAnswer {
-                number,
-                place: 0,
-                size,
-            }
+            translation_answer(listing, known, feature, out)
         }
     }
 }
@@ -251,29 +189,19 @@ pub fn translations(listing: &[u8], k: usize, out: &mut [u8]) -> TranslationAnsw
     ensures { λ r. ⌜ TranslationsSays (now (listing .entry)) k (now (out .entry)) (r .number) (r .place) (r .size) (now (out .exit)) ⌝ }
 {
     match find_sequence(listing, k) {
-        SequenceAt::Refused { rule, place } => TranslationAnswer {
-            number: rule,
-            place,
-            size: 0,
-        },
+        SequenceAt::Refused { rule, place } => no_translation(rule, place),
         SequenceAt::Found(sequence) => {
-            let known = known_of(listing, sequence);
             let table = sequence.table;
-            let code = protein_code::code_table();
-            let vocabulary = value_vocabulary::vocabulary_table();
-            let Written { number, size } = ask_translations::translate_all(
-                listing,
-                known,
-                table,
-                &code,
-                &vocabulary,
-                out,
-            );
-            TranslationAnswer {
-                number,
-                place: 0,
-                size,
+            if !table.present {
+                return TranslationAnswer {
+                    number: 0,
+                    place: 0,
+                    size: 0,
+                };
             }
+            let known = known_of(listing, sequence);
+            let first = walk_items::feature(listing, table.first);
+            translations_answer(listing, known, first, out)
         }
     }
 }

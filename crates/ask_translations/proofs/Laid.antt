@@ -34,6 +34,13 @@ module _ {q : Sequence ℕ} {f : Feature ℕ} where
   lines-more {l = g ∷ l} {y = z} (Lines.translation {x = x} {y = y} t r) h =
       subst (Lines q (g ∷ (l ++ (f ∷ [])))) (sym (append-assoc y (bytes "\n" ++ x) z)) (Lines.translation t (lines-more r h))
 
+  -- one feature before them
+  pub lines-first : {l : List (Feature ℕ)} {x y : List ℕ} → Line q f x → Lines q l y → Lines q (f ∷ l) (x ++ y)
+  lines-first (Line.no-cds u) r = Lines.no-cds u r
+  lines-first (Line.unjudged u) r = Lines.unjudged u r
+  lines-first (Line.stop-inside u) r = Lines.stop-inside u r
+  lines-first {l = l} {y = z} (Line.translation {y = y} u) r = subst (Lines q (f ∷ l)) (sym (append-assoc y (bytes "\n") z)) (Lines.translation u r)
+
   pub lines-last : (l : List (Feature ℕ)) {x : List ℕ} → Lines q (l ++ (f ∷ [])) x → (y : List ℕ) × (z : List ℕ) × (x ≡ y ++ z) × Lines q l y × Line q f z
   lines-last [] (Lines.no-cds t Lines.end) = ([], [], refl, Lines.end, Line.no-cds t)
   lines-last [] (Lines.unjudged t Lines.end) = ([], bytes "-\n", refl, Lines.end, Line.unjudged t)

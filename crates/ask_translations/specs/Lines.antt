@@ -13,9 +13,8 @@ use Rattle.paper.specs.Answers as paper
 use Rattle.lent_room.specs.Room.{Puts}
 use Rattle.read_steps.specs.Follow.{Starts, closing}
 use Rattle.walk_steps.specs.Stands.{Stands}
-use Rattle.walk_items.specs.Items.{IsFeature, TableIs}
+use Rattle.walk_items.specs.Items.{IsFeature, FirstFeature}
 use Rattle.walk_items.specs.declared.FoundFeature.{FoundFeature}
-use Rattle.walk_items.specs.declared.FoundTable.{FoundTable}
 use Rattle.judge_faults.specs.Known.{Knows}
 use Rattle.judge_faults.specs.declared.Known.{Known}
 use Rattle.ask_translation.specs.Plans.{Keeps}
@@ -98,5 +97,5 @@ pub record GivesAll (q : Sequence ℕ) (out : List ℕ) (r : Written) (after : L
   pub are : paper.Lines q (featuresOf q) lines
   pub lent : Lent out (give lines) (r .number) 0 (r .size) after
 
-pub record TranslatesAll (s : List ℕ) (known : Known) (found : FoundTable) (out : List ℕ) (r : Written) (after : List ℕ) : Type 0 where
-  pub says : (q : Sequence ℕ) → Knows s q known → TableIs s (q .table) found → KeepAll q (featuresOf q) → GivesAll q out r after
+pub record TranslatesAll (s : List ℕ) (known : Known) (g : FoundFeature) (out : List ℕ) (r : Written) (after : List ℕ) : Type 0 where
+  pub says : (q : Sequence ℕ) → Knows s q known → FirstFeature s q g → KeepAll q (featuresOf q) → GivesAll q out r after

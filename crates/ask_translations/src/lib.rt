@@ -12,7 +12,6 @@ use protein_measure::Size;
 use protein_measure::measure;
 use read_steps::bytes_of;
 use walk_items::FoundFeature;
-use walk_items::FoundTable;
 ghost use Rattle.paper.specs.Translation.{code1};
 ghost use Rattle.protein_code.specs.Tables.{CodeTable};
 ghost use Rattle.value_vocabulary.specs.Tables.{VocabularyTable};
@@ -171,26 +170,28 @@ fn put_lines(
     }
 }
 
-// All translations of a sequence at the front of out; or nothing is written.
+// All translations of a sequence at the front of out, by its first feature; or nothing is written.
 pub fn translate_all(
     s: &[u8],
     known: Known,
-    found: FoundTable,
+    first: FoundFeature,
     code: &[u8; 5128],
     vocabulary: &[u8; 3492],
     out: &mut [u8],
 ) -> Written
     requires { ⌜ CodeTable code1 (now code) ⌝ }
     requires { ⌜ VocabularyTable (now vocabulary) ⌝ }
-    ensures { λ r. ⌜ TranslatesAll (now (s .entry)) known found (now (out .entry)) r (now (out .exit)) ⌝ }
+    ensures { λ r. ⌜ TranslatesAll (now (s .entry)) known first (now (out .entry)) r (now (out .exit)) ⌝ }
 {
-    if !found.present {
-        return Written { number: 0, size: 0 };
-    }
-    match lines_size(s, found.first, known, out.len(), code, vocabulary) {
+    let room = out.len();
+    let next = walk_items::feature_past(s, first);
+    let line = line_size(s, known, first, room, code, vocabulary);
+    let others = lines_size(s, next, known, room, code, vocabulary);
+    match both(line, others, room) {
         Lined::Short => refused(34),
         Lined::Is(size) => {
-            put_lines(s, found.first, known, code, vocabulary, out);
+            let n = put_line(s, known, first, code, vocabulary, out);
+            put_lines(s, next, known, code, vocabulary, &mut out[n..]);
             Written { number: 0, size }
         }
     }

@@ -1,5 +1,6 @@
 -- `ask_lookups::locate_feature` meets its contract.
-use Rattle.ask_lookups.proofs.Located.{feature-refused, feature-located}
+use Rattle.ask_found.proofs.Located.{feature-refused}
+use Rattle.ask_lookups.proofs.Asked.{feature-answered}
 use Rattle.ask_find.specs.Finds.{FeatureAsked}
 use denote.Ref.{now}
 use mathlib.Core.Path.{subst}
@@ -13,36 +14,28 @@ find-feature-requires c κs = search needs
 enum-known-rule : tie.Need-enum-known-rule
 enum-known-rule c = search needs
 
-no-stretch-requires : tie.Need-no-stretch-requires
-no-stretch-requires c κs = search needs
-
-no-stretch-requires-2 : tie.Need-no-stretch-requires-2
-no-stretch-requires-2 c κs = search needs
+no-feature-requires : tie.Need-no-feature-requires
+no-feature-requires c κs = search needs
 
 enum-known-feature : tie.Need-enum-known-feature
 enum-known-feature c = search needs
 
-stretch-of-requires : tie.Need-stretch-of-requires
-stretch-of-requires c κs = search needs
-
-stretch-of-requires-2 : tie.Need-stretch-of-requires-2
-stretch-of-requires-2 c κs = search needs
+feature-answer-requires : tie.Need-feature-answer-requires
+feature-answer-requires c κs = search needs
 
 returns : tie.Need-returns
 returns c =
-    let args = c .before .before .before .before .before .before .before .args in
-    let find-feature = c .before .before .before .before .before .find-feature in
+    let args = c .before .before .before .before .before .before .args in
     feature-refused
-    (subst (FeatureAsked (now (args .listing)) (args .k) (args .j)) (c .before .before .before .rule .given .1) (find-feature .ensures))
-    (c .before .no-stretch .ensures) (c .no-stretch2 .ensures)
+    (subst (FeatureAsked (now (args .listing)) (args .k) (args .j)) (c .before .before .rule .given .1) (c .before .before .before .before .find-feature .ensures))
+    (c .no-feature .ensures)
 
 returns-2 : tie.Need-returns-2
 returns-2 c =
-    let args = c .before .before .before .before .before .before .before .args in
-    let find-feature = c .before .before .before .before .before .find-feature in
-    feature-located
-    (subst (FeatureAsked (now (args .listing)) (args .k) (args .j)) (c .before .before .before .feature .given .1) (find-feature .ensures))
-    (c .before .stretch-of .ensures) (c .stretch-of2 .ensures)
+    let args = c .before .before .before .before .before .before .args in
+    feature-answered
+    (subst (FeatureAsked (now (args .listing)) (args .k) (args .j)) (c .before .before .feature .given .1) (c .before .before .before .before .find-feature .ensures))
+    (c .feature-answer .ensures)
 
 pub locate-feature-spec : {M : Type 1} → statement M
 locate-feature-spec =
@@ -50,10 +43,8 @@ locate-feature-spec =
     (tie.spec
     find-feature-requires
     enum-known-rule
-    no-stretch-requires
-    no-stretch-requires-2
+    no-feature-requires
     enum-known-feature
-    stretch-of-requires
-    stretch-of-requires-2
+    feature-answer-requires
     returns
     returns-2)

@@ -1,5 +1,6 @@
 -- `ask_lookups::locate_qualifier` meets its contract.
-use Rattle.ask_lookups.proofs.Located.{qualifier-refused, qualifier-located}
+use Rattle.ask_found.proofs.Located.{qualifier-refused}
+use Rattle.ask_lookups.proofs.Asked.{qualifier-answered}
 use Rattle.ask_find.specs.Finds.{QualifierAsked}
 use denote.Ref.{now}
 use mathlib.Core.Path.{subst}
@@ -13,39 +14,28 @@ find-qualifier-requires c κs = search needs
 enum-known-rule : tie.Need-enum-known-rule
 enum-known-rule c = search needs
 
-no-stretch-requires : tie.Need-no-stretch-requires
-no-stretch-requires c κs = search needs
-
-no-stretch-requires-2 : tie.Need-no-stretch-requires-2
-no-stretch-requires-2 c κs = search needs
+no-qualifier-requires : tie.Need-no-qualifier-requires
+no-qualifier-requires c κs = search needs
 
 enum-known-found : tie.Need-enum-known-found
 enum-known-found c = search needs
 
-stretch-of-requires : tie.Need-stretch-of-requires
-stretch-of-requires c κs = search needs
-
-is-present-requires : tie.Need-is-present-requires
-is-present-requires c κs = search needs
-
-value-stretch-requires : tie.Need-value-stretch-requires
-value-stretch-requires c κs = search needs
+qualifier-answer-requires : tie.Need-qualifier-answer-requires
+qualifier-answer-requires c κs = search needs
 
 returns : tie.Need-returns
 returns c =
-    let args = c .before .before .before .before .before .before .before .args in
-    let find-qualifier = c .before .before .before .before .before .find-qualifier in
+    let args = c .before .before .before .before .before .before .args in
     qualifier-refused
-    (subst (QualifierAsked (now (args .listing)) (args .k) (args .j) (args .i)) (c .before .before .before .rule .given .1) (find-qualifier .ensures))
-    (c .before .no-stretch .ensures) (c .no-stretch2 .ensures)
+    (subst (QualifierAsked (now (args .listing)) (args .k) (args .j) (args .i)) (c .before .before .rule .given .1) (c .before .before .before .before .find-qualifier .ensures))
+    (c .no-qualifier .ensures)
 
 returns-2 : tie.Need-returns-2
 returns-2 c =
-    let args = c .before .before .before .before .before .before .before .before .args in
-    let find-qualifier = c .before .before .before .before .before .before .find-qualifier in
-    qualifier-located
-    (subst (QualifierAsked (now (args .listing)) (args .k) (args .j) (args .i)) (c .before .before .before .before .found .given .1) (find-qualifier .ensures))
-    (c .before .before .stretch-of .ensures) (c .before .is-present .ensures) (c .value-stretch .ensures)
+    let args = c .before .before .before .before .before .before .args in
+    qualifier-answered
+    (subst (QualifierAsked (now (args .listing)) (args .k) (args .j) (args .i)) (c .before .before .found .given .1) (c .before .before .before .before .find-qualifier .ensures))
+    (c .qualifier-answer .ensures)
 
 pub locate-qualifier-spec : {M : Type 1} → statement M
 locate-qualifier-spec =
@@ -53,11 +43,8 @@ locate-qualifier-spec =
     (tie.spec
     find-qualifier-requires
     enum-known-rule
-    no-stretch-requires
-    no-stretch-requires-2
+    no-qualifier-requires
     enum-known-found
-    stretch-of-requires
-    is-present-requires
-    value-stretch-requires
+    qualifier-answer-requires
     returns
     returns-2)

@@ -1,5 +1,7 @@
--- `ask_lookups::translations` meets its contract.
-use Rattle.ask_lookups.proofs.Translated.{translations-refused, translations-found}
+-- `ask_lookups::translations` meets its contract: the refusal, no line, or the lines.
+use borrow.Author.Tests.{not-true, not-false}
+use Rattle.ask_found.proofs.Translated.{translations-refused}
+use Rattle.ask_lookups.proofs.Asked.{no-lines, translations-answered}
 use Rattle.ask_find.specs.Finds.{SequenceAsked}
 use denote.Ref.{now}
 use mathlib.Core.Path.{subst}
@@ -13,38 +15,48 @@ find-sequence-requires c κs = search needs
 enum-known-rule : tie.Need-enum-known-rule
 enum-known-rule c = search needs
 
+no-translation-requires : tie.Need-no-translation-requires
+no-translation-requires c κs = search needs
+
 enum-known-sequence : tie.Need-enum-known-sequence
 enum-known-sequence c = search needs
+
+returns : tie.Need-returns
+returns c =
+    let args = c .before .before .before .before .before .before .before .before .before .args in
+    let find-sequence = c .before .before .before .before .before .before .find-sequence in
+    no-lines
+    (subst (SequenceAsked (now (args .listing)) (args .k)) (c .before .before .before .before .sequence .given .1) (find-sequence .ensures))
+    (not-true _ (c .if1 .taken))
 
 known-of-requires : tie.Need-known-of-requires
 known-of-requires c κs = search needs
 
-code-table-requires : tie.Need-code-table-requires
-code-table-requires c κs = search needs
+feature-requires : tie.Need-feature-requires
+feature-requires c κs = search needs
 
-vocabulary-table-requires : tie.Need-vocabulary-table-requires
-vocabulary-table-requires c κs = search needs
+translations-answer-requires : tie.Need-translations-answer-requires
+translations-answer-requires c κs = search needs
 
-translate-all-requires : tie.Need-translate-all-requires
-translate-all-requires c κs = search needs
-
-returns : tie.Need-returns
-returns c =
-    let args = c .before .before .before .before .before .before .args in
-    translations-refused
-    (subst (SequenceAsked (now (args .listing)) (args .k)) (c .before .rule .given .1) (c .before .before .before .find-sequence .ensures))
+returns-2 : tie.Need-returns-2
+returns-2 c =
+    let args = c .before .before .before .before .before .before .before .args in
+    translations-refused (c .no-translation .ensures)
+    (subst (SequenceAsked (now (args .listing)) (args .k)) (c .before .before .rule .given .1) (c .before .before .before .before .find-sequence .ensures))
 
 same-length : tie.Need-same-length
 same-length c = search needs
 
-returns-2 : tie.Need-returns-2
-returns-2 c =
-    let args = c .before .before .before .before .before .before .before .before .before .before .before .before .before .before .before .before .args in
-    let find-sequence = c .before .before .before .before .before .before .before .before .before .before .before .before .before .find-sequence in
-    let sequence = c .before .before .before .before .before .before .before .before .before .before .before .sequence in
-    let known-of = c .before .before .before .before .before .before .before .before .before .known-of in
-    translations-found (subst (SequenceAsked (now (args .listing)) (args .k)) (sequence .given .1) (find-sequence .ensures))
-    (known-of .ensures) (c .before .before .translate-all .ensures)
+returns-3 : tie.Need-returns-3
+returns-3 c =
+    let args = c .before .before .before .before .before .before .before .before .before .before .before .before .before .before .before .args in
+    let find-sequence = c .before .before .before .before .before .before .before .before .before .before .before .before .find-sequence in
+    let sequence = c .before .before .before .before .before .before .before .before .before .before .sequence in
+    let if1 = c .before .before .before .before .before .before .if1 in
+    let known-of = c .before .before .before .before .before .known-of in
+    translations-answered (subst (SequenceAsked (now (args .listing)) (args .k)) (sequence .given .1) (find-sequence .ensures))
+    (not-false _ (if1 .left)) (known-of .ensures) (c .before .before .before .before .feature .ensures)
+    (c .before .before .translations-answer .ensures)
 
 pub translations-spec : {M : Type 1} → statement M
 translations-spec =
@@ -52,11 +64,12 @@ translations-spec =
     (tie.spec
     find-sequence-requires
     enum-known-rule
+    no-translation-requires
     enum-known-sequence
-    known-of-requires
-    code-table-requires
-    vocabulary-table-requires
-    translate-all-requires
     returns
+    known-of-requires
+    feature-requires
+    translations-answer-requires
+    returns-2
     same-length
-    returns-2)
+    returns-3)

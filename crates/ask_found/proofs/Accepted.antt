@@ -7,7 +7,7 @@ use Rattle.paper.specs.Lists.{_∈_}
 use Rattle.paper.specs.Tree.{Sequence, Feature, featuresOf}
 use Rattle.paper.specs.Rules.{dna, rna, aa, IsKind, InTexts, InFeature}
 use Rattle.paper.specs.Rules as Rules
-use Rattle.paper.specs.Answers.{limit, give, kindNumber, FindsSequence}
+use Rattle.paper.specs.Answers.{limit, give, kindNumber, FindsSequence, FindsFeature}
 use Rattle.paper.specs.Answers as paper
 use Rattle.value_words.specs.Reading.{KindIs}
 use Rattle.value_words.specs.declared.Molecule.{Molecule}
@@ -30,6 +30,9 @@ accepts {k = k} {q} (paper.sequence {l} (paper.accepted short laid clean) i s) =
 
 pub keeps-feature : {w : List ℕ} {q : Sequence ℕ} → Accepts w q → (f : Feature ℕ) → f ∈ featuresOf q → Keeps q f
 keeps-feature a f m = record { texts = a .texts; feature = a .features f m }
+
+pub feature-keeps : {w : List ℕ} {k j : ℕ} {q : Sequence ℕ} {f : Feature ℕ} → FindsFeature w k j (give (q, f)) → Keeps q f
+feature-keeps {f = f} (paper.feature s n) = keeps-feature (accepts s) f (n .0, n .2)
 
 -- the kind that its moltype names (rule 16)
 pub record KindOf (q : Sequence ℕ) (c : Molecule) : Type 0 where

@@ -1,0 +1,5 @@
+-- Laws that no one function owns.
+pub mod Accepted
+pub mod Located
+pub mod Spanned
+pub mod Translated
