@@ -8,7 +8,8 @@ use Rattle.ask_answers.specs.declared.SequenceAnswer.{SequenceAnswer}
 use Rattle.ask_answers.specs.declared.FeatureAnswer.{FeatureAnswer}
 use Rattle.ask_answers.specs.declared.QualifierAnswer.{QualifierAnswer}
 use Rattle.ask_answers.specs.declared.SpansAnswer.{SpansAnswer}
-use Rattle.ask_answers.specs.declared.TranslationAnswer.{TranslationAnswer}
+use Rattle.ask_answers.specs.declared.LentAnswer.{LentAnswer}
+use Rattle.ask_answers.specs.declared.IndexVerdict.{IndexVerdict}
 
 -- a number in a narrower type: one that a byte holds stays as it is, and any other is 255
 pub record Narrow (n r : ℕ) : Type 0 where
@@ -36,5 +37,8 @@ pub data HandsQualifier (a : QualifierAnswer) : (number place namestart namesize
 pub data HandsSpans (a : SpansAnswer) : (number place operator count : ℕ) → Type 0 where
   spans : {r o : ℕ} → Narrow (a .number) r → Narrow (a .operator) o → HandsSpans a r (a .place) o (a .count)
 
-pub data HandsTranslation (a : TranslationAnswer) : (number place size : ℕ) → Type 0 where
-  translation : {r : ℕ} → Narrow (a .number) r → HandsTranslation a r (a .place) (a .size)
+pub data HandsLent (a : LentAnswer) : (number place size : ℕ) → Type 0 where
+  lent : {r : ℕ} → Narrow (a .number) r → HandsLent a r (a .place) (a .size)
+
+pub data HandsIndexVerdict (a : IndexVerdict) : (number place : ℕ) → Type 0 where
+  verdict : {r : ℕ} → Narrow (a .number) r → HandsIndexVerdict a r (a .place)

@@ -9,7 +9,7 @@ use Rattle.ask_answers.specs.declared.SequenceAnswer.{SequenceAnswer}
 use Rattle.ask_answers.specs.declared.FeatureAnswer.{FeatureAnswer}
 use Rattle.ask_answers.specs.declared.QualifierAnswer.{QualifierAnswer}
 use Rattle.ask_answers.specs.declared.SpansAnswer.{SpansAnswer}
-use Rattle.ask_answers.specs.declared.TranslationAnswer.{TranslationAnswer}
+use Rattle.ask_answers.specs.declared.LentAnswer.{LentAnswer}
 
 abbrev pub noStretch : Stretch
 noStretch = record { start = 0; size = 0 }
@@ -36,5 +36,5 @@ noQualifier n p = record { number = n; place = p; name = noStretch; present = fa
 abbrev pub noSpans : ℕ → ℕ → SpansAnswer
 noSpans n p = record { number = n; place = p; operator = 0; count = 0 }
 
-abbrev pub noTranslation : ℕ → ℕ → TranslationAnswer
-noTranslation n p = record { number = n; place = p; size = 0 }
+abbrev pub nothingLent : ℕ → ℕ → LentAnswer
+nothingLent n p = record { number = n; place = p; size = 0 }

@@ -2,8 +2,8 @@
 // Any answer may be given. Relies on the paper alone.
 use paper::Verdict;
 ghost use mathlib.Core.Path.{_≡_};
-ghost use Rattle.ask_answers.specs.Handed.{Narrow, flagOf, HandsVerdict, HandsSequence, HandsFeature, HandsQualifier, HandsSpans, HandsTranslation};
-ghost use Rattle.ask_answers.specs.Stretches.{noStretch, noSequence, noFeature, noQualifier, noSpans, noTranslation};
+ghost use Rattle.ask_answers.specs.Handed.{Narrow, flagOf, HandsVerdict, HandsSequence, HandsFeature, HandsQualifier, HandsSpans, HandsLent, HandsIndexVerdict};
+ghost use Rattle.ask_answers.specs.Stretches.{noStretch, noSequence, noFeature, noQualifier, noSpans, nothingLent};
 
 // A stretch of the listing.
 pub struct Stretch {
@@ -103,28 +103,36 @@ pub fn no_spans(number: usize, place: usize) -> SpansAnswer
     }
 }
 
-// ---- translations
+// ---- lent bytes: translations, an index
 
 // The length of what is written; or the number of a refusal and its place.
-pub struct TranslationAnswer {
+pub struct LentAnswer {
     pub number: usize,
     pub place: usize,
     pub size: usize,
 }
 
-pub fn no_translation(number: usize, place: usize) -> TranslationAnswer
-    ensures { λ r. ⌜ r ≡ noTranslation number place ⌝ }
+pub fn nothing_lent(number: usize, place: usize) -> LentAnswer
+    ensures { λ r. ⌜ r ≡ nothingLent number place ⌝ }
 {
-    TranslationAnswer {
+    LentAnswer {
         number,
         place,
         size: 0,
     }
 }
 
+// ---- whether an index belongs to a listing
+
+// 0; or the number of a refusal and its place.
+pub struct IndexVerdict {
+    pub number: usize,
+    pub place: usize,
+}
+
 // ---- handed over as numbers
 
-// The number that is returned. None of document 01 is above 37, so the test is never met.
+// The number that is returned. No refusal is above 50, so the test is never met.
 fn narrow(number: usize) -> u32
     ensures { λ r. ⌜ Narrow number r ⌝ }
 {
@@ -285,16 +293,24 @@ pub fn hand_spans(
     narrow(number)
 }
 
-// For one translation and for all of a sequence.
-pub fn hand_translation(answer: TranslationAnswer, place: &mut usize, size: &mut usize) -> u32
-    ensures { λ r. ⌜ HandsTranslation answer r (now (place .exit)) (now (size .exit)) ⌝ }
+// For one translation, for all of a sequence, and for an index.
+pub fn hand_lent(answer: LentAnswer, place: &mut usize, size: &mut usize) -> u32
+    ensures { λ r. ⌜ HandsLent answer r (now (place .exit)) (now (size .exit)) ⌝ }
 {
-    let TranslationAnswer {
+    let LentAnswer {
         number,
         place: p,
         size: n,
     } = answer;
     *place = p;
     *size = n;
+    narrow(number)
+}
+
+pub fn hand_index_verdict(answer: IndexVerdict, place: &mut usize) -> u32
+    ensures { λ r. ⌜ HandsIndexVerdict answer r (now (place .exit)) ⌝ }
+{
+    let IndexVerdict { number, place: p } = answer;
+    *place = p;
     narrow(number)
 }

@@ -8,23 +8,23 @@ use Rattle.paper.specs.Answers.{refuse, give, FindsSequence, FindsFeature, Line
 use Rattle.paper.specs.Answers as paper
 use Rattle.walk_items.specs.declared.FoundFeature.{FoundFeature}
 use Rattle.judge_faults.specs.declared.Known.{Known}
-use Rattle.ask_answers.specs.Stretches.{noTranslation}
-use Rattle.ask_answers.specs.declared.TranslationAnswer.{TranslationAnswer}
+use Rattle.ask_answers.specs.Stretches.{nothingLent}
+use Rattle.ask_answers.specs.declared.LentAnswer.{LentAnswer}
 use Rattle.ask_translation.specs.Ones.{TranslatesOne}
 use Rattle.ask_translation.specs.declared.Written.{Written}
 use Rattle.ask_translations.specs.Lines.{TranslatesAll}
 use Rattle.ask_found.specs.Answers.{TranslationGiven, TranslationsGiven, AnswersTranslation, AnswersTranslations}
 use Rattle.ask_found.proofs.Accepted.{accepts, keeps-feature, feature-keeps}
 
-module _ {w : List ℕ} {k : ℕ} {out : List ℕ} {n p : ℕ} {r : TranslationAnswer} (e : r ≡ noTranslation n p) where
+module _ {w : List ℕ} {k : ℕ} {out : List ℕ} {n p : ℕ} {r : LentAnswer} (e : r ≡ nothingLent n p) where
   pub translation-refused : {j : ℕ} → FindsFeature w k j (refuse n p) → TranslationGiven w k j out r out
   translation-refused {j} h =
-      subst (λ (r : TranslationAnswer). TranslationGiven w k j out r out) (sym e)
+      subst (λ (r : LentAnswer). TranslationGiven w k j out r out) (sym e)
       (record { outcome = refuse n p; finds = paper.earlier h; lent = paper.refused })
 
   pub translations-refused : FindsSequence w k (refuse n p) → TranslationsGiven w k out r out
   translations-refused h =
-      subst (λ (r : TranslationAnswer). TranslationsGiven w k out r out) (sym e)
+      subst (λ (r : LentAnswer). TranslationsGiven w k out r out) (sym e)
       (record { outcome = refuse n p; finds = paper.earlier h; lent = paper.refused })
 
 -- no feature, and no line

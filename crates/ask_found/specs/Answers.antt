@@ -19,7 +19,7 @@ use Rattle.ask_answers.specs.declared.SequenceAnswer.{SequenceAnswer}
 use Rattle.ask_answers.specs.declared.FeatureAnswer.{FeatureAnswer}
 use Rattle.ask_answers.specs.declared.QualifierAnswer.{QualifierAnswer}
 use Rattle.ask_answers.specs.declared.SpansAnswer.{SpansAnswer}
-use Rattle.ask_answers.specs.declared.TranslationAnswer.{TranslationAnswer}
+use Rattle.ask_answers.specs.declared.LentAnswer.{LentAnswer}
 
 -- ---- what the paper says of an answer; a part that it shows lies within the listing
 
@@ -37,10 +37,10 @@ QualifierGiven w k j i r =
 abbrev pub SpansGiven : List ℕ → ℕ → ℕ → List ℕ → SpansAnswer → List ℕ → Type 0
 SpansGiven w k j out r after = SpansSays w k j out (r .number) (r .place) (r .operator) (r .count) after
 
-abbrev pub TranslationGiven : List ℕ → ℕ → ℕ → List ℕ → TranslationAnswer → List ℕ → Type 0
+abbrev pub TranslationGiven : List ℕ → ℕ → ℕ → List ℕ → LentAnswer → List ℕ → Type 0
 TranslationGiven w k j out r after = TranslationSays w k j out (r .number) (r .place) (r .size) after
 
-abbrev pub TranslationsGiven : List ℕ → ℕ → List ℕ → TranslationAnswer → List ℕ → Type 0
+abbrev pub TranslationsGiven : List ℕ → ℕ → List ℕ → LentAnswer → List ℕ → Type 0
 TranslationsGiven w k out r after = TranslationsSays w k out (r .number) (r .place) (r .size) after
 
 -- ---- of whichever item was found
@@ -61,9 +61,9 @@ pub record AnswersSpans (w : List ℕ) (top : ℕ) (location : Range) (out : Lis
   pub says : (k j : ℕ) (q : Sequence ℕ) (f : Feature ℕ) → FindsFeature w k j (give (q, f)) → top ≡ L q → IsPart w (f .location) location
       → SpansGiven w k j out r after
 
-pub record AnswersTranslation (w : List ℕ) (known : Known) (feature : FoundFeature) (out : List ℕ) (r : TranslationAnswer) (after : List ℕ) : Type 0 where
+pub record AnswersTranslation (w : List ℕ) (known : Known) (feature : FoundFeature) (out : List ℕ) (r : LentAnswer) (after : List ℕ) : Type 0 where
   pub says : (k j : ℕ) (q : Sequence ℕ) (f : Feature ℕ) (e : ℕ) → FindsFeature w k j (give (q, f)) → Knows w q known → IsFeature w f e feature
       → TranslationGiven w k j out r after
 
-pub record AnswersTranslations (w : List ℕ) (known : Known) (first : FoundFeature) (out : List ℕ) (r : TranslationAnswer) (after : List ℕ) : Type 0 where
+pub record AnswersTranslations (w : List ℕ) (known : Known) (first : FoundFeature) (out : List ℕ) (r : LentAnswer) (after : List ℕ) : Type 0 where
   pub says : (k : ℕ) (q : Sequence ℕ) → FindsSequence w k (give q) → Knows w q known → FirstFeature w q first → TranslationsGiven w k out r after

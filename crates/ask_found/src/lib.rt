@@ -2,10 +2,10 @@
 // tree was found so; of other bytes nothing is said. Relies on what is shown of a part, the spans of a location, the translations, and in
 // its proofs on what the check's acceptance says of a sequence.
 use ask_answers::FeatureAnswer;
+use ask_answers::LentAnswer;
 use ask_answers::QualifierAnswer;
 use ask_answers::SequenceAnswer;
 use ask_answers::SpansAnswer;
-use ask_answers::TranslationAnswer;
 use ask_answers::no_spans;
 use ask_show::is_present;
 use ask_show::kind_number;
@@ -79,7 +79,7 @@ pub fn translation_answer(
     known: Known,
     feature: FoundFeature,
     out: &mut [u8],
-) -> TranslationAnswer
+) -> LentAnswer
     ensures { λ r. ⌜ AnswersTranslation (now (listing .entry)) known feature (now (out .entry)) r (now (out .exit)) ⌝ }
 {
     let code = protein_code::code_table();
@@ -92,7 +92,7 @@ pub fn translation_answer(
         &vocabulary,
         out,
     );
-    TranslationAnswer {
+    LentAnswer {
         number,
         place: 0,
         size,
@@ -105,7 +105,7 @@ pub fn translations_answer(
     known: Known,
     first: FoundFeature,
     out: &mut [u8],
-) -> TranslationAnswer
+) -> LentAnswer
     ensures { λ r. ⌜ AnswersTranslations (now (listing .entry)) known first (now (out .entry)) r (now (out .exit)) ⌝ }
 {
     let code = protein_code::code_table();
@@ -118,7 +118,7 @@ pub fn translations_answer(
         &vocabulary,
         out,
     );
-    TranslationAnswer {
+    LentAnswer {
         number,
         place: 0,
         size,

@@ -19,7 +19,7 @@ use Rattle.ask_answers.specs.declared.SequenceAnswer.{SequenceAnswer}
 use Rattle.ask_answers.specs.declared.FeatureAnswer.{FeatureAnswer}
 use Rattle.ask_answers.specs.declared.QualifierAnswer.{QualifierAnswer}
 use Rattle.ask_answers.specs.declared.SpansAnswer.{SpansAnswer}
-use Rattle.ask_answers.specs.declared.TranslationAnswer.{TranslationAnswer}
+use Rattle.ask_answers.specs.declared.LentAnswer.{LentAnswer}
 use Rattle.ask_find.specs.Finds.{SequenceIs, FeatureIs, QualifierIs}
 use Rattle.ask_find.proofs.Found.{feature-given}
 use Rattle.ask_found.specs.Answers as answers
@@ -40,7 +40,7 @@ module _ {w : List ℕ} {k : ℕ} where
     pub no-lines : {out : List ℕ} → s .table .present ≡ false → TranslationsSays w k out 0 0 0 out
     no-lines h = translations-none (i .finds) (no-features (i .is) h)
 
-    pub translations-answered : {known : Known} {g : FoundFeature} {out after : List ℕ} {r : TranslationAnswer} → s .table .present ≡ true → KnowsSequence w s known
+    pub translations-answered : {known : Known} {g : FoundFeature} {out after : List ℕ} {r : LentAnswer} → s .table .present ≡ true → KnowsSequence w s known
         → MeetsFeature w (s .table .first) g → answers.AnswersTranslations w known g out r after → answers.TranslationsGiven w k out r after
     translations-answered h n m a = a .says k (i .asked) (i .finds) (found-knows n) (first-found (i .is) h m)
 
@@ -56,7 +56,7 @@ module _ {w : List ℕ} {k : ℕ} where
         let y = i .feature in
         a .says k j (i .sequence .asked) (y .asked) (feature-given i) (found-knows (i .sequence) h .size) (y .is .location)
 
-    pub translation-answered : {known : Known} {out after : List ℕ} {r : TranslationAnswer} → KnowsSequence w s known
+    pub translation-answered : {known : Known} {out after : List ℕ} {r : LentAnswer} → KnowsSequence w s known
         → answers.AnswersTranslation w known f out r after → answers.TranslationGiven w k j out r after
     translation-answered h a =
         let y = i .feature in

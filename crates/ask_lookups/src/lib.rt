@@ -2,15 +2,15 @@
 // Any bytes, any numbers and any room may be given; nobody need check anything first.
 // Relies on the other crates of this floor, ask_find and ask_found first, and on the parts of the judge for the kind and L.
 use ask_answers::FeatureAnswer;
+use ask_answers::LentAnswer;
 use ask_answers::QualifierAnswer;
 use ask_answers::SequenceAnswer;
 use ask_answers::SpansAnswer;
-use ask_answers::TranslationAnswer;
 use ask_answers::no_feature;
 use ask_answers::no_qualifier;
 use ask_answers::no_sequence;
 use ask_answers::no_spans;
-use ask_answers::no_translation;
+use ask_answers::nothing_lent;
 use ask_find::SequenceAt;
 use ask_find::find_feature;
 use ask_find::find_qualifier;
@@ -172,11 +172,11 @@ pub fn spans(listing: &[u8], k: usize, j: usize, out: &mut [u32]) -> SpansAnswer
 // ---- translations
 
 // One translation at the front of out; or nothing is written.
-pub fn translation(listing: &[u8], k: usize, j: usize, out: &mut [u8]) -> TranslationAnswer
+pub fn translation(listing: &[u8], k: usize, j: usize, out: &mut [u8]) -> LentAnswer
     ensures { λ r. ⌜ TranslationSays (now (listing .entry)) k j (now (out .entry)) (r .number) (r .place) (r .size) (now (out .exit)) ⌝ }
 {
     match find_feature(listing, k, j) {
-        FeatureAt::Refused { rule, place } => no_translation(rule, place),
+        FeatureAt::Refused { rule, place } => nothing_lent(rule, place),
         FeatureAt::Found { sequence, feature } => {
             let known = known_of(listing, sequence);
             translation_answer(listing, known, feature, out)
@@ -185,15 +185,15 @@ pub fn translation(listing: &[u8], k: usize, j: usize, out: &mut [u8]) -> Transl
 }
 
 // All translations of a sequence at the front of out, each closed by byte 10; or nothing is written.
-pub fn translations(listing: &[u8], k: usize, out: &mut [u8]) -> TranslationAnswer
+pub fn translations(listing: &[u8], k: usize, out: &mut [u8]) -> LentAnswer
     ensures { λ r. ⌜ TranslationsSays (now (listing .entry)) k (now (out .entry)) (r .number) (r .place) (r .size) (now (out .exit)) ⌝ }
 {
     match find_sequence(listing, k) {
-        SequenceAt::Refused { rule, place } => no_translation(rule, place),
+        SequenceAt::Refused { rule, place } => nothing_lent(rule, place),
         SequenceAt::Found(sequence) => {
             let table = sequence.table;
             if !table.present {
-                return TranslationAnswer {
+                return LentAnswer {
                     number: 0,
                     place: 0,
                     size: 0,

@@ -7,12 +7,12 @@ use Rattle.paper.specs.Answers.{CheckSays, SequenceSays, FeatureSays, Qualifier
 use Rattle.paper.specs.Demands.{InListing}
 use Rattle.paper.specs.declared.Verdict.{Verdict}
 use Rattle.ask_answers.specs.Stretches.{partIs}
-use Rattle.ask_answers.specs.Handed.{Narrow, HandsVerdict, HandsSequence, HandsFeature, HandsQualifier, HandsSpans, HandsTranslation}
+use Rattle.ask_answers.specs.Handed.{Narrow, HandsVerdict, HandsSequence, HandsFeature, HandsQualifier, HandsSpans, HandsLent}
 use Rattle.ask_answers.specs.declared.SequenceAnswer.{SequenceAnswer}
 use Rattle.ask_answers.specs.declared.FeatureAnswer.{FeatureAnswer}
 use Rattle.ask_answers.specs.declared.QualifierAnswer.{QualifierAnswer}
 use Rattle.ask_answers.specs.declared.SpansAnswer.{SpansAnswer}
-use Rattle.ask_answers.specs.declared.TranslationAnswer.{TranslationAnswer}
+use Rattle.ask_answers.specs.declared.LentAnswer.{LentAnswer}
 use Rattle.dreichnook.specs.Numbers.{part, SaysCheck, SaysQualifier}
 use Rattle.paper.proofs.Demands.{demand1, demand2}
 use Rattle.paper.proofs.Refusals.{refusal-most, ends-most}
@@ -62,12 +62,12 @@ module _ {w : List ℕ} where
         subst₂ (λ (n o : ℕ). SpansSays w k j out n (a .place) o (a .count) after) (stays h (ends-most (demand1 .spans w k j _ _ _ _ out after x)))
         (stays g (operator-most x)) x
 
-    pub translation-handed : {out after : List ℕ} {a : TranslationAnswer} {n p c : ℕ} → TranslationSays w k j out (a .number) (a .place) (a .size) after
-        → HandsTranslation a n p c → TranslationSays w k j out n p c after
-    translation-handed {out} {after} {a} x (HandsTranslation.translation h) =
+    pub translation-handed : {out after : List ℕ} {a : LentAnswer} {n p c : ℕ} → TranslationSays w k j out (a .number) (a .place) (a .size) after
+        → HandsLent a n p c → TranslationSays w k j out n p c after
+    translation-handed {out} {after} {a} x (HandsLent.lent h) =
         subst (λ (n : ℕ). TranslationSays w k j out n (a .place) (a .size) after) (stays h (ends-most (demand1 .translation w k j _ _ _ out after x))) x
 
-  pub translations-handed : {k : ℕ} {out after : List ℕ} {a : TranslationAnswer} {n p c : ℕ} → TranslationsSays w k out (a .number) (a .place) (a .size) after
-      → HandsTranslation a n p c → TranslationsSays w k out n p c after
-  translations-handed {k} {out} {after} {a} x (HandsTranslation.translation h) =
+  pub translations-handed : {k : ℕ} {out after : List ℕ} {a : LentAnswer} {n p c : ℕ} → TranslationsSays w k out (a .number) (a .place) (a .size) after
+      → HandsLent a n p c → TranslationsSays w k out n p c after
+  translations-handed {k} {out} {after} {a} x (HandsLent.lent h) =
       subst (λ (n : ℕ). TranslationsSays w k out n (a .place) (a .size) after) (stays h (ends-most (demand1 .translations w k _ _ _ out after x))) x

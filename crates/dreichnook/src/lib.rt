@@ -130,7 +130,7 @@ pub extern "C" fn dreichnook_translation(
 ) -> u32
     ensures { λ r. ⌜ TranslationSays (now (listing .entry)) sequence feature (now (out .entry)) r (now (place .exit)) (now (size .exit)) (now (out .exit)) ⌝ }
 {
-    ask_answers::hand_translation(
+    ask_answers::hand_lent(
         ask_lookups::translation(listing, sequence, feature, out),
         place,
         size,
@@ -147,7 +147,7 @@ pub extern "C" fn dreichnook_translations(
 ) -> u32
     ensures { λ r. ⌜ TranslationsSays (now (listing .entry)) sequence (now (out .entry)) r (now (place .exit)) (now (size .exit)) (now (out .exit)) ⌝ }
 {
-    ask_answers::hand_translation(
+    ask_answers::hand_lent(
         ask_lookups::translations(listing, sequence, out),
         place,
         size,

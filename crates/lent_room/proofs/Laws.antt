@@ -8,6 +8,7 @@ use mathlib.Core.List.{List, [], _∷_, _++_, append-nil}
 use lib.ListN.{length, take, drop, set, length-append, length-drop, take-append-drop, drop-of-length-le}
 use lib.Seq.{sets, sets-eq, set-comm, length-take-le, take-all, take-at}
 use lib.Dec.{eqb}
+use borrow.Author.Tests.{eqb-true, eq-eqb}
 use Rattle.paper.specs.Bytes.{bytes}
 use Rattle.paper.specs.Answers.{front}
 use Rattle.paper.specs.Index.{littleEnd, agree}
@@ -127,6 +128,21 @@ agree-off (a ∷ x) y (b ∷ z) h = go (eqb a b) (agree-off x y z) h
         → cond t (suc (agree (x ++ y) z)) 0 ≡ cond t (suc (agree x z)) 0
     go true h k = ap suc (h (omega (arith, k)))
     go false h k = refl
+
+-- a text begins with all of itself, and so does no other of its length
+pub agree-self : (x : List ℕ) → agree x x ≡ length x
+agree-self [] = refl
+agree-self (a ∷ x) = rw (eq-eqb a a refl) (ap suc (agree-self x))
+
+pub agree-whole : (x y : List ℕ) → agree x y ≡ length x → length y ≤ length x → y ≡ x
+agree-whole [] [] e l = refl
+agree-whole [] (b ∷ y) e l = absurd (omega (arith, l))
+agree-whole (a ∷ x) [] e l = absurd (omega (arith, e))
+agree-whole (a ∷ x) (b ∷ y) e l = go (eqb a b) refl e
+  where
+    go : (t : Bool) → eqb a b ≡ t → cond t (suc (agree x y)) 0 ≡ suc (length x) → b ∷ y ≡ a ∷ x
+    go true h k = let i = sym (eqb-true a b h) in let j = agree-whole x y (omega (arith, k)) (omega (arith, l)) in λ t. i t ∷ j t
+    go false h k = absurd (omega (arith, k))
 
 -- ---- the definitions tried
 

@@ -2,7 +2,7 @@
 use Prim.Native.Nat.{ℕ, zero, suc, _+_, _*_, _≤_, _<_}
 use native.Mathlib.Omega.{arith}
 use native.Mathlib.Decide.{ℕ-discrete}
-use mathlib.Core.Path.{_≡_, refl, ap, _∙_, subst}
+use mathlib.Core.Path.{_≡_, refl, sym, ap, _∙_, subst}
 use mathlib.Core.Bool.{Bool, true, false, cond}
 use mathlib.Core.Logic.{⊎-elim}
 use mathlib.Core.List.{List, [], _∷_, _++_, map, List-discrete}
@@ -187,3 +187,21 @@ module _ {w : List ℕ} {l : Listing ℕ} (c : Checked w (give l)) where
   pub fits : (n : ℕ) → n ∈ (contentsOf l ++ gather bodyOf (l .sequences)) → n < 4294967296
   fits n m =
       ⊎-elim (in-contents n) (of-gather bodyOf (l .sequences) Small in-body n) (of-append (contentsOf l) (gather bodyOf (l .sequences)) n m)
+
+-- ---- an old index
+
+-- the index of a listing is made of its bodies alone
+pub same-index : (l m : Listing ℕ) → map bodyOf (l .sequences) ≡ map bodyOf (m .sequences) → indexOf l ≡ indexOf m
+same-index l m e = by-bodies l ∙ ap ofBodies e ∙ sym (by-bodies m)
+  where
+    ofBodies : List (List ℕ) → List ℕ
+    ofBodies b = inBytes ((length b ∷ entries (4 + 8 * length b) b) ++ gather (λ x. x) b)
+
+    gathered : (k : List (Sequence ℕ)) → gather bodyOf k ≡ gather (λ x. x) (map bodyOf k)
+    gathered [] = refl
+    gathered (s ∷ k) = ap (_++_ (bodyOf s)) (gathered k)
+
+    by-bodies : (l : Listing ℕ) → indexOf l ≡ ofBodies (map bodyOf (l .sequences))
+    by-bodies l =
+        let n = length-map bodyOf (l .sequences) in
+        rw n (ap (λ (x : List ℕ). inBytes (contentsOf l ++ x)) (gathered (l .sequences)))

@@ -4,6 +4,7 @@ use Prim.Native.Nat.{ℕ, zero, suc, _+_, _≤_}
 use native.Mathlib.Omega.{arith}
 use mathlib.Core.Path.{_≡_, refl, sym, ap, _∙_, subst}
 use mathlib.Core.Bool.{Bool, true, false}
+use mathlib.Core.Logic.{_↔_}
 use mathlib.Core.List.{List, _++_}
 use mathlib.Core.Option.{some}
 use lib.ListN.{length}
@@ -16,12 +17,14 @@ use Rattle.paper.specs.Locations.{Location, Locates, spans, operatorNumb
 use Rattle.paper.specs.Translation.{code1, codonsFrom, codingText, dropStop, hasStopInside}
 use Rattle.paper.specs.Rules.{Skipped, Kind, dna, rna, aa, IsKind, kindName, valueRead, CodonStart, absent, stated, Codons, Broken, First}
 use Rattle.paper.specs.Answers.{Prints, page, partOf, isPresent, valuePart, triples, front, Outcome, refuse, give, Strays, Checked, too-long, strays, breaks, accepted, Counts, CheckSays, FindsSequence, FindsFeature, FindsQualifier, FindsLocation, Translates, FindsTranslation, FindsTranslations, Lines, Lent, Part, kindNumber, SequenceSays, FeatureSays, QualifierSays, SpansSays, TranslationSays, TranslationsSays}
+use Rattle.paper.specs.Index.{indexOf, agree, FindsIndex, IndexSays, ChecksIndex, IndexCheckSays, WithIndex, IndexedSequenceSays, IndexedFeatureSays, IndexedQualifierSays, IndexedSpansSays, IndexedTranslationSays, IndexedTranslationsSays}
 use Rattle.paper.specs.declared.Verdict.{Verdict}
 use Rattle.paper.specs.declared.Verdict.the-variants.{Accepted, Refused}
 use Rattle.paper.proofs.Decimal.{number-once}
 use Rattle.paper.proofs.Firsts.{first-once}
 use Rattle.paper.proofs.Lists.{numbered-once, count-once}
 use Rattle.paper.proofs.Locate.{locates-once}
+use Rattle.paper.proofs.Refusals.{refusal-some, index-check-refused}
 
 -- ---- translations
 
@@ -187,6 +190,59 @@ module _ {w : List ℕ} (once : (l m : Listing ℕ) → LaidOut l w → LaidOut 
   prints-once (Prints.verdict v h c) (Prints.too-long k) = absurd (omega (arith, h, k))
   prints-once (Prints.verdict v h c) (Prints.verdict u k d) = ap page (check-once v u c d)
 
+  -- ---- the index
+
+  pub finds-index-once : {a b : Outcome (List ℕ)} → FindsIndex w a → FindsIndex w b → a ≡ b
+  finds-index-once (FindsIndex.own a) (FindsIndex.own b) = same-refused (checked-once a b)
+  finds-index-once (FindsIndex.own a) (FindsIndex.index b) = absurd (not-both (checked-once a b))
+  finds-index-once (FindsIndex.index b) (FindsIndex.own a) = absurd (not-both (checked-once a b))
+  finds-index-once (FindsIndex.index a) (FindsIndex.index b) = ap (λ (l : Listing ℕ). give (indexOf l)) (same-given (checked-once a b))
+
+  pub index-once : {out : List ℕ} {n p z m q j : ℕ} {x y : List ℕ} → IndexSays w out n p z x → IndexSays w out m q j y → (n ≡ m) × (p ≡ q) × (z ≡ j) × (x ≡ y)
+  index-once {out} {m = m} {q = q} {j = j} {y = y} a b =
+      lent-once (a .lent) (subst (λ (o : Outcome (List ℕ)). Lent out o m q j y) (finds-index-once (b .finds) (a .finds)) (b .lent))
+
+  module _ {x : List ℕ} where
+    -- an index that belongs to the listing doesn't differ from it
+    belongs-or-differs : {l r : Listing ℕ} → Checked w (give l) → x ≡ indexOf l → Checked w (give r) → ¬ (x ≡ indexOf r) → ⊥
+    belongs-or-differs a e b n = n (e ∙ ap (λ (l : Listing ℕ). indexOf l) (same-given (checked-once a b)))
+
+    pub checks-index-once : {a b : Outcome (Listing ℕ)} → ChecksIndex w x a → ChecksIndex w x b → a ≡ b
+    checks-index-once (ChecksIndex.own a) (ChecksIndex.own b) = same-refused (checked-once a b)
+    checks-index-once (ChecksIndex.own a) (ChecksIndex.differs b n) = absurd (not-both (checked-once a b))
+    checks-index-once (ChecksIndex.own a) (ChecksIndex.belongs b e) = absurd (not-both (checked-once a b))
+    checks-index-once (ChecksIndex.differs b n) (ChecksIndex.own a) = absurd (not-both (checked-once a b))
+    checks-index-once (ChecksIndex.differs a n) (ChecksIndex.differs b m) = ap (λ (l : Listing ℕ). refuse 50 (agree (indexOf l) x)) (same-given (checked-once a b))
+    checks-index-once (ChecksIndex.differs b n) (ChecksIndex.belongs a e) = absurd (belongs-or-differs a e b n)
+    checks-index-once (ChecksIndex.belongs b e) (ChecksIndex.own a) = absurd (not-both (checked-once a b))
+    checks-index-once (ChecksIndex.belongs a e) (ChecksIndex.differs b n) = absurd (belongs-or-differs a e b n)
+    checks-index-once (ChecksIndex.belongs a e) (ChecksIndex.belongs b f) = checked-once a b
+
+    pub index-check-once : {n p m q : ℕ} → IndexCheckSays w x n p → IndexCheckSays w x m q → (n ≡ m) × (p ≡ q)
+    index-check-once (IndexCheckSays.refused a) (IndexCheckSays.refused b) = let e = checks-index-once a b in (cc, cc)
+    index-check-once (IndexCheckSays.refused a) (IndexCheckSays.taken b) = absurd (not-both (checks-index-once a b))
+    index-check-once (IndexCheckSays.taken b) (IndexCheckSays.refused a) = absurd (not-both (checks-index-once a b))
+    index-check-once (IndexCheckSays.taken a) (IndexCheckSays.taken b) = (refl, refl)
+
+    -- a lookup with an index: two refusals of the checker are one, and two plain answers are compared as such
+    pub with-index-once : {n p m q : ℕ} {N M A B R : Type 0} → (n ≡ m → p ≡ q → N → M → R) → (A → B → R) → WithIndex w x n p N A → WithIndex w x m q M B → R
+    with-index-once f g (WithIndex.refused a u) (WithIndex.refused b v) = let e = checks-index-once a b in f (cc) (cc) u v
+    with-index-once f g (WithIndex.refused a u) (WithIndex.taken b y) = absurd (not-both (checks-index-once a b))
+    with-index-once f g (WithIndex.taken b y) (WithIndex.refused a u) = absurd (not-both (checks-index-once a b))
+    with-index-once f g (WithIndex.taken a y) (WithIndex.taken b z) = g y z
+
+    -- where the checker takes the index
+    pub with-index-plain : {n p : ℕ} {N A : Type 0} → IndexCheckSays w x 0 0 → WithIndex w x n p N A ↔ A
+    with-index-plain {n} {p} {N} {A} c = by c refl
+      where
+        to : {l : Listing ℕ} → ChecksIndex w x (give l) → WithIndex w x n p N A → A
+        to b (WithIndex.refused a u) = absurd (not-both (checks-index-once a b))
+        to b (WithIndex.taken a y) = y
+
+        by : {m q : ℕ} → IndexCheckSays w x m q → m ≡ 0 → WithIndex w x n p N A ↔ A
+        by (IndexCheckSays.refused a) e = absurd (refusal-some (index-check-refused a) e)
+        by (IndexCheckSays.taken b) e = (to b, λ y. WithIndex.taken b y)
+
   module _ {k : ℕ} where
     -- the numbered sequence of the one listing
     same-sequence : {l r : Listing ℕ} (s t : Sequence ℕ) → Checked w (give l) → Checked w (give r) → Numbered (l .sequences) k s → Numbered (r .sequences) k t → s ≡ t
@@ -324,3 +380,31 @@ module _ {w : List ℕ} (once : (l m : Listing ℕ) → LaidOut l w → LaidOut 
       qualifier-once (QualifierSays.found a) (QualifierSays.found b) =
           let z = same-given (finds-qualifier-once a b) in
           (refl, refl, (λ i. partOf (z i .name)), (λ i. isPresent (z i .value)), λ i. valuePart (z i .value))
+
+  -- ---- lookups with an index
+
+  module _ {x : List ℕ} {k : ℕ} where
+    pub indexed-sequence-once : {n p d m q e : ℕ} {r s : Part} → IndexedSequenceSays w x k n p d r → IndexedSequenceSays w x k m q e s
+        → (n ≡ m) × (p ≡ q) × (d ≡ e) × (r ≡ s)
+    indexed-sequence-once = with-index-once (λ a b u v. (a, b, u .0 ∙ sym (v .0), u .1 ∙ sym (v .1))) sequence-once
+
+    pub indexed-translations-once : {out : List ℕ} {n p z m q j : ℕ} {y v : List ℕ} → IndexedTranslationsSays w x k out n p z y → IndexedTranslationsSays w x k out m q j v
+        → (n ≡ m) × (p ≡ q) × (z ≡ j) × (y ≡ v)
+    indexed-translations-once = with-index-once (λ a b u v. (a, b, u .0 ∙ sym (v .0), u .1 ∙ sym (v .1))) translations-once
+
+    module _ {j : ℕ} where
+      pub indexed-feature-once : {n p m q : ℕ} {a b c d : Part} → IndexedFeatureSays w x k j n p a b → IndexedFeatureSays w x k j m q c d
+          → (n ≡ m) × (p ≡ q) × (a ≡ c) × (b ≡ d)
+      indexed-feature-once = with-index-once (λ a b u v. (a, b, u .0 ∙ sym (v .0), u .1 ∙ sym (v .1))) feature-once
+
+      pub indexed-qualifier-once : {i n p m q : ℕ} {a v c u : Part} {b d : Bool} → IndexedQualifierSays w x k j i n p a b v → IndexedQualifierSays w x k j i m q c d u
+          → (n ≡ m) × (p ≡ q) × (a ≡ c) × (b ≡ d) × (v ≡ u)
+      indexed-qualifier-once = with-index-once (λ a b u v. (a, b, u .0 ∙ sym (v .0), u .1 ∙ sym (v .1), u .2 ∙ sym (v .2))) qualifier-once
+
+      pub indexed-spans-once : {out : List ℕ} {n p o c m q d e : ℕ} {y v : List ℕ} → IndexedSpansSays w x k j out n p o c y → IndexedSpansSays w x k j out m q d e v
+          → (n ≡ m) × (p ≡ q) × (o ≡ d) × (c ≡ e) × (y ≡ v)
+      indexed-spans-once = with-index-once (λ a b u v. (a, b, u .0 ∙ sym (v .0), u .1 ∙ sym (v .1), u .2 ∙ sym (v .2))) spans-once
+
+      pub indexed-translation-once : {out : List ℕ} {n p z m q r : ℕ} {y v : List ℕ} → IndexedTranslationSays w x k j out n p z y → IndexedTranslationSays w x k j out m q r v
+          → (n ≡ m) × (p ≡ q) × (z ≡ r) × (y ≡ v)
+      indexed-translation-once = with-index-once (λ a b u v. (a, b, u .0 ∙ sym (v .0), u .1 ∙ sym (v .1))) translation-once

@@ -111,6 +111,15 @@ lent-ends (refuse n p) h Lent.refused = inr (h n p refl, (refl, refl))
 lent-ends (give x) h (Lent.short l) = inr (own 34 (omega arith) (omega arith), (refl, refl))
 lent-ends (give x) h (Lent.written l) = inl (refl, refl)
 
+-- none has the number of an answer
+pub refusal-some : {n p : ℕ} → Refusal n p → ¬ (n ≡ 0)
+refusal-some Refusal.too-long e = omega (arith, e)
+refusal-some Refusal.not-laid-out e = omega (arith, e)
+refusal-some (Refusal.value h k) e = omega (arith, h, e)
+refusal-some (Refusal.vocabulary h k) e = omega (arith, h, e)
+refusal-some (Refusal.lookup h k) e = omega (arith, h, e)
+refusal-some Refusal.index-differs e = omega (arith, e)
+
 -- none has three digits
 pub refusal-most : {n p : ℕ} → Refusal n p → n ≤ 99
 refusal-most Refusal.too-long = omega arith

@@ -1,12 +1,12 @@
 -- The demands of document 00, for an auditor to print: each sentence that can be said of answers, and beside it the statement.
 -- They speak of whatever answers the paper allows; that a call gives such an answer for every input is the call's own promise. Proofs:
 -- demands 1 and 2 in paper/proofs/Demands.antt, demand 3 in ask_check/proofs/Demands.antt.
-use Prim.Native.Nat.{ℕ, _+_, _≤_}
+use Prim.Native.Nat.{ℕ, _+_, _/_, _≤_}
 use mathlib.Core.Path.{_≡_}
 use mathlib.Core.Bool.{Bool}
 use mathlib.Core.Logic.{_⊎_, _↔_}
-use mathlib.Core.List.{List}
-use lib.ListN.{length}
+use mathlib.Core.List.{List, map}
+use lib.ListN.{length, take}
 use Rattle.paper.specs.Bytes.{raw}
 use Rattle.paper.specs.Lists.{_∈_}
 use Rattle.paper.specs.Tree.{Text, Feature, Sequence, Listing, Bare, textsOf, featuresOf}
@@ -14,7 +14,7 @@ use Rattle.paper.specs.Layout.{LaidOut, Writes}
 use Rattle.paper.specs.Locations.{Location, Locates, Span, spans}
 use Rattle.paper.specs.Rules.{L, Breaks}
 use Rattle.paper.specs.Answers.{limit, give, Checked, CheckSays, Part, shown, noPart, partOf, SequenceSays, FeatureSays, QualifierSays, SpansSays, TranslationSays, TranslationsSays, NoSequence, NoFeature, NoQualifier, NoSpans, NothingWritten}
-use Rattle.paper.specs.Index.{IndexSays, IndexCheckSays, IndexedSequenceSays, IndexedFeatureSays, IndexedQualifierSays, IndexedSpansSays, IndexedTranslationSays, IndexedTranslationsSays}
+use Rattle.paper.specs.Index.{bodyOf, indexOf, IndexSays, IndexCheckSays, IndexedSequenceSays, IndexedFeatureSays, IndexedQualifierSays, IndexedSpansSays, IndexedTranslationSays, IndexedTranslationsSays}
 use Rattle.paper.specs.declared.Verdict.{Verdict}
 use Rattle.paper.specs.declared.Verdict.the-variants.{Accepted, Refused}
 
@@ -122,3 +122,26 @@ pub record Demand3 : Type 0 where
   pub no-other : (w : List ℕ) (a b : Bare) → Writes a w → Writes b w → a ≡ b
   -- there are such bytes, so not all are refused
   pub someone : (w : List ℕ) × Good w
+
+-- ---- request 5 of document 02: an index that travels with the listing
+
+pub record Request5 : Type 0 where
+  -- "A checker takes it only if it is the one the maker would write for the listing beside it": exactly then
+  pub exactly : (w x out after : List ℕ) (size : ℕ) → IndexSays w out 0 0 size after → IndexCheckSays w x 0 0 ↔ (x ≡ take size after)
+  -- how much room the maker needs: with a quarter of the listing's length it never refuses for want of room
+  pub room : (w out after : List ℕ) (n p size : ℕ) → IndexSays w out n p size after → length w / 4 ≤ length out → ¬ (n ≡ 34)
+  -- "Lookups with an index first run that checker. After it they equal the plain lookups"
+  pub sequence : (w x : List ℕ) → IndexCheckSays w x 0 0 → (k n p d : ℕ) (r : Part) → IndexedSequenceSays w x k n p d r ↔ SequenceSays w k n p d r
+  pub feature : (w x : List ℕ) → IndexCheckSays w x 0 0 → (k j n p : ℕ) (a b : Part) → IndexedFeatureSays w x k j n p a b ↔ FeatureSays w k j n p a b
+  pub qualifier : (w x : List ℕ) → IndexCheckSays w x 0 0 → (k j i n p : ℕ) (a v : Part) (b : Bool)
+      → IndexedQualifierSays w x k j i n p a b v ↔ QualifierSays w k j i n p a b v
+  pub spans : (w x : List ℕ) → IndexCheckSays w x 0 0 → (k j n p o c : ℕ) (out after : List ℕ)
+      → IndexedSpansSays w x k j out n p o c after ↔ SpansSays w k j out n p o c after
+  pub translation : (w x : List ℕ) → IndexCheckSays w x 0 0 → (k j n p z : ℕ) (out after : List ℕ)
+      → IndexedTranslationSays w x k j out n p z after ↔ TranslationSays w k j out n p z after
+  pub translations : (w x : List ℕ) → IndexCheckSays w x 0 0 → (k n p z : ℕ) (out after : List ℕ)
+      → IndexedTranslationsSays w x k out n p z after ↔ TranslationsSays w k out n p z after
+  -- "An old index whose every number still fits is harmless and accepted.": that of the accepted listing v is taken for the accepted listing
+  -- w where the numbers of their sequences are the same, whatever else of them differs; and then all of the above holds of it
+  pub old : (v w : List ℕ) (l m : Listing ℕ) → Checked v (give l) → Checked w (give m) → map bodyOf (l .sequences) ≡ map bodyOf (m .sequences)
+      → IndexCheckSays w (indexOf l) 0 0

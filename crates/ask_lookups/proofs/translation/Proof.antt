@@ -14,8 +14,8 @@ find-feature-requires c κs = search needs
 enum-known-rule : tie.Need-enum-known-rule
 enum-known-rule c = search needs
 
-no-translation-requires : tie.Need-no-translation-requires
-no-translation-requires c κs = search needs
+nothing-lent-requires : tie.Need-nothing-lent-requires
+nothing-lent-requires c κs = search needs
 
 enum-known-sequence : tie.Need-enum-known-sequence
 enum-known-sequence c = search needs
@@ -29,7 +29,7 @@ translation-answer-requires c κs = search needs
 returns : tie.Need-returns
 returns c =
     let args = c .before .before .before .before .before .before .before .args in
-    translation-refused (c .no-translation .ensures)
+    translation-refused (c .nothing-lent .ensures)
     (subst (FeatureAsked (now (args .listing)) (args .k) (args .j)) (c .before .before .rule .given .1) (c .before .before .before .before .find-feature .ensures))
 
 same-length : tie.Need-same-length
@@ -49,7 +49,7 @@ translation-spec =
     (tie.spec
     find-feature-requires
     enum-known-rule
-    no-translation-requires
+    nothing-lent-requires
     enum-known-sequence
     known-of-requires
     translation-answer-requires

@@ -15,8 +15,8 @@ find-sequence-requires c κs = search needs
 enum-known-rule : tie.Need-enum-known-rule
 enum-known-rule c = search needs
 
-no-translation-requires : tie.Need-no-translation-requires
-no-translation-requires c κs = search needs
+nothing-lent-requires : tie.Need-nothing-lent-requires
+nothing-lent-requires c κs = search needs
 
 enum-known-sequence : tie.Need-enum-known-sequence
 enum-known-sequence c = search needs
@@ -41,7 +41,7 @@ translations-answer-requires c κs = search needs
 returns-2 : tie.Need-returns-2
 returns-2 c =
     let args = c .before .before .before .before .before .before .before .args in
-    translations-refused (c .no-translation .ensures)
+    translations-refused (c .nothing-lent .ensures)
     (subst (SequenceAsked (now (args .listing)) (args .k)) (c .before .before .rule .given .1) (c .before .before .before .before .find-sequence .ensures))
 
 same-length : tie.Need-same-length
@@ -64,7 +64,7 @@ translations-spec =
     (tie.spec
     find-sequence-requires
     enum-known-rule
-    no-translation-requires
+    nothing-lent-requires
     enum-known-sequence
     returns
     known-of-requires

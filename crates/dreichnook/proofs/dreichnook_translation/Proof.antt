@@ -7,8 +7,8 @@ use Rattle.dreichnook.proofs.dreichnook_translation.Tie as tie
 translation-requires : tie.Need-translation-requires
 translation-requires c κs = search needs
 
-hand-translation-requires : tie.Need-hand-translation-requires
-hand-translation-requires c κs = search needs
+hand-lent-requires : tie.Need-hand-lent-requires
+hand-lent-requires c κs = search needs
 
 same-length : tie.Need-same-length
 same-length c = search needs
@@ -16,7 +16,7 @@ same-length c = search needs
 returns : tie.Need-returns
 returns c =
     let translation = c .before .before .before .before .before .translation in
-    translation-handed (translation .ensures) (c .hand-translation .ensures)
+    translation-handed (translation .ensures) (c .hand-lent .ensures)
 
 pub dreichnook-translation-spec : {M : Type 1} → statement M
-dreichnook-translation-spec = tie.close (tie.spec translation-requires hand-translation-requires same-length returns)
+dreichnook-translation-spec = tie.close (tie.spec translation-requires hand-lent-requires same-length returns)

@@ -7,8 +7,8 @@ use Rattle.dreichnook.proofs.dreichnook_translations.Tie as tie
 translations-requires : tie.Need-translations-requires
 translations-requires c κs = search needs
 
-hand-translation-requires : tie.Need-hand-translation-requires
-hand-translation-requires c κs = search needs
+hand-lent-requires : tie.Need-hand-lent-requires
+hand-lent-requires c κs = search needs
 
 same-length : tie.Need-same-length
 same-length c = search needs
@@ -16,7 +16,7 @@ same-length c = search needs
 returns : tie.Need-returns
 returns c =
     let translations = c .before .before .before .before .before .translations in
-    translations-handed (translations .ensures) (c .hand-translation .ensures)
+    translations-handed (translations .ensures) (c .hand-lent .ensures)
 
 pub dreichnook-translations-spec : {M : Type 1} → statement M
-dreichnook-translations-spec = tie.close (tie.spec translations-requires hand-translation-requires same-length returns)
+dreichnook-translations-spec = tie.close (tie.spec translations-requires hand-lent-requires same-length returns)

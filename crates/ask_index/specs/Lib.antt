@@ -1,0 +1,2 @@
+-- What the crate's promises cite beside the paper.
+pub mod Takes
