@@ -14,7 +14,7 @@ use Rattle.paper.specs.Demands.{AnswerOrRefusal, InListing, Demand1, Dem
 use Rattle.paper.proofs.Lists.{in-second, in-gather, number-in}
 use Rattle.paper.proofs.Refusals.{checked, own, sequence-refused, feature-refused, qualifier-refused, location-refused, translation-refused, translations-refused, index-refused, index-check-refused, lent-ends}
 use Rattle.paper.proofs.Inside.{laid-out, accepted-inside}
-use Rattle.paper.proofs.Shown.{parts-shown, residues-inside, feature-inside}
+use Rattle.paper.proofs.Shown.{parts-shown, residues-stated, feature-stated}
 
 module _ {w : List ℕ} where
   sequence-ends : {k n p d : ℕ} {x : Part} → SequenceSays w k n p d x → AnswerOrRefusal n p (NoSequence d x)
@@ -73,12 +73,12 @@ demand1 =
 
 module _ {w : List ℕ} where
   found-inside : {k : ℕ} {s : Sequence ℕ} → FindsSequence w k (give s) → InListing w (partOf (s .residues))
-  found-inside {k} {s} (FindsSequence.sequence {l = l} c i u) = residues-inside (laid-out c) s (number-in (l .sequences) k s i)
+  found-inside {k} {s} (FindsSequence.sequence {l = l} c i u) = residues-stated (laid-out c) s (number-in (l .sequences) k s i) .inside
 
   -- a text of a feature
   text-inside : {k j : ℕ} {s : Sequence ℕ} {f : Feature ℕ} → FindsFeature w k j (give (s, f)) → (t : Text ℕ) → t ∈ featureTexts f → InListing w (partOf t)
-  text-inside {k} {j} {s} {f} (FindsFeature.feature (FindsSequence.sequence {l = l} c i u) n) =
-      feature-inside (laid-out c) s (number-in (l .sequences) k s i) f (number-in (featuresOf s) j f n)
+  text-inside {k} {j} {s} {f} (FindsFeature.feature (FindsSequence.sequence {l = l} c i u) n) t m =
+      feature-stated (laid-out c) s (number-in (l .sequences) k s i) f (number-in (featuresOf s) j f n) t m .inside
 
   qualifier-inside : {k j i : ℕ} {q : Qualifier ℕ} → FindsQualifier w k j i (give q) → (t : Text ℕ) → t ∈ qualifierTexts q → InListing w (partOf t)
   qualifier-inside {i = i} {q} (FindsQualifier.qualifier {f = f} c n) t m =

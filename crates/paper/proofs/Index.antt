@@ -18,7 +18,7 @@ use Rattle.paper.specs.Index.{littleEnd, inBytes, sizeOf, placeAndLength
 use Rattle.paper.proofs.Texts.{same-is}
 use Rattle.paper.proofs.Lists.{Every, every, length-map, of-append, of-gather, gather-append}
 use Rattle.paper.proofs.Inside.{within-limit, laid-out, skipped-bare}
-use Rattle.paper.proofs.Shown.{residues-inside, feature-inside}
+use Rattle.paper.proofs.Shown.{residues-stated, feature-stated}
 use Rattle.paper.proofs.Sizes.{featured, length-featured, listing-room}
 
 -- ---- numbers in bytes
@@ -170,17 +170,17 @@ module _ {w : List ℕ} {l : Listing ℕ} (c : Checked w (give l)) where
   module _ (s : Sequence ℕ) (i : s ∈ l .sequences) where
     in-entry : (f : Feature ℕ) → f ∈ featuresOf s → (n : ℕ) → n ∈ featureEntry f → Small n
     in-entry f j n m =
-        let inside = feature-inside (laid-out c) s i f j in
+        let stated = feature-stated (laid-out c) s i f j in
         ⊎-elim
-        (every Small (placeAndLength (f .key)) (in-part (f .key) (inside (f .key) (0, refl))) n)
-        (every Small (placeAndLength (f .location)) (in-part (f .location) (inside (f .location) (1, refl))) n)
+        (every Small (placeAndLength (f .key)) (in-part (f .key) (stated (f .key) (0, refl) .inside)) n)
+        (every Small (placeAndLength (f .location)) (in-part (f .location) (stated (f .location) (1, refl) .inside)) n)
         (of-append (placeAndLength (f .key)) (placeAndLength (f .location)) n m)
 
     in-body : (n : ℕ) → n ∈ bodyOf s → Small n
     in-body n m =
         let head = kindIn s ∷ placeAndLength (s .residues) in
         ⊎-elim
-        (every Small head (omega (arith, kind-small s), in-part (s .residues) (residues-inside (laid-out c) s i)) n)
+        (every Small head (omega (arith, kind-small s), in-part (s .residues) (residues-stated (laid-out c) s i .inside)) n)
         (of-gather featureEntry (featuresOf s) Small in-entry n)
         (of-append head (gather featureEntry (featuresOf s)) n (subst (λ (x : List ℕ). n ∈ x) (accepted-body c s i) m))
 
