@@ -55,12 +55,12 @@ impl Refusal {
 impl fmt::Display for Refusal {
     fn fmt(&self, f: &mut fmt::Formatter<'_>) -> fmt::Result {
         let Refusal { number, place } = self;
-        match self {
-            _ if self.is_of_listing() => write!(f, "refused by rule {number} at byte {place}")?,
-            _ if self.is_of_index() => {
-                write!(f, "refused with {number} at byte {place} of the index")?
-            }
-            _ => write!(f, "refused with {number}")?,
+        if self.is_of_listing() {
+            write!(f, "refused by rule {number} at byte {place}")?;
+        } else if self.is_of_index() {
+            write!(f, "refused with {number} at byte {place} of the index")?;
+        } else {
+            write!(f, "refused with {number}")?;
         }
         write!(f, ": {}", self.words())
     }
