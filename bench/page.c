@@ -182,10 +182,11 @@ static bool tell_ratios(const struct times *times, bool targeted)
     return made_in_time && found_in_time;
 }
 
-static void tell_names(void)
+/* The names of the columns, the first one named so. */
+static void tell_names(const char *first)
 {
     for (size_t i = 0; i < COUNT(columns); i++) {
-        printf("%14s", columns[i].name);
+        printf("%14s", i == 0 ? first : columns[i].name);
     }
 }
 
@@ -202,7 +203,7 @@ int main(int argc, char **argv)
         take_times(&times[i], argv[2], rounds);
     }
     printf("A page of n figures takes n of these: microseconds of a call, best of %d rounds\n%-22s", rounds, "");
-    tell_names();
+    tell_names("check");
     for (size_t i = 0; i < COUNT(times); i++) {
         printf("\n%-22s", times[i].name);
         for (size_t k = 0; k < COUNT(columns); k++) {
@@ -211,7 +212,7 @@ int main(int argc, char **argv)
     }
     printf("\n\nThe index: times the check, of the call that makes it and of the calls with it; all translations have no target\n");
     printf("%-22s%14s", "", "maker");
-    tell_names();
+    tell_names("index check");
     bool met = true;
     for (size_t i = 0; i < COUNT(times); i++) {
         met = tell_ratios(&times[i], sizes[i / COUNT(mixes)].targeted) && met;
