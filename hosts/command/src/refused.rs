@@ -13,7 +13,8 @@ pub struct Refused<'a> {
 }
 
 impl Refused<'_> {
-    /// What document 01's program prints; an index, and a question of an accepted listing that has no answer, are told apart.
+    /// What document 01's program prints. Told apart are an index, and a question that an accepted listing has no answer
+    /// to.
     pub fn write(&self, out: &mut impl Write) -> io::Result<()> {
         let Refusal { number, place } = self.refusal;
         writeln!(out, "{} refused\nrule {number}\nplace {place}", self.what())
@@ -33,8 +34,8 @@ impl Refused<'_> {
         writeln!(out)
     }
 
-    /// The page of `show` for a refused listing: the rule in words, the line with a mark, and what can be said of it. Of an
-    /// index: the rule in words, and where it differs.
+    /// The page of `show` for a refused listing: the rule in words, the line with a mark, and what can be said of it. For
+    /// an index: the rule in words, and where it differs.
     pub fn write_page(&self, name: &str, out: &mut impl Write) -> io::Result<()> {
         let Refusal { number, place } = self.refusal;
         writeln!(out, "{name}: refused")?;
