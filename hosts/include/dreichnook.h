@@ -1,13 +1,19 @@
 /*
  * Dreichnook: a proved reader of WIPO ST.26 sequence listings, edition 1.2.
  *
- * Seven functions of libdreichnook.a. Each reads one listing from lent bytes, checks it whole, and answers one question.
+ * Fifteen functions of libdreichnook.a. Each reads one listing from lent bytes, checks it whole, and answers one
+ * question. Seven ask of the listing alone; two make an index of it and check one; six look up with an index beside it.
  * No call keeps a pointer, allocates memory, reads a file or has a state: calls from several threads are independent.
  *
  * What is common to all of them
  *
  * The lent listing. `listing` points to `length` bytes, of any content. They are only read. More than DREICHNOOK_LIMIT
  *   bytes are refused by rule 1.
+ *
+ * The lent index. `index` points to `index_length` bytes, of any content. They are only read. Every call that takes one
+ *   checks first the listing, then that the index is the one which dreichnook_index writes for this listing. So a false
+ *   index changes no answer: it is refused, and what is shown is part of the listing. An old index whose every
+ *   number still fits is accepted, and does no harm.
  *
  * The answer. A call returns 0 when it answers, else the number of its refusal. It sets every number it has a pointer to,
  *   in every case. On refusal `*place` has the place and each of the others is 0; on success `*place` is 0.
@@ -17,14 +23,17 @@
  *
  * Numbers. Sequences, features of a sequence and qualifiers of a feature count from 1, in the order of the listing.
  *
- * Lent output. `out` points to `room` elements: numbers of 32 bits for spans, bytes for translations. Success writes the
- *   answer at the front and leaves the rest as it was. A refusal leaves all of it as it was. Refusal 34 doesn't say how
- *   much room is missing.
+ * Lent output. `out` points to `room` elements: numbers of 32 bits for spans, bytes for translations and the index.
+ *   Success writes the answer at the front and leaves the rest as it was. A refusal leaves all of it as it was. Refusal
+ *   34 doesn't say how much room is missing.
  *
- * Pointers. None may be NULL, and each must suit its type: `listing` and `out` too when `length` or `room` is 0 (point
- *   them at any object then). What `out` and the numbers' pointers point to must not overlap each other or the listing.
+ * Pointers. None may be NULL, and each must suit its type: `listing`, `index` and `out` too when `length`,
+ *   `index_length` or `room` is 0 (point them at any object then). What `out` and the numbers' pointers point to must not
+ *   overlap each other, the listing or the index.
  *
- * Cost. Every call checks the whole listing first. So n questions cost n checks.
+ * Cost. Every call checks the whole listing first, and the lent index where it takes one. So n questions cost n checks,
+ *   with an index or without. But the places of all sequences and features can be read off an index that
+ *   dreichnook_index has written, or dreichnook_index_check has taken, for these same bytes: that is one call for all.
  *
  * Refusals, the first that applies:
  *
@@ -32,6 +41,8 @@
  *    2          not of the layout; place: the length of the longest beginning that also begins some layout text
  *   10 to 29,   a rule on values is broken; of all that are, the one with the smallest place, at one place the smallest
  *   40 to 42    number; place: that of the value at fault
+ *   50          the lent index isn't that of the listing; place: that of the first byte in the index that differs, or the
+ *               shorter length where one is a beginning of the other
  *   30          no such sequence
  *   31          the sequence is skipped
  *   32          no such feature
@@ -44,6 +55,18 @@
  * The value at fault is of 18 the first residue outside its kind's symbols (of an entity, its `&`), of 40 the unknown
  * feature key, of 41 the name of the qualifier that its key doesn't allow, of 42 the key whose required qualifier is
  * missing. Refusals 30 to 37 have place 0. DREICHNOOK_... below names them.
+ *
+ * The index: numbers of 32 bits, little-endian, one behind the other. N is the count of sequences.
+ *
+ *   part                    numbers   what they are
+ *   head                    1         N
+ *   table of contents       2 * N     of each sequence, in order: where its body starts, and its size
+ *   bodies, in order, of    3         kind (0 skipped, 1 DNA, 2 RNA, 3 AA); place and length of the residues
+ *   each sequence           4 each    of each feature, in order: place and length of the key, of the location
+ *
+ * Starts count bytes from the index's first; the first body starts at 4 + 8 * N, and each other where the one before it
+ * ends. Sizes and lengths are in bytes too, lengths and places those of parts of the listing. The body of a skipped
+ * sequence has no features; its residues are the text `000`.
  */
 #ifndef DREICHNOOK_H
 #define DREICHNOOK_H
@@ -57,6 +80,13 @@ extern "C" {
 
 /* The longest listing, in bytes. */
 #define DREICHNOOK_LIMIT 16777216
+
+/* Room in bytes that the index of a listing of this length always fits. That is proved: refusal 34 doesn't come then. */
+#define DREICHNOOK_INDEX_ROOM(length) ((length) / 4)
+
+/* How many numbers there are in the index: in its head, of each sequence in the table of contents, in a body before its
+ * features, of each feature. */
+enum { DREICHNOOK_INDEX_HEAD = 1, DREICHNOOK_INDEX_ENTRY = 2, DREICHNOOK_INDEX_BODY = 3, DREICHNOOK_INDEX_FEATURE = 4 };
 
 /* What a call returns. The others of 10 to 29 are rules on values, as 18 and 40 to 42 are. */
 enum {
@@ -74,10 +104,11 @@ enum {
     DREICHNOOK_STOP_INSIDE = 37,
     DREICHNOOK_UNKNOWN_KEY = 40,
     DREICHNOOK_NOT_ALLOWED = 41,
-    DREICHNOOK_REQUIRED_MISSING = 42
+    DREICHNOOK_REQUIRED_MISSING = 42,
+    DREICHNOOK_INDEX_DIFFERS = 50
 };
 
-/* The kinds of sequences; none only on refusal. */
+/* The kinds of sequences; none only on refusal, and in the index of a skipped one. */
 enum { DREICHNOOK_KIND_NONE = 0, DREICHNOOK_DNA = 1, DREICHNOOK_RNA = 2, DREICHNOOK_AA = 3 };
 
 /* The operators of locations; that of complement(join(..)) is join. */
@@ -153,6 +184,52 @@ uint32_t dreichnook_translation(const uint8_t *listing, size_t length, uint64_t 
  */
 uint32_t dreichnook_translations(const uint8_t *listing, size_t length, uint64_t sequence, uint8_t *out, size_t room,
                                  uint64_t *place, uint64_t *size);
+
+/*
+ * The index of the listing, at the front of `out`, and its size in bytes. Room for DREICHNOOK_INDEX_ROOM(length) bytes
+ * always suffices.
+ *
+ * Refusals: the check's, 34.
+ */
+uint32_t dreichnook_index(const uint8_t *listing, size_t length, uint8_t *out, size_t room, uint64_t *place,
+                          uint64_t *size);
+
+/*
+ * Whether the index is that of the listing: the one that dreichnook_index writes for it, byte for byte.
+ *
+ * Refusals: the check's, 50.
+ */
+uint32_t dreichnook_index_check(const uint8_t *listing, size_t length, const uint8_t *index, size_t index_length,
+                                uint64_t *place);
+
+/*
+ * The lookups with an index. Each answers as the one of its name without `indexed` does.
+ *
+ * Refusals: the check's, 50, then the others of that one.
+ */
+uint32_t dreichnook_indexed_sequence(const uint8_t *listing, size_t length, const uint8_t *index, size_t index_length,
+                                     uint64_t sequence, uint64_t *place, uint8_t *kind, uint64_t *start, uint64_t *size);
+
+uint32_t dreichnook_indexed_feature(const uint8_t *listing, size_t length, const uint8_t *index, size_t index_length,
+                                    uint64_t sequence, uint64_t feature, uint64_t *place, uint64_t *key_start,
+                                    uint64_t *key_size, uint64_t *location_start, uint64_t *location_size);
+
+uint32_t dreichnook_indexed_qualifier(const uint8_t *listing, size_t length, const uint8_t *index, size_t index_length,
+                                      uint64_t sequence, uint64_t feature, uint64_t qualifier, uint64_t *place,
+                                      uint64_t *name_start, uint64_t *name_size, uint8_t *present,
+                                      uint64_t *value_start, uint64_t *value_size);
+
+uint32_t dreichnook_indexed_spans(const uint8_t *listing, size_t length, const uint8_t *index, size_t index_length,
+                                  uint64_t sequence, uint64_t feature, uint32_t *out, size_t room, uint64_t *place,
+                                  uint8_t *operator_, uint64_t *count);
+
+uint32_t dreichnook_indexed_translation(const uint8_t *listing, size_t length, const uint8_t *index, size_t index_length,
+                                        uint64_t sequence, uint64_t feature, uint8_t *out, size_t room, uint64_t *place,
+                                        uint64_t *size);
+
+uint32_t dreichnook_indexed_translations(const uint8_t *listing, size_t length, const uint8_t *index,
+                                         size_t index_length, uint64_t sequence, uint8_t *out, size_t room,
+                                         uint64_t *place, uint64_t *size);
 
 #ifdef __cplusplus
 }

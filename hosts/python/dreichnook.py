@@ -1,7 +1,9 @@
 """Dreichnook from Python: a proved reader of WIPO ST.26 sequence listings, edition 1.2.
 
 A Listing is some bytes, of any content; each question about it checks it whole and then answers from those same bytes.
-Sequences, features and qualifiers count from 1. What the calls promise stands in hosts/include/dreichnook.h.
+Sequences, features and qualifiers count from 1. What the calls promise stands in hosts/include/dreichnook.h. One call
+makes the Index of a listing, and the places of all its sequences and features are read off that. An index that came with
+the listing is checked with each question (Listing.with_index).
 
     >>> Listing(b"<?xml?>").check()
     Traceback (most recent call last):
@@ -17,8 +19,9 @@ import operator
 import os
 import pathlib
 import re
+import struct
 from ctypes import POINTER, byref, c_char_p, c_size_t, c_uint8, c_uint32, c_uint64, c_void_p
-from typing import List, NamedTuple, Optional, Tuple
+from typing import Iterator, List, NamedTuple, Optional, Tuple
 
 LIMIT = 16_777_216
 """The longest listing, in bytes."""
@@ -31,6 +34,7 @@ COMPLEMENT, BEFORE, AFTER, SITE = 1, 2, 4, 8
 NOT_A_SYMBOL = 18
 NO_SEQUENCE, SKIPPED, NO_FEATURE, NO_QUALIFIER, NO_ROOM, NOT_A_CDS, UNJUDGED, STOP_INSIDE = range(30, 38)
 UNKNOWN_KEY, NOT_ALLOWED, REQUIRED_MISSING = range(40, 43)
+INDEX_DIFFERS = 50
 
 
 def _table(name):
@@ -44,16 +48,21 @@ WORDS = {int(number): words for number, words in _table("refusals.txt")}
 
 
 class Refusal(Exception):
-    """Why a question wasn't answered: 1, 2, 10 to 29, 40 to 42, the broken rule with its place; 30 to 37, no such answer.
+    """Why a question wasn't answered: 1, 2, 10 to 29, 40 to 42, the broken rule with its place; 30 to 37, no such answer;
+    50, the index beside the listing isn't its own, with the place in the index.
 
-    For rules 18 and 40 to 42 the explanation says what exactly is wrong in the listing, the refused one; else it is None.
+    For rules 18 and 40 to 42 the explanation says what exactly is wrong in the listing, the refused one; for 50, where the
+    index differs; else it is None.
     """
 
-    def __init__(self, number: int, place: int, listing: bytes = b""):
-        where = f"with {number}" if NO_SEQUENCE <= number <= STOP_INSIDE else f"by rule {number} at byte {place}"
+    def __init__(self, number: int, place: int, listing: bytes = b"", index: bytes = b""):
         self.number, self.place = number, place
         self.words = WORDS.get(number, "a rule that this version doesn't know")
-        self.explanation = _explanation(number, place, listing)
+        self.explanation = _explanation(number, place, listing, index)
+        if number == INDEX_DIFFERS:
+            where = f"with {number} at byte {place} of the index"
+        else:
+            where = f"with {number}" if NO_SEQUENCE <= number <= STOP_INSIDE else f"by rule {number} at byte {place}"
         said = f"refused {where}: {self.words}"
         super().__init__(f"{said}: {self.explanation}" if self.explanation else said)
 
@@ -98,15 +107,14 @@ class _Triple(ctypes.Structure):
     _fields_ = [("first", c_uint32), ("last", c_uint32), ("marks", c_uint32)]
 
 
-class Listing:
-    """Some bytes to ask about. Every question raises Refusal where it has no answer."""
+class Lookups:
+    """A listing to look things up in, alone (Listing) or with an index beside it (Listing.with_index). Every question raises
+    Refusal where it has no answer. What is shown is part of the listing, never of the index.
+    """
 
-    def __init__(self, listing):
-        # bytes don't change while they are lent.
-        self._bytes = listing if isinstance(listing, bytes) else bytes(memoryview(listing))
-
-    def check(self) -> Counts:
-        return Counts(*self._ask("check", (), [c_uint64] * 5))
+    def __init__(self, listing, index=None):
+        self._bytes = _bytes(listing)
+        self._index = None if index is None else _bytes(index)
 
     def sequence(self, sequence: int) -> Sequence:
         kind, start, size = self._ask("sequence", (sequence,), [c_uint8, c_uint64, c_uint64])
@@ -138,15 +146,17 @@ class Listing:
         return [None if line == b"-" else line for line in lines]
 
     def _ask(self, name, numbers, cells, lent=()):
-        numbers = [operator.index(number) for number in numbers]
-        # A number of another size would be cut to 64 bits on its way.
-        if not all(0 <= number < 1 << 64 for number in numbers):
-            raise ValueError(f"a number isn't of 64 bits: {numbers}")
+        numbers = [_number(number) for number in numbers]
+        if self._index is None:
+            return self._call(name, (*numbers, *lent), cells)
+        return self._call("indexed_" + name, (self._index, len(self._index), *numbers, *lent), cells, self._index)
+
+    def _call(self, name, arguments, cells, index=b""):
         place, cells = c_uint64(), [cell() for cell in cells]
         function = getattr(_library(), "dreichnook_" + name)
-        number = function(self._bytes, len(self._bytes), *numbers, *lent, byref(place), *map(byref, cells))
+        number = function(self._bytes, len(self._bytes), *arguments, byref(place), *map(byref, cells))
         if number:
-            raise Refusal(number, place.value, self._bytes)
+            raise Refusal(number, place.value, self._bytes, index)
         return [cell.value for cell in cells]
 
     def _lend(self, name, numbers, element, width, cells):
@@ -165,6 +175,139 @@ class Listing:
         return Part(start, self._bytes[start : start + size])
 
 
+class Listing(Lookups):
+    """Some bytes to ask about."""
+
+    def __init__(self, listing):
+        super().__init__(listing)
+
+    def check(self) -> Counts:
+        return Counts(*self._call("check", (), [c_uint64] * 5))
+
+    def index(self) -> "Index":
+        # It always fits; see DREICHNOOK_INDEX_ROOM in the header. What is longer than the limit has none.
+        room = min(len(self._bytes), LIMIT) // 4
+        out = (c_uint8 * room)()
+        (size,) = self._call("index", (out, room), [c_uint64])
+        return Index(self._bytes, bytes(memoryview(out)[:size]))
+
+    def index_check(self, index) -> None:
+        """Whether these bytes are the listing's index; others are refused with 50."""
+        index = _bytes(index)
+        self._call("index_check", (index, len(index)), [], index)
+
+    def with_index(self, index) -> Lookups:
+        """The lookups with an index beside the listing, of any bytes. Each is refused with 50 where index_check is; else it
+        answers as the one without an index does.
+        """
+        return Lookups(self._bytes, index)
+
+
+# The format of the index, which hosts/include/dreichnook.h tells: what the numbers are of its head, of a sequence in the table
+# of contents, of a body before its features, of a feature.
+_HEAD = ("the count of sequences",)
+_ENTRY = ("the start of the body", "the size of the body")
+_BODY = ("the kind", "the place of the residues", "the length of the residues")
+_FEATURE = ("the place of the key", "the length of the key", "the place of the location", "the length of the location")
+_WIDTH = 4
+"""The bytes of a number."""
+
+
+class Index:
+    """The index of a listing, with the listing: Listing.index makes it. The proved maker wrote its numbers from those very
+    bytes. So what is read off it, without a call, is what Lookups would answer.
+    """
+
+    def __init__(self, listing: bytes, made: bytes):
+        self._listing = listing
+        self._numbers = struct.unpack(f"<{len(made) // _WIDTH}I", made)
+        self.bytes = made
+
+    @property
+    def total(self) -> int:
+        """All sequences, skipped ones too."""
+        return self._numbers[0]
+
+    def sequence(self, sequence: int) -> Sequence:
+        body = self._shown(sequence)
+        return Sequence(KINDS[self._numbers[body.start]], self._part(body.start + 1))
+
+    def feature(self, sequence: int, feature: int) -> Feature:
+        features = self._features(self._shown(sequence))
+        if not 1 <= _number(feature) <= len(features):
+            raise Refusal(NO_FEATURE, 0)
+        return self._feature(features[feature - 1])
+
+    def sequences(self) -> Iterator[Optional[Sequence]]:
+        """The sequences in their order; None for one that is skipped."""
+        for sequence in range(1, self.total + 1):
+            skipped = self._numbers[self._body(sequence).start] == 0
+            yield None if skipped else self.sequence(sequence)
+
+    def features(self, sequence: int) -> List[Feature]:
+        """The features of a sequence in their order."""
+        return [self._feature(at) for at in self._features(self._shown(sequence))]
+
+    def _shown(self, sequence):
+        """The body of a sequence that isn't skipped."""
+        if not 1 <= _number(sequence) <= self.total:
+            raise Refusal(NO_SEQUENCE, 0)
+        body = self._body(sequence)
+        if self._numbers[body.start] == 0:
+            raise Refusal(SKIPPED, 0)
+        return body
+
+    def _body(self, sequence):
+        """Which numbers the body of a sequence is."""
+        entry = _entry(sequence)
+        start, size = self._numbers[entry : entry + 2]
+        return range(start // _WIDTH, (start + size) // _WIDTH)
+
+    def _features(self, body):
+        """The first number of each feature."""
+        return body[len(_BODY) :: len(_FEATURE)]
+
+    def _feature(self, at):
+        return Feature(self._part(at), self._part(at + 2))
+
+    def _part(self, at):
+        start, size = self._numbers[at : at + 2]
+        return Part(start, self._listing[start : start + size])
+
+    def _meaning(self, at):
+        """What the number is that is the at-th, from 0."""
+        if at < len(_HEAD):
+            return _HEAD[at]
+        for sequence in range(1, self.total + 1):
+            past_entry, past_body = at - _entry(sequence), at - self._body(sequence).start
+            if 0 <= past_entry < len(_ENTRY):
+                return f"{_ENTRY[past_entry]} of sequence {sequence}"
+            if 0 <= past_body < len(_BODY):
+                return f"{_BODY[past_body]} of sequence {sequence}"
+            if at in self._body(sequence):
+                feature, what = divmod(past_body - len(_BODY), len(_FEATURE))
+                return f"{_FEATURE[what]} of feature {feature + 1} of sequence {sequence}"
+        return None
+
+
+def _entry(sequence):
+    """Which number is the first of a sequence in the table of contents."""
+    return len(_HEAD) + len(_ENTRY) * (sequence - 1)
+
+
+def _bytes(some):
+    # bytes don't change while they are lent.
+    return some if isinstance(some, bytes) else bytes(memoryview(some))
+
+
+def _number(number):
+    number = operator.index(number)
+    # A number of another size would be cut to 64 bits on its way.
+    if not 0 <= number < 1 << 64:
+        raise ValueError(f"a number isn't of 64 bits: {number}")
+    return number
+
+
 @functools.lru_cache(maxsize=None)
 def _library():
     here = pathlib.Path(__file__).resolve().parent
@@ -175,21 +318,29 @@ def _library():
     library = ctypes.CDLL(str(file))
     listing, lent, numbers = [c_char_p, c_size_t], [c_void_p, c_size_t], [c_uint64]
     byte, number = [POINTER(c_uint8)], [POINTER(c_uint64)]
-    for name, types in {
-        "check": number * 6,
+    index = listing
+    lookups = {
         "sequence": numbers + number + byte + number * 2,
         "feature": numbers * 2 + number * 5,
         "qualifier": numbers * 3 + number * 3 + byte + number * 2,
         "spans": numbers * 2 + lent + number + byte + number,
         "translation": numbers * 2 + lent + number * 2,
         "translations": numbers + lent + number * 2,
+    }
+    for name, types in {
+        "check": number * 6,
+        **lookups,
+        "index": lent + number * 2,
+        "index_check": index + number,
+        **{"indexed_" + name: index + types for name, types in lookups.items()},
     }.items():
         function = getattr(library, "dreichnook_" + name)
         function.argtypes, function.restype = listing + types, c_uint32
     return library
 
 
-# The explanations of rules 18 and 40 to 42, as in hosts/rust/src/explain; the tests of both read hosts/words/examples.txt.
+# The explanations of rules 18 and 40 to 42 and of refusal 50, as in hosts/rust/src/explain; the tests of both read
+# hosts/words/examples.txt and index-examples.txt.
 
 _SYMBOLS = {kind.encode(): (kind, symbols.encode(), words) for kind, symbols, words in _table("symbols.txt")}
 _MOLTYPES = {b"DNA": "nucleotides", b"RNA": "nucleotides", b"AA": "AA"}
@@ -232,12 +383,33 @@ def _counted(kind, name):
     return name.lower() if kind == "AA" and name in _OLDER else name
 
 
-def _explanation(number, place, listing):
+def _explanation(number, place, listing, index):
+    if number == INDEX_DIFFERS:
+        return _of_index(place, listing, index)
     if number == NOT_A_SYMBOL:
         return _of_residue(place, listing)
     if UNKNOWN_KEY <= number <= REQUIRED_MISSING:
         return _of_vocabulary(number, place, listing)
     return None
+
+
+def _of_index(place, listing, index):
+    try:
+        made = Listing(listing).index()
+    except Refusal:
+        return None
+    has, needs, at = len(index), len(made.bytes), place // _WIDTH
+    if place == min(has, needs):
+        if has < needs:
+            return f"the index is too short by {needs - has}: it has {has} of {needs} bytes"
+        if has > needs:
+            return f"the index is too long by {has - needs}: it has {has} bytes, the listing gives {needs}"
+        return None
+    if place > min(has, needs) or index[place] == made.bytes[place]:
+        return None
+    number = index[at * _WIDTH :][:_WIDTH]
+    says = f"has {int.from_bytes(number, 'little')}" if len(number) == _WIDTH else "ends amid it"
+    return f"{made._meaning(at)}: the index {says}, the listing gives {made._numbers[at]}"
 
 
 def _of_residue(place, listing):

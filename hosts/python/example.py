@@ -14,12 +14,9 @@ def main(file):
     except dreichnook.Refusal as refusal:
         sys.exit(f"{file}: {refusal}")
     print(f"accepted: {counts.total} sequences, {counts.features} features")
-    for k in range(1, counts.total + 1):
-        try:
-            sequence = listing.sequence(k)
-        except dreichnook.Refusal as refusal:
-            if refusal.number != dreichnook.SKIPPED:
-                raise
+    # One call for the places of all sequences; the translations of each take one of their own.
+    for k, sequence in enumerate(listing.index().sequences(), 1):
+        if sequence is None:
             print(f"sequence {k}: skipped")
             continue
         print(f"sequence {k}: {sequence.kind}, {len(sequence.residues.text)} residues")

@@ -1,6 +1,7 @@
 """python3 test_dreichnook.py: the answers on the published specimens, and on some edits of them."""
 
 import pathlib
+import struct
 import subprocess
 import sys
 import unittest
@@ -15,6 +16,20 @@ LETTERS = b"MLAPDCPFDPTRIYSSSLC"
 
 def specimen(name):
     return (SPECIMENS / name).read_bytes()
+
+
+def specimens(verdict):
+    """The specimens of this verdict, by their names."""
+    rows = [row.split() for row in specimen("expected.txt").decode().splitlines() if not row.startswith("#")]
+    return {row[0]: specimen(row[0]) for row in rows if row[1] == verdict}
+
+
+def answer(ask, *arguments):
+    """What a question gives, or its refusal."""
+    try:
+        return ask(*arguments)
+    except Refusal as refusal:
+        return refusal.number, refusal.place
 
 
 def with_cds(location):
@@ -106,7 +121,9 @@ class Answers(unittest.TestCase):
         self.assertEqual(str(Refusal(17, 603)), "refused by rule 17 at byte 603: division isn't PAT")
         self.assertEqual(str(Refusal(32, 0)), "refused with 32: no such feature")
         self.assertEqual(str(Refusal(40, 2120)), "refused by rule 40 at byte 2120: unknown feature key")
-        self.assertEqual(sorted(dreichnook.WORDS), [1, 2, *range(10, 38), 40, 41, 42])
+        self.assertEqual(sorted(dreichnook.WORDS), [1, 2, *range(10, 38), 40, 41, 42, 50])
+        says = "refused with 50 at byte 96 of the index: the index isn't the one of this listing"
+        self.assertEqual(str(Refusal(50, 96)), says)
 
 
 class Explanations(unittest.TestCase):
@@ -169,6 +186,121 @@ class Explanations(unittest.TestCase):
         says = self.refused(40, piece.replace("KEY", "exon" * (LIMIT // 4))).explanation
         end = ".. (16777216 bytes)` isn't a key of nucleotides; none of the 49 keys is near"
         self.assertEqual(says, "`" + "exon" * 30 + end)
+
+
+class Indexes(unittest.TestCase):
+    """The index: made, checked, read, and lent with each lookup."""
+
+    def test_it_is_that_of_the_format(self):
+        for name, listing in specimens("accepted").items():
+            with self.subTest(name):
+                index = Listing(listing).index()
+                contents, bodies = [], []
+                for k in range(1, index.total + 1):
+                    start = 4 + 8 * index.total + 4 * len(bodies)
+                    sequence = answer(Listing(listing).sequence, k)
+                    if isinstance(sequence, dreichnook.Sequence):
+                        parts = [sequence.residues]
+                        while isinstance(feature := answer(Listing(listing).feature, k, len(parts) // 2 + 1), dreichnook.Feature):
+                            parts += feature
+                        kind = dreichnook.KINDS.index(sequence.kind)
+                    else:
+                        parts = [Part(index._numbers[start // 4 + 1], b"000")]
+                        self.assertEqual((sequence, listing[parts[0].start :][:3]), ((31, 0), b"000"))
+                        kind = 0
+                    bodies += [kind, *(number for part in parts for number in (part.start, len(part.text)))]
+                    contents += [start, 4 + 8 * index.total + 4 * len(bodies) - start]
+                numbers = [Listing(listing).check().total, *contents, *bodies]
+                self.assertEqual(index.bytes, struct.pack(f"<{len(numbers)}I", *numbers))
+                self.assertIsNone(Listing(listing).index_check(index.bytes))
+
+    def test_what_is_read_off_it(self):
+        for name, listing in specimens("accepted").items():
+            with self.subTest(name):
+                alone, index = Listing(listing), Listing(listing).index()
+                each = list(index.sequences())
+                self.assertEqual(len(each), index.total)
+                for k in range(index.total + 2):
+                    self.assertEqual(answer(index.sequence, k), answer(alone.sequence, k))
+                    for j in range(4):
+                        self.assertEqual(answer(index.feature, k, j), answer(alone.feature, k, j))
+                for k, sequence in enumerate(each, 1):
+                    self.assertEqual(sequence or (31, 0), answer(alone.sequence, k))
+                    features = index.features(k) if sequence else []
+                    for j, feature in enumerate(features, 1):
+                        self.assertEqual(feature, alone.feature(k, j))
+                    self.assertEqual(answer(alone.feature, k, len(features) + 1), (32 if sequence else 31, 0))
+        for number in (-1, 1 << 64):
+            self.assertRaises(ValueError, index.sequence, number)
+            self.assertRaises(ValueError, index.feature, 1, number)
+        self.assertRaises(TypeError, index.features, "1")
+
+    def answers(self, lookups, k):
+        said = [answer(lookups.sequence, k), answer(lookups.translations, k)]
+        for j in range(4):
+            said += [answer(ask, k, j) for ask in (lookups.feature, lookups.spans, lookups.translation)]
+            said += [answer(lookups.qualifier, k, j, i) for i in range(4)]
+        return said
+
+    def test_with_its_index_every_lookup_answers_the_same(self):
+        for name, listing in specimens("accepted").items():
+            with self.subTest(name):
+                index = Listing(listing).index()
+                for k in range(index.total + 2):
+                    lent = bytearray(index.bytes)
+                    self.assertEqual(self.answers(Listing(listing).with_index(lent), k), self.answers(Listing(listing), k))
+
+    def test_another_index_is_refused_by_every_lookup(self):
+        listing = Listing(specimen("annex-iii.xml"))
+        right = listing.index().bytes
+        for index, place in ((right[:-1], 591), (right + b"\0", 592), (b"", 0), (right[:-1] + b"\1", 591)):
+            self.assertEqual(answer(listing.index_check, index), (50, place))
+            for k in (0, 3, 7, 12):
+                self.assertEqual(set(self.answers(listing.with_index(index), k)), {(50, place)})
+        self.assertRaises(TypeError, listing.with_index, "index")
+
+    def test_a_refused_listing_has_no_index(self):
+        index = Listing(specimen("annex-iii.xml")).index().bytes
+        for name, listing in {**specimens("refused"), "nothing": b"", "too long": bytes(LIMIT + 1)}.items():
+            with self.subTest(name):
+                refused = answer(Listing(listing).check)
+                self.assertEqual(answer(Listing(listing).index), refused)
+                self.assertEqual(answer(Listing(listing).index_check, index), refused)
+                self.assertEqual(answer(Listing(listing).with_index(index).sequence, 1), refused)
+
+    def edited(self, index, edits):
+        """As hosts/words/index-examples.txt says."""
+        for edit in edits.split():
+            if "=" in edit:
+                at, number = map(int, edit.split("="))
+                index = index[: 4 * at] + struct.pack("<I", number) + index[4 * at + 4 :]
+            else:
+                size = len(index) + int(edit)
+                index = index[:size].ljust(size, b"\0")
+        return index
+
+    def test_every_example_is_explained(self):
+        examples = (HERE.parent / "words" / "index-examples.txt").read_text(encoding="utf-8").splitlines()
+        rows = [row.split("\t") for row in examples if not row.startswith("#")]
+        self.assertEqual(len(rows), 17)
+        for name, edits, place, explanation in rows:
+            with self.subTest(edits):
+                listing = Listing(specimen(name))
+                index = self.edited(listing.index().bytes, edits)
+                for ask, *arguments in ((listing.index_check, index), (listing.with_index(index).sequence, 0)):
+                    with self.assertRaises(Refusal) as caught:
+                        ask(*arguments)
+                    refusal = caught.exception
+                    self.assertEqual((refusal.number, refusal.place, refusal.explanation), (50, int(place), explanation))
+                    self.assertTrue(str(refusal).endswith(": the index isn't the one of this listing: " + explanation))
+
+    def test_what_was_not_refused_so_is_not_explained(self):
+        listing = specimen("annex-iii.xml")
+        index = Listing(listing).index().bytes
+        wrong, size = self.edited(index, "0=12"), len(index)
+        for lent, place in ((index, 0), (index, size), (wrong, 4), (wrong, size), (wrong, size + 1), (wrong, 1 << 63)):
+            self.assertIsNone(Refusal(50, place, listing, lent).explanation)
+        self.assertIsNone(Refusal(50, 0, wrong, wrong).explanation)
 
 
 class Example(unittest.TestCase):

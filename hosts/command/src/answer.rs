@@ -8,7 +8,11 @@ use dreichnook::{
 use std::io::{self, Write};
 
 pub enum Answer<'a> {
-    Counts(Counts),
+    /// `indexed`: an index was lent, and is the listing's.
+    Counts {
+        counts: Counts,
+        indexed: bool,
+    },
     Sequence(Sequence<'a>),
     Feature(Feature<'a>),
     Qualifier(Qualifier<'a>),
@@ -17,19 +21,40 @@ pub enum Answer<'a> {
     Translations(Vec<u8>),
 }
 
+/// What is asked about: a listing, and the index beside it.
+#[derive(Clone, Copy)]
+pub struct Lent<'a> {
+    pub listing: &'a [u8],
+    pub index: Option<&'a [u8]>,
+}
+
 /// Asks the library; of `show` only the verdict that it starts with.
-pub fn ask<'a>(listing: Listing<'a>, question: Question) -> Result<Answer<'a>, Refusal> {
+pub fn ask(lent: Lent<'_>, question: Question) -> Result<Answer<'_>, Refusal> {
+    let Lent { listing, index } = lent;
+    let listing = Listing::new(listing);
+    let lookups = match index {
+        Some(index) => listing.with_index(index),
+        None => *listing,
+    };
     Ok(match question {
-        Question::Check | Question::Show { .. } => Answer::Counts(listing.check()?),
-        Question::Sequence(k) => Answer::Sequence(listing.sequence(k)?),
-        Question::Feature(k, j) => Answer::Feature(listing.feature(k, j)?),
-        Question::Qualifier(k, j, i) => Answer::Qualifier(listing.qualifier(k, j, i)?),
+        Question::Check | Question::Show { .. } => {
+            if let Some(index) = index {
+                listing.index_check(index)?;
+            }
+            Answer::Counts {
+                counts: listing.check()?,
+                indexed: index.is_some(),
+            }
+        }
+        Question::Sequence(k) => Answer::Sequence(lookups.sequence(k)?),
+        Question::Feature(k, j) => Answer::Feature(lookups.feature(k, j)?),
+        Question::Qualifier(k, j, i) => Answer::Qualifier(lookups.qualifier(k, j, i)?),
         Question::Spans(k, j) => {
-            let (operator, spans) = listing.spans(k, j)?;
+            let (operator, spans) = lookups.spans(k, j)?;
             Answer::Spans(operator, spans)
         }
-        Question::Translation(k, j) => Answer::Translation(listing.translation(k, j)?),
-        Question::Translations(k) => Answer::Translations(listing.translations(k)?),
+        Question::Translation(k, j) => Answer::Translation(lookups.translation(k, j)?),
+        Question::Translations(k) => Answer::Translations(lookups.translations(k)?),
     })
 }
 
@@ -37,10 +62,13 @@ impl Answer<'_> {
     /// As lines of a word and what it says; translations as they are.
     pub fn write(&self, out: &mut impl Write) -> io::Result<()> {
         match self {
-            Answer::Counts(counts) => {
+            Answer::Counts { counts, indexed } => {
                 writeln!(out, "verdict accepted")?;
                 for (word, count) in figures(counts) {
                     writeln!(out, "{word} {count}")?;
+                }
+                if *indexed {
+                    writeln!(out, "index accepted")?;
                 }
                 Ok(())
             }
@@ -80,10 +108,12 @@ impl Answer<'_> {
 
     pub fn json(&self) -> Fields {
         match self {
-            Answer::Counts(counts) => {
-                let verdict = ("verdict", Json::from("accepted"));
+            Answer::Counts { counts, indexed } => {
+                let accepted = |word| (word, Json::from("accepted"));
                 let counts = figures(counts).map(|(word, count)| (word, Json::from(count)));
-                [verdict].into_iter().chain(counts).collect()
+                let index = indexed.then(|| accepted("index"));
+                let verdict = [accepted("verdict")].into_iter();
+                verdict.chain(counts).chain(index).collect()
             }
             Answer::Sequence(Sequence { kind, residues }) => vec![
                 ("kind", Json::Text(kind.to_string())),

@@ -8,6 +8,8 @@ pub enum Request {
     Help,
     Version,
     Answer(Arguments),
+    /// The index of the listing of this file is to be written.
+    Index(OsString),
 }
 
 #[derive(Debug, PartialEq, Eq)]
@@ -15,6 +17,8 @@ pub struct Arguments {
     pub question: Question,
     /// `-` is standard input.
     pub file: OsString,
+    /// The index beside it.
+    pub index: Option<OsString>,
     pub json: bool,
 }
 
@@ -31,7 +35,7 @@ pub enum Question {
 }
 
 /// The commands with the words they take.
-const COMMANDS: [(&str, &str); 8] = [
+const COMMANDS: [(&str, &str); 9] = [
     ("check", "FILE"),
     ("show", "FILE"),
     ("sequence", "FILE K"),
@@ -40,18 +44,20 @@ const COMMANDS: [(&str, &str); 8] = [
     ("spans", "FILE K J"),
     ("translation", "FILE K J"),
     ("translations", "FILE K"),
+    ("index", "FILE"),
 ];
 
 /// Reads the words; an error says what is wrong with them.
 pub fn parse(words: impl IntoIterator<Item = OsString>) -> Result<Request, String> {
     let mut words = words.into_iter();
     let mut given = Vec::new();
-    let (mut json, mut from, mut limit) = (false, None, None);
+    let (mut json, mut index, mut from, mut limit) = (false, None, None, None);
     while let Some(word) = words.next() {
         match word.to_str() {
             Some("--help" | "-h") => return Ok(Request::Help),
             Some("--version" | "-V") => return Ok(Request::Version),
             Some("--json") => json = true,
+            Some("--index") => index = Some(words.next().ok_or("--index lacks its file")?),
             Some("--from") => from = Some(number("--from", words.next())?),
             Some("--limit") => limit = Some(number("--limit", words.next())?),
             Some("--") => given.extend(words.by_ref()),
@@ -72,37 +78,49 @@ pub fn parse(words: impl IntoIterator<Item = OsString>) -> Result<Request, Strin
     if command != "show" && (from.is_some() || limit.is_some()) {
         return Err("--from and --limit are for show".into());
     }
+    if command == "index" && (json || index.is_some()) {
+        return Err("index writes an index, and takes neither --json nor --index".into());
+    }
 
     let mut names = takes.split(' ');
     let mut next = || given.next().ok_or_else(usage);
     let file = next()?;
     names.next();
+    if file == "-" && index.as_ref() == Some(&file) {
+        return Err("the listing and its index can't both be standard input".into());
+    }
     let mut next_number = || number(names.next().unwrap_or_default(), Some(next()?));
     let question = match command {
-        "check" => Question::Check,
-        "sequence" => Question::Sequence(next_number()?),
-        "feature" => Question::Feature(next_number()?, next_number()?),
-        "qualifier" => Question::Qualifier(next_number()?, next_number()?, next_number()?),
-        "spans" => Question::Spans(next_number()?, next_number()?),
-        "translation" => Question::Translation(next_number()?, next_number()?),
-        "translations" => Question::Translations(next_number()?),
-        _ => Question::Show {
+        "check" => Some(Question::Check),
+        "sequence" => Some(Question::Sequence(next_number()?)),
+        "feature" => Some(Question::Feature(next_number()?, next_number()?)),
+        "qualifier" => Some(Question::Qualifier(
+            next_number()?,
+            next_number()?,
+            next_number()?,
+        )),
+        "spans" => Some(Question::Spans(next_number()?, next_number()?)),
+        "translation" => Some(Question::Translation(next_number()?, next_number()?)),
+        "translations" => Some(Question::Translations(next_number()?)),
+        "show" => Some(Question::Show {
             from: from.unwrap_or(1),
             limit,
-        },
+        }),
+        _ => None,
     };
-    match given.next() {
-        None => Ok(Request::Answer(Arguments {
+    if let Some(more) = given.next() {
+        let more = more.to_string_lossy();
+        return Err(format!("{more} is one word too many; {}", usage()));
+    }
+    Ok(match question {
+        Some(question) => Request::Answer(Arguments {
             question,
             file,
+            index,
             json,
-        })),
-        Some(more) => Err(format!(
-            "{} is one word too many; {}",
-            more.to_string_lossy(),
-            usage()
-        )),
-    }
+        }),
+        None => Request::Index(file),
+    })
 }
 
 /// A number in decimal digits and nothing else.
@@ -124,15 +142,21 @@ mod tests {
         parse(line.split_whitespace().map(OsString::from))
     }
 
-    fn asks(line: &str) -> (Question, String, bool) {
+    fn arguments(line: &str) -> Arguments {
         match parsed(line) {
-            Ok(Request::Answer(Arguments {
-                question,
-                file,
-                json,
-            })) => (question, file.into_string().unwrap(), json),
+            Ok(Request::Answer(arguments)) => arguments,
             other => panic!("{line}: {other:?}"),
         }
+    }
+
+    fn asks(line: &str) -> (Question, String, bool) {
+        let Arguments {
+            question,
+            file,
+            json,
+            ..
+        } = arguments(line);
+        (question, file.into_string().unwrap(), json)
     }
 
     #[test]
@@ -173,6 +197,25 @@ mod tests {
     }
 
     #[test]
+    fn an_index_is_lent_with_any_question() {
+        for line in [
+            "--index a.idx sequence a.xml 1",
+            "check - --index a.idx",
+            "show a.xml --index a.idx --json",
+        ] {
+            assert_eq!(arguments(line).index, Some("a.idx".into()), "{line}");
+        }
+        assert_eq!(arguments("check a.xml --index -").index, Some("-".into()));
+        assert_eq!(arguments("check a.xml").index, None);
+    }
+
+    #[test]
+    fn an_index_is_written() {
+        assert_eq!(parsed("index a.xml"), Ok(Request::Index("a.xml".into())));
+        assert_eq!(parsed("index -"), Ok(Request::Index("-".into())));
+    }
+
+    #[test]
     fn misuse_is_told() {
         let cases = [
             ("", "no command is given"),
@@ -202,6 +245,24 @@ mod tests {
                 "--from must be a number, and \"x\" is none",
             ),
             ("check a.xml --limit 3", "--from and --limit are for show"),
+            ("check a.xml --index", "--index lacks its file"),
+            (
+                "check - --index -",
+                "the listing and its index can't both be standard input",
+            ),
+            (
+                "index a.xml --json",
+                "index writes an index, and takes neither --json nor --index",
+            ),
+            (
+                "index a.xml --index a.idx",
+                "index writes an index, and takes neither --json nor --index",
+            ),
+            ("index", "usage: dreichnook index FILE"),
+            (
+                "index a.xml a.idx",
+                "a.idx is one word too many; usage: dreichnook index FILE",
+            ),
             ("check a.xml --jason", "there is no option --jason"),
         ];
         for (line, says) in cases {

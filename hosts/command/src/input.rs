@@ -1,10 +1,11 @@
-//! The bytes of a listing, from a file or standard input.
+//! The bytes of a listing or an index, from a file or standard input.
 
 use std::ffi::OsStr;
 use std::fs::File;
 use std::io::{self, ErrorKind, Read};
 
-/// Reads a listing. One byte above the limit is enough for rule 1, so a huge file costs nothing.
+/// Reads a listing or an index. One byte above the limit is enough for rule 1, and no index is as long, so a huge file
+/// costs nothing.
 pub fn read(file: &OsStr) -> Result<Vec<u8>, String> {
     let name = name(file);
     if file == "-" {
@@ -26,7 +27,7 @@ pub fn read(file: &OsStr) -> Result<Vec<u8>, String> {
     }
 }
 
-/// What to call the listing.
+/// What to call the file.
 pub fn name(file: &OsStr) -> String {
     if file == "-" {
         return "standard input".into();

@@ -9,14 +9,16 @@ mod place;
 mod refused;
 mod show;
 
-use answer::{ask, Answer};
+use answer::{ask, Answer, Lent};
 use arguments::{parse, Arguments, Question, Request};
 use dreichnook::{Listing, Refusal};
 use json::Json;
 use refused::Refused;
 use show::Walk;
 use std::env;
+use std::ffi::OsStr;
 use std::io::{self, stderr, stdout, BufWriter, ErrorKind, Write};
+use std::os::raw::c_int;
 use std::process::ExitCode;
 
 const HELP: &str = include_str!("help.txt");
@@ -28,6 +30,7 @@ fn main() -> ExitCode {
     let mut out = BufWriter::new(stdout().lock());
     let arguments = match parse(env::args_os().skip(1)) {
         Ok(Request::Answer(arguments)) => arguments,
+        Ok(Request::Index(file)) => return write_index(&file, &mut out),
         Ok(Request::Help) => return ended(0, write!(out, "{HELP}").and_then(|()| out.flush())),
         Ok(Request::Version) => {
             let version = env!("CARGO_PKG_VERSION");
@@ -36,37 +39,39 @@ fn main() -> ExitCode {
         }
         Err(misuse) => return trouble(&format!("{misuse}\n`dreichnook --help` says how to ask.")),
     };
-    let bytes = match input::read(&arguments.file) {
-        Ok(bytes) => bytes,
-        Err(misuse) => return trouble(&misuse),
+    let index = arguments.index.as_deref().map(input::read);
+    let (bytes, index) = match (input::read(&arguments.file), index.transpose()) {
+        (Ok(bytes), Ok(index)) => (bytes, index),
+        (Err(misuse), _) | (_, Err(misuse)) => return trouble(&misuse),
     };
-    let (status, written) = match ask(Listing::new(&bytes), arguments.question) {
-        Ok(answer) => answered(&arguments, &bytes, &answer, &mut out),
-        Err(refusal) => (REFUSED, refused(&arguments, &bytes, refusal, &mut out)),
+    let lent = Lent {
+        listing: &bytes,
+        index: index.as_deref(),
+    };
+    let (status, written) = match ask(lent, arguments.question) {
+        Ok(answer) => answered(&arguments, lent, &answer, &mut out),
+        Err(refusal) => (REFUSED, refused(&arguments, lent, refusal, &mut out)),
     };
     ended(status, written.and_then(|()| out.flush()))
 }
 
 fn answered(
     arguments: &Arguments,
-    bytes: &[u8],
+    lent: Lent,
     answer: &Answer,
     out: &mut impl Write,
 ) -> (u8, io::Result<()>) {
     let written = match (arguments.question, answer) {
-        (Question::Show { from, limit }, Answer::Counts(counts)) => {
-            match Listing::new(bytes).sequence(from) {
-                Err(refusal) if refusal.number == Refusal::NO_SEQUENCE => {
-                    return (REFUSED, refused(arguments, bytes, refusal, out));
-                }
-                _ => {}
-            }
-            let walk = Walk::new(bytes, counts.total, from, limit);
+        (Question::Show { from, limit }, Answer::Counts { counts, indexed }) => {
+            let walk = match Walk::new(lent.listing, from, limit) {
+                Ok(walk) => walk,
+                Err(refusal) => return (REFUSED, refused(arguments, lent, refusal, out)),
+            };
             if arguments.json {
                 show_json(answer, walk, out)
             } else {
                 let name = input::name(&arguments.file);
-                page::write_head(&name, counts, out)
+                page::write_head(&name, counts, *indexed, out)
                     .and_then(|()| show_page(walk, counts.total, out))
             }
         }
@@ -104,26 +109,67 @@ fn answer_again<T>(answer: Result<T, Refusal>) -> io::Result<T> {
 
 fn refused(
     arguments: &Arguments,
-    bytes: &[u8],
+    lent: Lent,
     refusal: Refusal,
     out: &mut impl Write,
 ) -> io::Result<()> {
-    let name = input::name(&arguments.file);
-    let refused = Refused {
-        listing: bytes,
-        refusal,
+    let file = match &arguments.index {
+        Some(index) if refusal.is_of_index() => index,
+        _ => &arguments.file,
     };
+    let name = input::name(file);
+    let refused = Refused { lent, refusal };
     if arguments.json {
         return writeln!(out, "{}", Json::Object(refused.json()));
     }
     let is_shown = matches!(arguments.question, Question::Show { .. });
-    if is_shown && refusal.is_of_listing() {
+    if is_shown && (refusal.is_of_listing() || refusal.is_of_index()) {
         return refused.write_page(&name, out);
     }
     refused.write(out)?;
     // A reader of the words may be gone; the answer counts.
     let _ = refused.write_words(&name, &mut stderr());
     Ok(())
+}
+
+/// Writes the index of the listing in a file, or nothing.
+fn write_index(file: &OsStr, out: &mut impl Write) -> ExitCode {
+    if is_terminal() {
+        return trouble(
+            "an index isn't text; write it to a file: dreichnook index FILE > FILE.idx",
+        );
+    }
+    let bytes = match input::read(file) {
+        Ok(bytes) => bytes,
+        Err(misuse) => return trouble(&misuse),
+    };
+    match Listing::new(&bytes).index() {
+        Ok(index) => ended(
+            0,
+            out.write_all(index.as_bytes()).and_then(|()| out.flush()),
+        ),
+        Err(refusal) => {
+            let lent = Lent {
+                listing: &bytes,
+                index: None,
+            };
+            // To standard error alone: what reads standard output wants an index.
+            let words = Refused { lent, refusal };
+            ended(
+                REFUSED,
+                words.write_words(&input::name(file), &mut stderr()),
+            )
+        }
+    }
+}
+
+/// Whether standard output is one. Rust 1.63 has no other way to ask.
+fn is_terminal() -> bool {
+    extern "C" {
+        fn isatty(file: c_int) -> c_int;
+    }
+    // SAFETY: it takes any number, and only asks.
+    unsafe { isatty(1) == 1 }
 }
 
 /// The status; a reader that has seen enough, as `head` has, changes nothing.

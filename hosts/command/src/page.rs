@@ -12,7 +12,12 @@ const SPANS: usize = 8;
 /// Residues in a line, in groups of ten.
 const LINE: usize = 60;
 
-pub fn write_head(name: &str, counts: &Counts, out: &mut impl Write) -> io::Result<()> {
+pub fn write_head(
+    name: &str,
+    counts: &Counts,
+    indexed: bool,
+    out: &mut impl Write,
+) -> io::Result<()> {
     let Counts {
         total,
         skipped,
@@ -25,7 +30,11 @@ pub fn write_head(name: &str, counts: &Counts, out: &mut impl Write) -> io::Resu
         out,
         "sequences {total}, of them skipped {skipped}; features {features}"
     )?;
-    writeln!(out, "coding sequences judged {judged}, unjudged {unjudged}")
+    writeln!(out, "coding sequences judged {judged}, unjudged {unjudged}")?;
+    if indexed {
+        writeln!(out, "the index beside it is its own")?;
+    }
+    Ok(())
 }
 
 pub fn write_sequence(shown: &ShownSequence, out: &mut impl Write) -> io::Result<()> {
@@ -96,7 +105,7 @@ pub fn write_foot(walk: &Walk, total: u64, out: &mut impl Write) -> io::Result<(
         writeln!(out, "\nStopped amid sequence {next} of {total}.")?;
         writeln!(
             out,
-            "Each question checks the whole listing, and these were many. \
+            "For spans, translations and qualifiers the listing is checked each time, and these were many. \
              --limit N shows N sequences to their end, however long it takes."
         )?;
     } else {

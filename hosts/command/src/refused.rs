@@ -1,18 +1,20 @@
 //! A refusal, as lines, in words, or as JSON.
 
+use crate::answer::Lent;
 use crate::json::{Fields, Json};
 use crate::place::{marked, position, stretch, Position};
 use dreichnook::Refusal;
 use std::io::{self, Write};
 
-/// A refusal of the listing that it came from.
+/// A refusal of what it came from.
 pub struct Refused<'a> {
-    pub listing: &'a [u8],
+    pub lent: Lent<'a>,
     pub refusal: Refusal,
 }
 
 impl Refused<'_> {
-    /// What document 01's program prints; a question of an accepted listing that has no answer is told apart.
+    /// What document 01's program prints. Told apart are an index, and a question that an accepted listing has no answer
+    /// to.
     pub fn write(&self, out: &mut impl Write) -> io::Result<()> {
         let Refusal { number, place } = self.refusal;
         writeln!(out, "{} refused\nrule {number}\nplace {place}", self.what())
@@ -32,16 +34,17 @@ impl Refused<'_> {
         writeln!(out)
     }
 
-    /// The page of `show` for a refused listing: the rule in words, the line with a mark, and what can be said of it.
+    /// The page of `show` for a refused listing: the rule in words, the line with a mark, and what can be said of it. For
+    /// an index: the rule in words, and where it differs.
     pub fn write_page(&self, name: &str, out: &mut impl Write) -> io::Result<()> {
         let Refusal { number, place } = self.refusal;
         writeln!(out, "{name}: refused")?;
         writeln!(out, "rule {number}: {}", self.refusal.words())?;
         if let Some(Position { line, column }) = self.position() {
             writeln!(out, "byte {place}, line {line}, column {column}:\n")?;
-            let [line, mark] = marked(self.listing, place as usize);
+            let [line, mark] = marked(self.lent.listing, place as usize);
             writeln!(out, "    {line}\n    {mark}")?;
-            if place as usize == self.listing.len() {
+            if place as usize == self.lent.listing.len() {
                 writeln!(out, "\nThe listing ends there, too soon.")?;
             } else if number == Refusal::NOT_THE_LAYOUT {
                 writeln!(
@@ -51,6 +54,8 @@ impl Refused<'_> {
             } else if let Some(explanation) = self.explanation() {
                 writeln!(out, "\n{explanation}")?;
             }
+        } else if let Some(explanation) = self.explanation() {
+            writeln!(out, "byte {place} of the index:\n\n{explanation}")?;
         }
         Ok(())
     }
@@ -66,7 +71,7 @@ impl Refused<'_> {
         if let Some(Position { line, column }) = self.position() {
             fields.push(("line", line.into()));
             fields.push(("column", column.into()));
-            let stretch = stretch(self.listing, place as usize);
+            let stretch = stretch(self.lent.listing, place as usize);
             fields.push(("stretch", Json::Text(stretch)));
         }
         if let Some(explanation) = self.explanation() {
@@ -78,19 +83,23 @@ impl Refused<'_> {
     fn what(&self) -> &'static str {
         if self.refusal.is_of_listing() {
             "verdict"
+        } else if self.refusal.is_of_index() {
+            "index"
         } else {
             "answer"
         }
     }
 
     fn explanation(&self) -> Option<String> {
-        self.refusal.explanation(self.listing)
+        let Lent { listing, index } = self.lent;
+        let index = index.unwrap_or_default();
+        self.refusal.explanation_with_index(listing, index)
     }
 
-    /// Where the fault stands; a listing that is too long has it nowhere, and neither has a question.
+    /// Where the fault stands in the listing; one that is too long has it nowhere, and neither has a question.
     fn position(&self) -> Option<Position> {
         let Refusal { number, place } = self.refusal;
         let somewhere = self.refusal.is_of_listing() && number != Refusal::TOO_LONG;
-        somewhere.then(|| position(self.listing, place as usize))
+        somewhere.then(|| position(self.lent.listing, place as usize))
     }
 }

@@ -2,7 +2,7 @@
 
 use crate::answer::Answer;
 use crate::json::{Fields, Json};
-use dreichnook::{Feature, Listing, Operator, Qualifier, Refusal, Sequence, Span};
+use dreichnook::{Feature, Index, Listing, Operator, Qualifier, Refusal, Sequence, Span};
 
 /// A sequence with its features.
 pub struct ShownSequence<'a> {
@@ -21,11 +21,12 @@ pub struct ShownFeature<'a> {
     pub qualifiers: Vec<Qualifier<'a>>,
 }
 
-/// The sequences of an accepted listing, from one number to another. Each question checks the whole listing anew, so the
-/// walk has a purse, counted in bytes that are read; when it is empty, the walk stops, maybe amid a sequence.
+/// The sequences of an accepted listing, from one number to another. Where sequences and features stand is read off one
+/// index. Each question for the others checks the whole listing anew, so the walk has a purse, counted in bytes that are
+/// read; when it is empty, the walk stops amid a sequence.
 pub struct Walk<'a> {
     listing: Listing<'a>,
-    total: u64,
+    index: Index<'a>,
     next: u64,
     last: u64,
     price: u64,
@@ -40,18 +41,22 @@ const PURSE: u64 = 2 << 30;
 const LEAST: u64 = 4_096;
 
 impl<'a> Walk<'a> {
-    /// `limit` sequences from `from` on, in full; without a limit, as many as the purse pays for.
-    pub fn new(bytes: &'a [u8], total: u64, from: u64, limit: Option<u64>) -> Walk<'a> {
-        let last = limit.map_or(total, |limit| total.min((from - 1).saturating_add(limit)));
-        Walk {
-            listing: Listing::new(bytes),
-            total,
+    /// `limit` sequences from `from` on, in full; without a limit, as many as the purse pays for. Refused where there is no
+    /// sequence `from`.
+    pub fn new(bytes: &'a [u8], from: u64, limit: Option<u64>) -> Result<Walk<'a>, Refusal> {
+        let listing = Listing::new(bytes);
+        let index = listing.index()?;
+        unless(Refusal::SKIPPED, index.sequence(from))?;
+        let total = index.total();
+        Ok(Walk {
+            listing,
+            index,
             next: from,
-            last,
+            last: limit.map_or(total, |limit| total.min((from - 1).saturating_add(limit))),
             price: bytes.len() as u64 + LEAST,
             purse: if limit.is_some() { None } else { Some(PURSE) },
             stopped_amid: None,
-        }
+        })
     }
 
     /// The sequence that isn't shown to its end.
@@ -62,7 +67,7 @@ impl<'a> Walk<'a> {
     /// The sequence to go on with, where not all are shown to their end.
     pub fn next_number(&self) -> Option<u64> {
         let next = self.stopped_amid.unwrap_or(self.next);
-        Some(next).filter(|&next| next <= self.total)
+        Some(next).filter(|&next| next <= self.index.total())
     }
 
     fn pays(&mut self, questions: u64) -> bool {
@@ -75,19 +80,17 @@ impl<'a> Walk<'a> {
     }
 
     fn sequence(&mut self, k: u64) -> Result<ShownSequence<'a>, Refusal> {
-        let sequence = unless(Refusal::SKIPPED, self.listing.sequence(k))?;
+        let sequence = unless(Refusal::SKIPPED, self.index.sequence(k))?;
         let mut features = Vec::new();
         if sequence.is_some() {
-            for j in 1.. {
+            let placed: Vec<_> = self.index.features(k)?.collect();
+            for (j, feature) in (1..).zip(placed) {
                 // With its spans and its translation, so that none is shown without.
-                if !self.pays(3) {
+                if !self.pays(1 + u64::from(may_have_translation(&feature))) {
                     self.stopped_amid = Some(k);
                     break;
                 }
-                match unless(Refusal::NO_FEATURE, self.listing.feature(k, j))? {
-                    Some(feature) => features.push(self.feature(k, j, feature)?),
-                    None => break,
-                }
+                features.push(self.feature(k, j, feature)?);
             }
         }
         Ok(ShownSequence {
@@ -104,8 +107,7 @@ impl<'a> Walk<'a> {
         feature: Feature<'a>,
     ) -> Result<ShownFeature<'a>, Refusal> {
         let spans = self.listing.spans(k, j)?;
-        // The library says whether it is a CDS; of other keys that is known.
-        let translation = if feature.key.bytes == b"CDS" {
+        let translation = if may_have_translation(&feature) {
             let said = self.listing.translation(k, j);
             Some(said).filter(|said| !refused_with(Refusal::NOT_A_CDS, said))
         } else {
@@ -135,13 +137,18 @@ impl<'a> Iterator for Walk<'a> {
     type Item = Result<ShownSequence<'a>, Refusal>;
 
     fn next(&mut self) -> Option<Self::Item> {
-        if self.stopped_amid.is_some() || self.next > self.last || !self.pays(1) {
+        if self.stopped_amid.is_some() || self.next > self.last {
             return None;
         }
         let k = self.next;
         self.next += 1;
         Some(self.sequence(k))
     }
+}
+
+/// The library says whether it is a CDS of DNA or RNA; of other keys that is known.
+fn may_have_translation(feature: &Feature) -> bool {
+    feature.key.bytes == b"CDS"
 }
 
 /// An answer, or nothing where the refusal is the one that ends a list.
@@ -212,14 +219,14 @@ mod tests {
     }
 
     fn with_purse(questions: u64) -> Walk<'static> {
-        let mut walk = Walk::new(ANNEX, 11, 3, None);
+        let mut walk = Walk::new(ANNEX, 3, None).unwrap();
         walk.purse = Some(questions * walk.price);
         walk
     }
 
     #[test]
     fn all_of_it() {
-        let (shown, stopped, next) = walked(Walk::new(ANNEX, 11, 1, None));
+        let (shown, stopped, next) = walked(Walk::new(ANNEX, 1, None).unwrap());
         let features = shown.iter().map(|(_, features)| features).sum::<usize>();
         assert_eq!((shown.len(), features), (11, 23));
         assert_eq!((stopped, next), (None, None));
@@ -227,19 +234,28 @@ mod tests {
 
     #[test]
     fn a_limit_of_sequences() {
-        let limited = |from, limit| walked(Walk::new(ANNEX, 11, from, Some(limit)));
+        let limited = |from, limit| walked(Walk::new(ANNEX, from, Some(limit)).unwrap());
         assert_eq!(limited(3, 2), (vec![(3, 2), (4, 1)], None, Some(5)));
         assert_eq!(limited(11, u64::MAX), (vec![(11, 1)], None, None));
         assert_eq!(limited(1, 0), (vec![], None, Some(1)));
     }
 
     #[test]
+    fn a_start_that_is_no_sequence() {
+        for from in [0, 12, u64::MAX] {
+            let refused = Walk::new(ANNEX, from, None).err().unwrap();
+            assert_eq!(refused.number, Refusal::NO_SEQUENCE);
+        }
+        assert_eq!(walked(Walk::new(ANNEX, 7, Some(1)).unwrap()).0, [(7, 0)]);
+    }
+
+    #[test]
     fn an_empty_purse_stops_the_walk() {
-        // Sequence 3 costs 1, twice 3 with 3 qualifiers' questions, and 3 to learn that there is no more.
-        assert_eq!(walked(with_purse(16)), (vec![(3, 2)], None, Some(4)));
-        assert_eq!(walked(with_purse(15)), (vec![(3, 2)], Some(3), Some(3)));
-        assert_eq!(walked(with_purse(6)), (vec![(3, 1)], Some(3), Some(3)));
-        assert_eq!(walked(with_purse(1)), (vec![(3, 0)], Some(3), Some(3)));
-        assert_eq!(walked(with_purse(0)), (vec![], None, Some(3)));
+        // Sequence 3 costs 1 for each spans, 1 for the CDS's translation, twice 3 for qualifiers; the next one 1 at least.
+        let fourth = (vec![(3, 2), (4, 0)], Some(4), Some(4));
+        assert_eq!(walked(with_purse(9)), fourth);
+        assert_eq!(walked(with_purse(8)), (vec![(3, 2)], Some(3), Some(3)));
+        assert_eq!(walked(with_purse(5)), (vec![(3, 1)], Some(3), Some(3)));
+        assert_eq!(walked(with_purse(0)), (vec![(3, 0)], Some(3), Some(3)));
     }
 }

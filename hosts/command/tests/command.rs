@@ -241,6 +241,114 @@ fn answers_in_lines_and_json() {
     }
 }
 
+/// The index of a specimen, in a file of this test's own.
+fn index_of(specimen: &str, name: &str) -> String {
+    let output = run(&format!("index {specimen}"));
+    assert_eq!(
+        (output.stderr.as_slice(), output.status.code()),
+        (&b""[..], Some(0))
+    );
+    let file = own_file(name);
+    fs::write(&file, output.stdout).unwrap();
+    file.into_os_string().into_string().unwrap()
+}
+
+const QUESTIONS: [&str; 6] = [
+    "sequence F 3",
+    "feature F 3 2",
+    "qualifier F 3 2 1",
+    "spans F 3 2",
+    "translation F 3 2",
+    "translations F 3",
+];
+
+#[test]
+fn with_its_index_every_answer_is_the_same() {
+    let index = index_of("annex-iii.xml", "annex-iii.idx");
+    let more = ["sequence F 7", "feature F 0 1", "qualifier F 3 2 3"];
+    for question in QUESTIONS.iter().chain(&more) {
+        for json in ["", " --json"] {
+            let line = question.replace('F', "annex-iii.xml") + json;
+            let with_index = format!("--index {index} {line}");
+            assert_eq!(said(run(&with_index)), said(run(&line)), "{line}");
+        }
+    }
+
+    let check = format!("check annex-iii.xml --index {index}");
+    let (out, error, code) = said(run(&check));
+    assert!(out.ends_with("\nunjudged 1\nindex accepted\n"), "{out}");
+    assert_eq!((error.as_str(), code), ("", 0));
+    let (out, _, _) = said(run(&format!("{check} --json")));
+    assert!(
+        out.ends_with(",\"unjudged\":1,\"index\":\"accepted\"}\n"),
+        "{out}"
+    );
+    let (page, _, _) = said(run("show annex-iii.xml"));
+    let (indexed, error, code) = said(run(&format!("show annex-iii.xml --index {index}")));
+    assert_eq!(
+        indexed.replace("the index beside it is its own\n", ""),
+        page
+    );
+    assert_eq!((error.as_str(), code, indexed == page), ("", 0, false));
+
+    let bytes = fs::read(&index).unwrap();
+    let (out, _, code) = said(run_with_input("check annex-iii.xml --index -", &bytes));
+    assert!(code == 0 && out.ends_with("\nindex accepted\n"), "{out}");
+}
+
+#[test]
+fn another_index_is_refused_and_told_of() {
+    let index = index_of("annex-iii.xml", "edited.idx");
+    let mut bytes = fs::read(&index).unwrap();
+    bytes[148] = 2;
+    fs::write(&index, bytes).unwrap();
+    let words = "the index isn't the one of this listing";
+    let explanation = "the kind of sequence 3: the index has 2, the listing gives 1";
+
+    let no_answer = ["check F", "sequence F 0", "translation F 3 1"];
+    for question in QUESTIONS.iter().chain(&no_answer) {
+        let line = format!("--index {index} {}", question.replace('F', "annex-iii.xml"));
+        let (out, error, code) = said(run(&line));
+        assert_eq!(
+            (out.as_str(), code),
+            ("index refused\nrule 50\nplace 148\n", 1),
+            "{line}"
+        );
+        assert_eq!(
+            error,
+            format!("{index}: rule 50: {words}: {explanation}\n"),
+            "{line}"
+        );
+        let (out, error, code) = said(run(&format!("{line} --json")));
+        let json = format!(
+            r#"{{"index":"refused","rule":50,"place":148,"words":"{words}","explanation":"{explanation}"}}"#
+        );
+        assert_eq!(
+            (out, error, code),
+            (format!("{json}\n"), String::new(), 1),
+            "{line}"
+        );
+    }
+    let (out, error, code) = said(run(&format!("show annex-iii.xml --index {index}")));
+    let page =
+        format!("{index}: refused\nrule 50: {words}\nbyte 148 of the index:\n\n{explanation}\n");
+    assert_eq!((out, error, code), (page, String::new(), 1));
+
+    // The listing is judged first.
+    let line = "check 02-1-exonn.xml";
+    let with_index = format!("{line} --index {index}");
+    assert_eq!(said(run(&with_index)), said(run(line)));
+}
+
+#[test]
+fn a_refused_listing_has_no_index() {
+    let file = "02-1-exonn.xml";
+    let (out, error, code) = said(run(&format!("index {file}")));
+    assert_eq!((out.as_str(), code), ("", 1));
+    let words = "rule 40: unknown feature key: `exonn` isn't a key of nucleotides; nearest: exon";
+    assert_eq!(error, format!("{file}:49:28: {words}\n"));
+}
+
 #[test]
 fn a_question_without_an_answer_is_refused() {
     let cases = [
@@ -485,6 +593,11 @@ fn misuse_has_status_2_and_says_what() {
         ),
         ("look annex-iii.xml", "there is no command look"),
         ("check annex-iii.xml --jason", "there is no option --jason"),
+        ("index no-such.xml", "there is no file no-such.xml"),
+        (
+            "check annex-iii.xml --index no-such.idx",
+            "there is no file no-such.idx",
+        ),
     ];
     for (line, says) in cases {
         let (out, error, code) = said(run(line));
@@ -512,6 +625,7 @@ fn help_and_version() {
         "spans",
         "translation",
         "translations",
+        "index",
     ] {
         assert!(out.contains(&format!("  dreichnook {name} FILE")), "{name}");
     }

@@ -1,6 +1,6 @@
 //! `cargo run --example read FILE`: the verdict on a listing, then the translations of each sequence.
 
-use dreichnook::{Listing, Refusal};
+use dreichnook::Listing;
 use std::error::Error;
 
 fn main() -> Result<(), Box<dyn Error>> {
@@ -12,15 +12,15 @@ fn main() -> Result<(), Box<dyn Error>> {
         "accepted: {} sequences, {} features",
         counts.total, counts.features
     );
-    for k in 1..=counts.total {
-        match listing.sequence(k) {
-            Ok(sequence) => {
+    // One call for the places of all sequences; the translations of each take one of their own.
+    for (k, sequence) in (1..).zip(listing.index()?.sequences()) {
+        match sequence {
+            Some(sequence) => {
                 let size = sequence.residues.bytes.len();
                 println!("sequence {k}: {}, {size} residues", sequence.kind);
                 print!("{}", String::from_utf8(listing.translations(k)?)?);
             }
-            Err(refusal) if refusal.number == Refusal::SKIPPED => println!("sequence {k}: skipped"),
-            Err(refusal) => return Err(refusal.into()),
+            None => println!("sequence {k}: skipped"),
         }
     }
     Ok(())

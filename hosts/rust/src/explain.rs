@@ -1,7 +1,8 @@
-//! What exactly breaks rule 18, 40, 41 or 42, in words for people. hosts/python/dreichnook.py says the same; the tests of
-//! both read hosts/words/examples.txt.
+//! What exactly breaks rule 18, 40, 41 or 42, and where an index differs, in words for people. hosts/python/dreichnook.py
+//! says the same; the tests of both read hosts/words/examples.txt and index-examples.txt.
 
 mod element;
+mod index;
 mod residue;
 mod vocabulary;
 
@@ -20,6 +21,15 @@ impl Refusal {
             }
             _ => None,
         }
+    }
+
+    /// The same where an index was lent. For 50: which number of the index differs first, what it is in the index and what
+    /// in the listing; or by how much the index is too short or too long.
+    pub fn explanation_with_index(&self, listing: &[u8], index: &[u8]) -> Option<String> {
+        if !self.is_of_index() {
+            return self.explanation(listing);
+        }
+        index::explanation(listing, index, self.place.try_into().ok()?)
     }
 }
 

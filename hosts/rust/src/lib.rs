@@ -8,14 +8,21 @@
 //! assert_eq!((refusal.number, refusal.place), (2, 5));
 //! assert_eq!(refusal.to_string(), "refused by rule 2 at byte 5: not of the layout");
 //! ```
+//!
+//! One call makes the [`Index`] of a listing, and the places of all its sequences and features are read off that. An index
+//! that came with the listing is checked with each question ([`Listing::with_index`]).
 
 mod c;
 mod explain;
+mod index;
 mod listing;
+mod lookups;
 mod refusal;
 mod text;
 
+pub use index::Index;
 pub use listing::Listing;
+pub use lookups::Lookups;
 pub use refusal::Refusal;
 pub use text::{short, visible};
 
@@ -45,11 +52,26 @@ pub struct Part<'a> {
     pub bytes: &'a [u8],
 }
 
+impl<'a> Part<'a> {
+    fn of(listing: &'a [u8], start: usize, size: usize) -> Part<'a> {
+        let bytes = &listing[start..][..size];
+        Part { start, bytes }
+    }
+}
+
 #[derive(Clone, Copy, Debug, PartialEq, Eq)]
 pub enum Kind {
     Dna,
     Rna,
     Aa,
+}
+
+impl Kind {
+    /// The kind of this number; none for another.
+    fn numbered(number: usize) -> Option<Kind> {
+        let kinds = [Kind::Dna, Kind::Rna, Kind::Aa];
+        kinds.get(number.checked_sub(1)?).copied()
+    }
 }
 
 impl fmt::Display for Kind {

@@ -1,20 +1,32 @@
-//! The questions: the only unsafe lines of this crate.
+//! Some bytes to ask about: the verdict on them, and their index.
 
 use crate::c;
-use crate::{Counts, Feature, Kind, Operator, Part, Qualifier, Refusal, Sequence, Span, LIMIT};
+use crate::lookups::{answered, in_memory};
+use crate::{Counts, Index, Lookups, Refusal, LIMIT};
+use std::ops::Deref;
 
-/// Some bytes to ask about.
+/// Some bytes to ask about. The lookups are those of [`Lookups`].
 #[derive(Clone, Copy, Debug)]
 pub struct Listing<'a> {
-    bytes: &'a [u8],
+    lookups: Lookups<'a, 'static>,
 }
 
-// SAFETY, for every call below: a slice gives a pointer that isn't null, also when it is empty, with its exact length. The
-// functions read the listing, write into `out` no further than its room and one number through each reference, and keep
-// no pointer. Rust's borrows see to it that nothing overlaps.
+impl<'a> Deref for Listing<'a> {
+    type Target = Lookups<'a, 'static>;
+
+    fn deref(&self) -> &Self::Target {
+        &self.lookups
+    }
+}
+
+// SAFETY, for every call below: as for the lookups.
 impl<'a> Listing<'a> {
     pub fn new(bytes: &'a [u8]) -> Listing<'a> {
-        Listing { bytes }
+        let lookups = Lookups {
+            listing: bytes,
+            index: None,
+        };
+        Listing { lookups }
     }
 
     /// Whether the listing is accepted, and what it then holds.
@@ -22,8 +34,8 @@ impl<'a> Listing<'a> {
         let (mut place, mut counts) = (0, Counts::default());
         let number = unsafe {
             c::dreichnook_check(
-                self.bytes.as_ptr(),
-                self.bytes.len(),
+                self.listing.as_ptr(),
+                self.listing.len(),
                 &mut place,
                 &mut counts.total,
                 &mut counts.skipped,
@@ -36,147 +48,22 @@ impl<'a> Listing<'a> {
         Ok(counts)
     }
 
-    /// The kind and the residues of a sequence.
-    pub fn sequence(&self, sequence: u64) -> Result<Sequence<'a>, Refusal> {
-        let (mut place, mut kind, mut start, mut size) = (0, 0, 0, 0);
-        let number = unsafe {
-            c::dreichnook_sequence(
-                self.bytes.as_ptr(),
-                self.bytes.len(),
-                sequence,
-                &mut place,
-                &mut kind,
-                &mut start,
-                &mut size,
-            )
-        };
-        answered(number, place)?;
-        let kind = match kind {
-            1 => Kind::Dna,
-            2 => Kind::Rna,
-            3 => Kind::Aa,
-            other => panic!("the library answered with kind {other}"),
-        };
-        let residues = self.part(start, size);
-        Ok(Sequence { kind, residues })
+    /// The index of the listing, from which the places of all sequences and features can be read.
+    pub fn index(&self) -> Result<Index<'a>, Refusal> {
+        // It always fits; see DREICHNOOK_INDEX_ROOM in the header. What is longer than the limit has none.
+        let mut out = vec![0; self.listing.len().min(LIMIT) / 4];
+        let size = self.index_into(&mut out)?.len();
+        out.truncate(size);
+        Ok(Index::made(self.listing, out))
     }
 
-    /// The key and the location of a feature.
-    pub fn feature(&self, sequence: u64, feature: u64) -> Result<Feature<'a>, Refusal> {
-        let (mut place, mut key_start, mut key_size) = (0, 0, 0);
-        let (mut location_start, mut location_size) = (0, 0);
-        let number = unsafe {
-            c::dreichnook_feature(
-                self.bytes.as_ptr(),
-                self.bytes.len(),
-                sequence,
-                feature,
-                &mut place,
-                &mut key_start,
-                &mut key_size,
-                &mut location_start,
-                &mut location_size,
-            )
-        };
-        answered(number, place)?;
-        let key = self.part(key_start, key_size);
-        let location = self.part(location_start, location_size);
-        Ok(Feature { key, location })
-    }
-
-    /// The name and the value of a qualifier.
-    pub fn qualifier(
-        &self,
-        sequence: u64,
-        feature: u64,
-        qualifier: u64,
-    ) -> Result<Qualifier<'a>, Refusal> {
-        let (mut place, mut name_start, mut name_size) = (0, 0, 0);
-        let (mut present, mut value_start, mut value_size) = (0, 0, 0);
-        let number = unsafe {
-            c::dreichnook_qualifier(
-                self.bytes.as_ptr(),
-                self.bytes.len(),
-                sequence,
-                feature,
-                qualifier,
-                &mut place,
-                &mut name_start,
-                &mut name_size,
-                &mut present,
-                &mut value_start,
-                &mut value_size,
-            )
-        };
-        answered(number, place)?;
-        let name = self.part(name_start, name_size);
-        let value = (present == 1).then(|| self.part(value_start, value_size));
-        Ok(Qualifier { name, value })
-    }
-
-    /// The operator and the spans of a feature, in reading order from its 5' end.
-    pub fn spans(&self, sequence: u64, feature: u64) -> Result<(Operator, Vec<Span>), Refusal> {
-        let mut operator = Operator::None;
-        let spans = grown(|out| {
-            let (said, spans) = self.spans_into(sequence, feature, out)?;
-            operator = said;
-            Ok(spans.len())
-        })?;
-        Ok((operator, spans))
-    }
-
-    /// The same, written to the front of `out`; the rest stays as it was.
-    pub fn spans_into<'o>(
-        &self,
-        sequence: u64,
-        feature: u64,
-        out: &'o mut [Span],
-    ) -> Result<(Operator, &'o [Span]), Refusal> {
-        let (mut place, mut operator, mut count) = (0, 0, 0);
-        // A `Span` is three u32 one after another.
-        let number = unsafe {
-            c::dreichnook_spans(
-                self.bytes.as_ptr(),
-                self.bytes.len(),
-                sequence,
-                feature,
-                out.as_mut_ptr().cast(),
-                3 * out.len(),
-                &mut place,
-                &mut operator,
-                &mut count,
-            )
-        };
-        answered(number, place)?;
-        let operator = match operator {
-            0 => Operator::None,
-            1 => Operator::Join,
-            2 => Operator::Order,
-            other => panic!("the library answered with operator {other}"),
-        };
-        Ok((operator, &out[..in_memory(count)]))
-    }
-
-    /// The translation of a judged CDS. One of more than [`LIMIT`] letters, which only a join with repeated members has,
-    /// is refused with 34; [`Listing::translation_into`] takes it into larger room.
-    pub fn translation(&self, sequence: u64, feature: u64) -> Result<Vec<u8>, Refusal> {
-        grown(|out| Ok(self.translation_into(sequence, feature, out)?.len()))
-    }
-
-    /// The same, written to the front of `out`; the rest stays as it was.
-    pub fn translation_into<'o>(
-        &self,
-        sequence: u64,
-        feature: u64,
-        out: &'o mut [u8],
-    ) -> Result<&'o [u8], Refusal> {
+    /// Its bytes, written to the front of `out`; the rest stays as it was. Room for a quarter of the listing suffices.
+    pub fn index_into<'o>(&self, out: &'o mut [u8]) -> Result<&'o [u8], Refusal> {
         let (mut place, mut size) = (0, 0);
         let number = unsafe {
-            c::dreichnook_translation(
-                self.bytes.as_ptr(),
-                self.bytes.len(),
-                sequence,
-                feature,
+            c::dreichnook_index(
+                self.listing.as_ptr(),
+                self.listing.len(),
                 out.as_mut_ptr(),
                 out.len(),
                 &mut place,
@@ -187,69 +74,27 @@ impl<'a> Listing<'a> {
         Ok(&out[..in_memory(size)])
     }
 
-    /// The translations of all CDS features of a sequence, each closed by byte 10; `-` stands for one that is unjudged or
-    /// has a stop inside. More than [`LIMIT`] bytes are refused with 34; [`Listing::translations_into`] takes them.
-    pub fn translations(&self, sequence: u64) -> Result<Vec<u8>, Refusal> {
-        grown(|out| Ok(self.translations_into(sequence, out)?.len()))
-    }
-
-    /// The same, written to the front of `out`; the rest stays as it was.
-    pub fn translations_into<'o>(
-        &self,
-        sequence: u64,
-        out: &'o mut [u8],
-    ) -> Result<&'o [u8], Refusal> {
-        let (mut place, mut size) = (0, 0);
+    /// Whether these bytes are the listing's index; others are refused with 50.
+    pub fn index_check(&self, index: &[u8]) -> Result<(), Refusal> {
+        let mut place = 0;
         let number = unsafe {
-            c::dreichnook_translations(
-                self.bytes.as_ptr(),
-                self.bytes.len(),
-                sequence,
-                out.as_mut_ptr(),
-                out.len(),
+            c::dreichnook_index_check(
+                self.listing.as_ptr(),
+                self.listing.len(),
+                index.as_ptr(),
+                index.len(),
                 &mut place,
-                &mut size,
             )
         };
-        answered(number, place)?;
-        Ok(&out[..in_memory(size)])
+        answered(number, place)
     }
 
-    fn part(&self, start: u64, size: u64) -> Part<'a> {
-        let start = in_memory(start);
-        let bytes = &self.bytes[start..][..in_memory(size)];
-        Part { start, bytes }
-    }
-}
-
-fn answered(number: u32, place: u64) -> Result<(), Refusal> {
-    match number {
-        0 => Ok(()),
-        number => Err(Refusal { number, place }),
-    }
-}
-
-/// A place or a size within lent memory, which a usize can count.
-fn in_memory(number: u64) -> usize {
-    number as usize
-}
-
-/// An answer of unknown size: asks with more room, up to [`LIMIT`] elements, until it suffices. The spans of a location
-/// always do, since each takes two bytes of the listing or more.
-fn grown<T: Clone + Default>(
-    mut ask: impl FnMut(&mut [T]) -> Result<usize, Refusal>,
-) -> Result<Vec<T>, Refusal> {
-    let mut room = 4_096;
-    loop {
-        let mut out = vec![T::default(); room];
-        match ask(&mut out) {
-            Ok(count) => {
-                out.truncate(count);
-                return Ok(out);
-            }
-            // Each question costs a whole check, so in few steps.
-            Err(refusal) if refusal.number == Refusal::NO_ROOM && room < LIMIT => room *= 16,
-            Err(refusal) => return Err(refusal),
+    /// The lookups with an index beside the listing, of any bytes. Each is refused with 50 where [`Listing::index_check`]
+    /// is; else it answers as the one without an index does.
+    pub fn with_index<'i>(&self, index: &'i [u8]) -> Lookups<'a, 'i> {
+        Lookups {
+            listing: self.listing,
+            index: Some(index),
         }
     }
 }

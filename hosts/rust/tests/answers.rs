@@ -277,12 +277,12 @@ fn a_refused_listing_refuses_every_question() {
 
 #[test]
 fn each_refusal_has_its_words() {
-    let numbers = (1..=2).chain(10..=37).chain(40..=42);
+    let numbers = (1..=2).chain(10..=37).chain(40..=42).chain([50]);
     let mut words: Vec<_> = numbers.map(|number| question(number).words()).collect();
     words.push(question(99).words());
     words.sort_unstable();
     words.dedup();
-    assert_eq!(words.len(), 34);
+    assert_eq!(words.len(), 35);
     assert_eq!(question(32).to_string(), "refused with 32: no such feature");
     let unknown = Refusal {
         number: Refusal::UNKNOWN_KEY,
@@ -291,5 +291,13 @@ fn each_refusal_has_its_words() {
     assert_eq!(
         unknown.to_string(),
         "refused by rule 40 at byte 2120: unknown feature key"
+    );
+    let differs = Refusal {
+        number: Refusal::INDEX_DIFFERS,
+        place: 96,
+    };
+    assert_eq!(
+        differs.to_string(),
+        "refused with 50 at byte 96 of the index: the index isn't the one of this listing"
     );
 }
