@@ -222,7 +222,8 @@ impl<'a> Listing<'a> {
         Ok(self)
     }
 
-    fn made_index(&self) -> Result<Vec<u8>, Refusal> {
+    /// The index that the maker would write, if it had room.
+    pub fn made_index(&self) -> Result<Vec<u8>, Refusal> {
         let sequences = self.accepted()?.tree.sequences.iter();
         let bodies: Vec<_> = sequences
             .map(|sequence| index::body(Kind::of(self.bytes, sequence), sequence))
