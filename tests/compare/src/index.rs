@@ -36,6 +36,8 @@ pub fn run(count: u64, seed: u64, root: &Path) -> Result<bool, String> {
     );
     let longest = large::inputs(&large::MIXES, large::LONGEST);
     lookups.kind("of the greatest size", longest, Lookups::longest);
+    let too_long = large::inputs(&large::MIXES, large::LONGEST + 1).take(1);
+    lookups.kind("one byte more", too_long, &mut any);
     Ok(lookups.close())
 }
 
@@ -104,11 +106,9 @@ impl<A: Fn(Lent, Question, &mut Room) -> Answer> Lookups<A> {
         self.question(input, listing, None, Question::Index);
         if let Ok(index) = listing.made_index() {
             self.right(input, listing, &index);
-            for (wrong, number) in wrong_indexes(&index, other)
-                .iter()
-                .zip(NUMBERS.iter().cycle())
-            {
-                self.wrong(input, listing, wrong, &[*number]);
+            let wrong = wrong_indexes(&index, other).into_iter();
+            for (wrong, number) in wrong.zip(NUMBERS.into_iter().cycle()) {
+                self.wrong(input, listing, &wrong, &[number]);
             }
             *other = index;
         } else {
@@ -288,52 +288,54 @@ const CHANGES: [fn(&mut Pieces); 20] = [
     // A gap.
     |index| {
         index.bodies[0].insert(0, 0);
-        index.contents.iter_mut().for_each(|entry| entry[0] += 4);
+        for entry in &mut index.contents {
+            entry[0] += 4;
+        }
     },
     // Starts from the first body on; sizes in numbers.
     |index| {
-        let start = 4 + 8 * index.count;
-        index
-            .contents
-            .iter_mut()
-            .for_each(|entry| entry[0] -= start);
-    },
-    |index| index.contents.iter_mut().for_each(|entry| entry[1] /= 4),
-    // Places from 1 on.
-    |index| {
-        let bodies = index.bodies.iter_mut();
-        bodies.for_each(|body| {
-            body[1..]
-                .iter_mut()
-                .step_by(2)
-                .for_each(|place| *place += 1)
-        });
-    },
-    // Kinds from 0 on; length before place; location before key; no features.
-    |index| {
-        index
-            .bodies
-            .iter_mut()
-            .for_each(|body| body[0] = body[0].saturating_sub(1))
+        let start = index.contents[0][0];
+        for entry in &mut index.contents {
+            entry[0] -= start;
+        }
     },
     |index| {
-        let bodies = index.bodies.iter_mut();
-        bodies.for_each(|body| {
-            body[1..]
-                .chunks_exact_mut(2)
-                .for_each(|pair| pair.swap(0, 1))
-        });
+        for entry in &mut index.contents {
+            entry[1] /= 4;
+        }
+    },
+    // Places from 1 on; kinds from 0 on.
+    |index| {
+        for body in &mut index.bodies {
+            for place in body.iter_mut().skip(1).step_by(2) {
+                *place += 1;
+            }
+        }
     },
     |index| {
-        let bodies = index.bodies.iter_mut();
-        bodies.for_each(|body| {
-            body[3..]
-                .chunks_exact_mut(4)
-                .for_each(|four| four.rotate_left(2))
-        });
+        for body in &mut index.bodies {
+            body[0] = body[0].saturating_sub(1);
+        }
+    },
+    // Length before place; location before key; no features.
+    |index| {
+        for body in &mut index.bodies {
+            for pair in body[1..].chunks_exact_mut(2) {
+                pair.swap(0, 1);
+            }
+        }
     },
     |index| {
-        index.bodies.iter_mut().for_each(|body| body.truncate(3));
+        for body in &mut index.bodies {
+            for feature in body[3..].chunks_exact_mut(4) {
+                feature.rotate_left(2);
+            }
+        }
+    },
+    |index| {
+        for body in &mut index.bodies {
+            body.truncate(3);
+        }
         index.lay_out();
     },
 ];
