@@ -1,7 +1,7 @@
 /*
  * The fuzzer's side of the library: asks every function about each input and stops at an answer that the header rules out.
  *
- * An input is a listing. What stands behind its last byte 0, if it has one, says how to change the listing's index: see
+ * An input is a listing. What stands behind its first byte 0, if it has one, says how to change the listing's index: see
  * ask_with_indexes. So the fuzzer has the right index of every accepted listing, and can make any other.
  *
  * The archive is finished machine code, so no sanitizer sees into it. Three things stand in for that:
@@ -388,7 +388,8 @@ static void ask_with_index(const uint8_t *bytes, size_t size, uint64_t plain)
 
 /*
  * The right index, and some that aren't: one byte short, one byte more, one bit changed where the listing's length says.
- * Then the right one changed as the input says: its first two bytes are a place, and the others go there, or behind the end.
+ * Then the right one changed as the input says: behind byte 0 stands a place in two bytes, then what is to stand there. If
+ * nothing is, the index ends there.
  */
 static void ask_with_indexes(const uint8_t *change, size_t change_size, uint64_t plain)
 {
@@ -398,16 +399,15 @@ static void ask_with_indexes(const uint8_t *change, size_t change_size, uint64_t
         ask_with_index(made, made_size - 1, plain);
         made[made_size] = 0;
         ask_with_index(made, made_size + 1, plain);
-        made[length % made_size] ^= 1;
         memcpy(changed, made, made_size);
-        made[length % made_size] ^= 1;
+        changed[length % made_size] ^= 1;
         ask_with_index(changed, made_size, plain);
     }
-    if (change_size >= 2) {
-        const size_t at = (change[0] + 256u * change[1]) % (made_size + 1), size = change_size - 2;
+    if (change_size >= 3) {
+        const size_t at = (change[1] + 256u * change[2]) % (made_size + 1), size = change_size - 3;
         memcpy(changed, made, made_size);
-        memcpy(changed + at, change + 2, size);
-        ask_with_index(changed, at + size > made_size ? at + size : made_size, plain);
+        memcpy(changed + at, change + 3, size);
+        ask_with_index(changed, size == 0 || at + size > made_size ? at + size : made_size, plain);
     }
 }
 
@@ -424,19 +424,15 @@ int LLVMFuzzerTestOneInput(const uint8_t *data, size_t size)
     }
     if (size > MOST)
         return 0;
-    length = size;
-    while (length > 0 && data[length - 1] != 0)
-        length--;
-    const uint8_t *change = data + length;
-    const size_t change_size = length > 0 ? size - length : 0;
-    length = length > 0 ? length - 1 : size;
+    const uint8_t *zero = size > 0 ? memchr(data, 0, size) : NULL;
+    length = zero == NULL ? size : (size_t)(zero - data);
     listing = lend_to_read(memory, data, length);
 
     ask_check();
     const uint64_t plain = ask_for_items();
     ask_maker();
     if (verdict != 0 || made_size > 0) /* else an index too long for the output here */
-        ask_with_indexes(change, change_size, plain);
+        ask_with_indexes(data + length, size - length, plain);
     return 0;
 }
 

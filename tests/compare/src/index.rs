@@ -110,6 +110,8 @@ impl<A: Fn(Lent, Question, &mut Room) -> Answer> Lookups<A> {
             for (wrong, number) in wrong.zip(NUMBERS.into_iter().cycle()) {
                 self.wrong(input, listing, &wrong, &[number]);
             }
+            // Both may be read from the same memory.
+            self.wrong(input, listing, &input.bytes, &[1]);
             *other = index;
         } else {
             for index in [b"", &other[..]] {
