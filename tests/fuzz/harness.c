@@ -387,20 +387,24 @@ static void ask_with_index(const uint8_t *bytes, size_t size, uint64_t plain)
 }
 
 /*
- * The right index, and some that aren't: one byte short, one byte more, one bit changed where the listing's length says.
- * Then the right one changed as the input says: behind byte 0 stands a place in two bytes, then what is to stand there. If
- * nothing is, the index ends there.
+ * The right index, and some that aren't: cut, with a byte more, with a byte changed. Where and how the listing's bytes decide,
+ * so that listings that differ little try others. Then the right one changed as the input says: behind byte 0 stands a place in
+ * two bytes, then what is to stand there. If nothing is, the index ends there.
  */
 static void ask_with_indexes(const uint8_t *change, size_t change_size, uint64_t plain)
 {
     static uint8_t changed[MOST + LENT];
     ask_with_index(made, made_size, plain);
     if (verdict == 0) {
-        ask_with_index(made, made_size - 1, plain);
-        made[made_size] = 0;
+        told = 0;
+        for (size_t n = 0; n < length; n++)
+            tell(listing[n]);
+        const uint64_t by = told;
+        ask_with_index(made, by % made_size, plain);
+        made[made_size] = (uint8_t)by;
         ask_with_index(made, made_size + 1, plain);
         memcpy(changed, made, made_size);
-        changed[length % made_size] ^= 1;
+        changed[(by >> 16) % made_size] ^= 1 << (by >> 8) % 8;
         ask_with_index(changed, made_size, plain);
     }
     if (change_size >= 3) {
