@@ -274,7 +274,8 @@ static void ask_check(void)
     total = skipped = features = ~0u;
     verdict = dreichnook_check(listing, length, &place, &total, &skipped, &features, &judged, &unjudged);
     verdict_place = place;
-    saw(verdict, place);
+    /* Not each place by itself: refused inputs would be nearly all that libFuzzer keeps. */
+    saw(verdict, place / 512);
     if (verdict == 0) {
         REQUIRE(place == 0 && total > 0 && skipped <= total && total - skipped <= features && judged + unjudged <= features);
         saw(44, total);
@@ -353,28 +354,37 @@ static void ask_maker(void)
     ask_in_tight_room(ask_index, 0, 0);
 }
 
-/* Lends these bytes as the index: the checker must say where they part from the made one, and the lookups go by it. */
-static void ask_with_index(const uint8_t *bytes, size_t size, uint64_t plain)
+/* Lends these bytes as the index. The checker must say where they part from the made one. */
+static uint32_t ask_index_check(const uint8_t *bytes, size_t size, uint64_t *place)
 {
     static uint8_t *memory;
     if (memory == NULL)
         memory = guarded(MOST);
     beside = lend_to_read(memory, bytes, size);
     beside_length = size;
-    const uint32_t checked = verdict;
-    const uint64_t checked_place = verdict_place;
     uint64_t same = 0;
     while (same < size && same < made_size && bytes[same] == made[same])
         same++;
-    verdict_place = ~0u;
-    verdict = dreichnook_index_check(listing, length, beside, beside_length, &verdict_place);
-    saw(48, verdict_place);
-    if (checked != 0)
-        REQUIRE(verdict == checked && verdict_place == checked_place);
+    *place = ~0u;
+    const uint32_t refusal = dreichnook_index_check(listing, length, beside, beside_length, place);
+    if (verdict != 0)
+        REQUIRE(refusal == verdict && *place == verdict_place);
     else if (same == made_size && same == size)
-        REQUIRE(verdict == 0 && verdict_place == 0);
+        REQUIRE(refusal == 0 && *place == 0);
     else
-        REQUIRE(verdict == OTHER_INDEX && verdict_place == same);
+        REQUIRE(refusal == OTHER_INDEX && *place == same);
+    saw(48, verdict == 0 ? *place : 0);
+    return refusal;
+}
+
+/* The same, and then lookups with it: they go by the checker, and with the right index they say what they said without one. */
+static void ask_with_index(const uint8_t *bytes, size_t size, uint64_t plain)
+{
+    const uint32_t checked = verdict;
+    const uint64_t checked_place = verdict_place;
+    uint64_t place;
+    verdict = ask_index_check(bytes, size, &place);
+    verdict_place = place;
     if (verdict == 0) {
         REQUIRE(ask_for_items() == plain);
     } else {
@@ -394,6 +404,7 @@ static void ask_with_index(const uint8_t *bytes, size_t size, uint64_t plain)
 static void ask_with_indexes(const uint8_t *change, size_t change_size, uint64_t plain)
 {
     static uint8_t changed[MOST + LENT];
+    uint64_t place;
     ask_with_index(made, made_size, plain);
     if (verdict == 0) {
         told = 0;
@@ -403,8 +414,12 @@ static void ask_with_indexes(const uint8_t *change, size_t change_size, uint64_t
         ask_with_index(made, by % made_size, plain);
         made[made_size] = (uint8_t)by;
         ask_with_index(made, made_size + 1, plain);
-        memcpy(changed, made, made_size);
-        changed[(by >> 16) % made_size] ^= 1 << (by >> 8) % 8;
+        for (uint64_t n = 0; n < 64; n++) {
+            const size_t at = ((by >> 16) + n) % made_size;
+            memcpy(changed, made, made_size);
+            changed[at] ^= 1 << ((by >> 8) + n / 8) % 8;
+            ask_index_check(changed, made_size, &place);
+        }
         ask_with_index(changed, made_size, plain);
     }
     if (change_size >= 3) {
@@ -453,5 +468,50 @@ int main(int count, char **words)
     }
     printf("harness: %d files, nothing found\n", count - 1);
     return 0;
+}
+#else
+static uint64_t dice;
+
+static size_t throw(size_t sides)
+{
+    dice = dice * 6364136223846793005u + 1442695040888963407u;
+    return (size_t)(dice >> 33) % sides;
+}
+
+size_t LLVMFuzzerMutate(uint8_t *data, size_t size, size_t most);
+size_t LLVMFuzzerCustomMutator(uint8_t *data, size_t size, size_t most, unsigned seed);
+
+/*
+ * How libFuzzer makes a new input of an old one: half of the time as it likes, which hardly ever leaves a listing accepted. Else
+ * in some texts one byte becomes another one of the same text, and now and then a change of the index is put behind a byte 0.
+ */
+size_t LLVMFuzzerCustomMutator(uint8_t *data, size_t size, size_t most, unsigned seed)
+{
+    if (seed % 2 == 0 || size == 0)
+        return LLVMFuzzerMutate(data, size, most);
+    dice = seed;
+    const uint8_t *zero = memchr(data, 0, size);
+    const size_t end = zero == NULL ? size : (size_t)(zero - data);
+    for (size_t changes = 1 + throw(3); changes > 0 && end > 0; changes--) {
+        size_t start = throw(end), stop;
+        do {
+            while (start < end && data[start] != '>')
+                start++;
+            start++;
+            for (stop = start; stop < end && data[stop] != '<'; stop++)
+                ;
+        } while (start < end && stop == start);
+        if (start < end) {
+            const uint8_t byte = data[start + throw(stop - start)];
+            data[start + throw(stop - start)] = byte;
+        }
+    }
+    const size_t more = 3 + throw(4);
+    if (throw(4) > 0 || most - end < more)
+        return size;
+    data[end] = 0;
+    for (size_t n = 1; n < more; n++)
+        data[end + n] = (uint8_t)(n == 2 ? throw(3) : throw(256));
+    return end + more;
 }
 #endif
