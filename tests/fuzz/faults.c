@@ -42,6 +42,20 @@ uint32_t __wrap_dreichnook_sequence(const uint8_t *listing, size_t length, uint6
     return refusal;
 }
 
+uint32_t __real_dreichnook_feature(const uint8_t *, size_t, uint64_t, uint64_t, uint64_t *, uint64_t *, uint64_t *, uint64_t *,
+                                   uint64_t *);
+uint32_t __wrap_dreichnook_feature(const uint8_t *listing, size_t length, uint64_t sequence, uint64_t feature, uint64_t *place,
+                                   uint64_t *key_start, uint64_t *key_size, uint64_t *location_start, uint64_t *location_size)
+{
+    uint32_t refusal = __real_dreichnook_feature(listing, length, sequence, feature, place, key_start, key_size, location_start,
+                                                 location_size);
+    if (FAULT == 21 && refusal == 0) /* a location with its end tag */
+        *location_size += 2;
+    if (FAULT == 22 && refusal == DREICHNOOK_NO_FEATURE) /* a key beside a refusal */
+        *key_size = 1;
+    return refusal;
+}
+
 uint32_t __real_dreichnook_qualifier(const uint8_t *, size_t, uint64_t, uint64_t, uint64_t, uint64_t *, uint64_t *, uint64_t *,
                                      uint8_t *, uint64_t *, uint64_t *);
 uint32_t __wrap_dreichnook_qualifier(const uint8_t *listing, size_t length, uint64_t sequence, uint64_t feature,
@@ -96,5 +110,130 @@ uint32_t __wrap_dreichnook_translations(const uint8_t *listing, size_t length, u
         ++*place;
     if (FAULT == 20 && refusal == 0 && *size > 0) /* the last line isn't closed */
         --*size;
+    return refusal;
+}
+
+uint32_t __real_dreichnook_index(const uint8_t *, size_t, uint8_t *, size_t, uint64_t *, uint64_t *);
+uint32_t __wrap_dreichnook_index(const uint8_t *listing, size_t length, uint8_t *out, size_t room, uint64_t *place, uint64_t *size)
+{
+    uint32_t refusal = __real_dreichnook_index(listing, length, out, room, place, size);
+    if (FAULT == 23 && refusal == DREICHNOOK_NO_ROOM && room > 0) /* writes beside a refusal */
+        WRITE(out);
+    if (FAULT == 24 && refusal == 0) /* writes behind the room */
+        WRITE(out + room);
+    if (FAULT == 25 && refusal == 0) /* a body's size is one more */
+        ++out[8];
+    if (FAULT == 26 && refusal == 0) /* the last length is one more */
+        ++out[*size - 4];
+    if (FAULT == 27 && room == 0) /* asks for room before it checks the listing */
+        *place = 0, refusal = DREICHNOOK_NO_ROOM;
+    return refusal;
+}
+
+uint32_t __real_dreichnook_index_check(const uint8_t *, size_t, const uint8_t *, size_t, uint64_t *);
+uint32_t __wrap_dreichnook_index_check(const uint8_t *listing, size_t length, const uint8_t *index, size_t index_length,
+                                       uint64_t *place)
+{
+    uint32_t refusal = __real_dreichnook_index_check(listing, length, index, index_length, place);
+    if (FAULT == 28) /* reads behind the index */
+        TOUCH(index + index_length);
+    if (FAULT == 29 && index_length > 0) /* writes into the index */
+        WRITE(index);
+    if (FAULT == 30 && refusal == 50 && *place == index_length - 1) /* takes an index with a byte more */
+        *place = 0, refusal = 0;
+    if (FAULT == 31 && refusal == 50 && *place == index_length) /* takes a beginning */
+        *place = 0, refusal = 0;
+    if (FAULT == 32 && refusal == 50) /* the number's place for the byte's */
+        *place &= ~(uint64_t)3;
+    if (FAULT == 33 && refusal == 0) /* leaves a number as it was */
+        *place = ~0u;
+    return refusal;
+}
+
+uint32_t __real_dreichnook_indexed_sequence(const uint8_t *, size_t, const uint8_t *, size_t, uint64_t, uint64_t *, uint8_t *,
+                                            uint64_t *, uint64_t *);
+uint32_t __wrap_dreichnook_indexed_sequence(const uint8_t *listing, size_t length, const uint8_t *index, size_t index_length,
+                                            uint64_t sequence, uint64_t *place, uint8_t *kind, uint64_t *start, uint64_t *size)
+{
+    uint32_t refusal = __real_dreichnook_indexed_sequence(listing, length, index, index_length, sequence, place, kind, start, size);
+    if (FAULT == 34 && refusal == 0) /* a part that is one letter short */
+        --*size;
+    if (FAULT == 35 && refusal == 50 && sequence == 0) /* looks for the sequence before it checks the index */
+        *place = 0, refusal = DREICHNOOK_NO_SEQUENCE;
+    return refusal;
+}
+
+uint32_t __real_dreichnook_indexed_feature(const uint8_t *, size_t, const uint8_t *, size_t, uint64_t, uint64_t, uint64_t *,
+                                           uint64_t *, uint64_t *, uint64_t *, uint64_t *);
+uint32_t __wrap_dreichnook_indexed_feature(const uint8_t *listing, size_t length, const uint8_t *index, size_t index_length,
+                                           uint64_t sequence, uint64_t feature, uint64_t *place, uint64_t *key_start,
+                                           uint64_t *key_size, uint64_t *location_start, uint64_t *location_size)
+{
+    uint32_t refusal = __real_dreichnook_indexed_feature(listing, length, index, index_length, sequence, feature, place, key_start,
+                                                         key_size, location_start, location_size);
+    if (FAULT == 36 && refusal == 0) /* the location for the key */
+        *key_start = *location_start, *key_size = *location_size;
+    if (FAULT == 37 && refusal == 50) /* answers without looking at the index */
+        refusal = __real_dreichnook_feature(listing, length, sequence, feature, place, key_start, key_size, location_start,
+                                            location_size);
+    return refusal;
+}
+
+uint32_t __real_dreichnook_indexed_qualifier(const uint8_t *, size_t, const uint8_t *, size_t, uint64_t, uint64_t, uint64_t,
+                                             uint64_t *, uint64_t *, uint64_t *, uint8_t *, uint64_t *, uint64_t *);
+uint32_t __wrap_dreichnook_indexed_qualifier(const uint8_t *listing, size_t length, const uint8_t *index, size_t index_length,
+                                             uint64_t sequence, uint64_t feature, uint64_t qualifier, uint64_t *place,
+                                             uint64_t *name_start, uint64_t *name_size, uint8_t *present, uint64_t *value_start,
+                                             uint64_t *value_size)
+{
+    uint32_t refusal = __real_dreichnook_indexed_qualifier(listing, length, index, index_length, sequence, feature, qualifier, place,
+                                                           name_start, name_size, present, value_start, value_size);
+    if (FAULT == 38 && refusal == 0) /* the name for the value */
+        *present = 1, *value_start = *name_start, *value_size = *name_size;
+    if (FAULT == 39) /* reads before the index */
+        TOUCH(index - 1);
+    return refusal;
+}
+
+uint32_t __real_dreichnook_indexed_spans(const uint8_t *, size_t, const uint8_t *, size_t, uint64_t, uint64_t, uint32_t *, size_t,
+                                         uint64_t *, uint8_t *, uint64_t *);
+uint32_t __wrap_dreichnook_indexed_spans(const uint8_t *listing, size_t length, const uint8_t *index, size_t index_length,
+                                         uint64_t sequence, uint64_t feature, uint32_t *out, size_t room, uint64_t *place,
+                                         uint8_t *operator_, uint64_t *count)
+{
+    uint32_t refusal = __real_dreichnook_indexed_spans(listing, length, index, index_length, sequence, feature, out, room, place,
+                                                       operator_, count);
+    if (FAULT == 40 && refusal == 50 && room > 0) /* writes beside a refusal */
+        WRITE(out);
+    if (FAULT == 41 && refusal == 0) /* another mark than without an index */
+        out[2] ^= DREICHNOOK_COMPLEMENT;
+    return refusal;
+}
+
+uint32_t __real_dreichnook_indexed_translation(const uint8_t *, size_t, const uint8_t *, size_t, uint64_t, uint64_t, uint8_t *,
+                                               size_t, uint64_t *, uint64_t *);
+uint32_t __wrap_dreichnook_indexed_translation(const uint8_t *listing, size_t length, const uint8_t *index, size_t index_length,
+                                               uint64_t sequence, uint64_t feature, uint8_t *out, size_t room, uint64_t *place,
+                                               uint64_t *size)
+{
+    uint32_t refusal = __real_dreichnook_indexed_translation(listing, length, index, index_length, sequence, feature, out, room,
+                                                             place, size);
+    if (FAULT == 42 && refusal == 50) /* another place than the checker's */
+        ++*place;
+    if (FAULT == 43 && refusal == 0 && *size > 0) /* another letter than without an index */
+        out[0] = out[0] == 'M' ? 'L' : 'M';
+    return refusal;
+}
+
+uint32_t __real_dreichnook_indexed_translations(const uint8_t *, size_t, const uint8_t *, size_t, uint64_t, uint8_t *, size_t,
+                                                uint64_t *, uint64_t *);
+uint32_t __wrap_dreichnook_indexed_translations(const uint8_t *listing, size_t length, const uint8_t *index, size_t index_length,
+                                                uint64_t sequence, uint8_t *out, size_t room, uint64_t *place, uint64_t *size)
+{
+    uint32_t refusal = __real_dreichnook_indexed_translations(listing, length, index, index_length, sequence, out, room, place, size);
+    if (FAULT == 44) /* writes into the listing */
+        WRITE(listing);
+    if (FAULT == 45 && refusal == 50) /* a size beside a refusal */
+        *size = 1;
     return refusal;
 }

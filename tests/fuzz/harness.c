@@ -1,8 +1,11 @@
 /*
  * The fuzzer's side of the library: asks every function about each input and stops at an answer that the header rules out.
  *
+ * An input is a listing. What stands behind its first byte 0, if it has one, says how to change the listing's index: see
+ * ask_with_indexes. So the fuzzer has the right index of every accepted listing, and can make any other.
+ *
  * The archive is finished machine code, so no sanitizer sees into it. Three things stand in for that:
- * - The listing and the lent output lie against pages that nobody may touch, and the listing is write-protected.
+ * - The listing, the index and the lent output lie against pages that nobody may touch, and the first two are write-protected.
  * - All memory that a call may set is filled with a pattern beforehand and looked at afterwards.
  * - What a call answers (rule and place, counts, marks) is given to libFuzzer as coverage, so that it gets deeper.
  */
@@ -16,6 +19,9 @@
 
 /* The longest input, the elements lent, the bytes for them with some before, the items asked for, and the pattern. */
 enum { MOST = 1 << 17, ROOM = 2048, LENT = 3 << 12, SOME = 4, UNTOUCHED = 0xa5 };
+
+/* The refusal of an index that isn't the listing's. */
+enum { OTHER_INDEX = 50 };
 
 #define REQUIRE(holds)                                                              \
     do {                                                                            \
@@ -34,12 +40,34 @@ static void saw(uint64_t what, uint64_t value)
     seen[hash >> 48] = 1;
 }
 
-/* The input as it is lent. */
-static const uint8_t *listing;
-static size_t length;
-/* What the check said; every other call must refuse alike. */
+/* The listing as it is lent, and the index beside it: NULL for the lookups without one. */
+static const uint8_t *listing, *beside;
+static size_t length, beside_length;
+/* What the check said, or the index's checker; every lookup must refuse alike. */
 static uint32_t verdict;
 static uint64_t verdict_place;
+/* What the check counted. */
+static uint64_t total, skipped, features;
+
+/* A lookup without an index, or with the one beside the listing: from `sequence` on the arguments are the same. */
+#define LOOK_UP(name, ...)                                                                                     \
+    (beside == NULL ? dreichnook_##name(listing, length, __VA_ARGS__)                                          \
+                    : dreichnook_indexed_##name(listing, length, beside, beside_length, __VA_ARGS__))
+
+/* All that the lookups said, as one number: with the right index they say the same as without one. */
+static uint64_t told;
+
+static void tell(uint64_t number)
+{
+    told = (told ^ number) * 0x9e3779b97f4a7c15u;
+    told ^= told >> 29;
+}
+
+static void tell_part(uint64_t start, uint64_t size)
+{
+    tell(start);
+    tell(size);
+}
 
 /* Whole pages between two that nobody may touch. */
 static uint8_t *guarded(size_t size)
@@ -50,6 +78,18 @@ static uint8_t *guarded(size_t size)
     REQUIRE(memory != MAP_FAILED);
     REQUIRE(mprotect(memory + page, size, PROT_READ | PROT_WRITE) == 0);
     return memory + page;
+}
+
+/* Bytes as they are lent to be read: against the page behind them, or against the one before. */
+static const uint8_t *lend_to_read(uint8_t *memory, const uint8_t *bytes, size_t size)
+{
+    uint8_t *front = size % 2 == 0 ? memory + MOST - size : memory;
+    REQUIRE(size <= MOST);
+    REQUIRE(mprotect(memory, MOST, PROT_READ | PROT_WRITE) == 0);
+    if (size > 0)
+        memcpy(front, bytes, size);
+    REQUIRE(mprotect(memory, MOST, PROT_READ) == 0);
+    return front;
 }
 
 /* Lent output: its end is the end of the guarded memory. */
@@ -68,12 +108,15 @@ static void only_written(const uint8_t *out, size_t size)
     const size_t before = (size_t)(out - lent), after = LENT - before - size;
     REQUIRE(memcmp(lent, untouched, before) == 0);
     REQUIRE(memcmp(out + size, untouched, after) == 0);
+    for (size_t n = 0; n < size; n++)
+        tell(out[n]);
 }
 
-/* A refusal is the check's own, or one of those that the call may give after it. */
+/* A refusal is the check's own or the checker's, or one of those that the call may give after them. */
 static void refusal_fits(uint32_t refusal, uint64_t place, uint32_t least, uint32_t greatest)
 {
     saw(40, refusal);
+    tell(refusal);
     if (verdict != 0)
         REQUIRE(refusal == verdict && place == verdict_place);
     else
@@ -89,14 +132,34 @@ static void part_fits(uint32_t refusal, uint64_t start, uint64_t size)
         REQUIRE(listing[at] >= 32 && listing[at] < 127 && listing[at] != '<' && listing[at] != '>');
 }
 
+/* The number that stands there in the index. */
+static uint64_t number_at(const uint8_t *index, uint64_t at)
+{
+    return index[at] | (uint64_t)index[at + 1] << 8 | (uint64_t)index[at + 2] << 16 | (uint64_t)index[at + 3] << 24;
+}
+
+/* What a lookup shows is what stands in the sequence's body from this number on, if there is an index. */
+static void body_says(uint64_t k, uint64_t from, const uint64_t *shown, size_t count)
+{
+    if (beside == NULL)
+        return;
+    const uint64_t body = number_at(beside, 8 * k - 4);
+    for (size_t n = 0; n < count; n++)
+        REQUIRE(number_at(beside, body + 4 * (from + n)) == shown[n]);
+}
+
 static uint32_t ask_qualifier(uint64_t k, uint64_t j, uint64_t i)
 {
     uint64_t place = ~0u, name = ~0u, name_size = ~0u, value = ~0u, value_size = ~0u;
     uint8_t present = UNTOUCHED;
-    uint32_t refusal = dreichnook_qualifier(listing, length, k, j, i, &place, &name, &name_size, &present, &value, &value_size);
+    uint32_t refusal = LOOK_UP(qualifier, k, j, i, &place, &name, &name_size, &present, &value, &value_size);
     refusal_fits(refusal, place, DREICHNOOK_NO_SEQUENCE, DREICHNOOK_NO_QUALIFIER);
     part_fits(refusal, name, name_size);
     part_fits(refusal, value, value_size);
+    tell(present);
+    tell_part(name, name_size);
+    if (present)
+        tell_part(value, value_size);
     REQUIRE(present == 0 || (present == 1 && refusal == 0));
     REQUIRE(present == 1 || (value == 0 && value_size == 0));
     return refusal;
@@ -108,9 +171,10 @@ static uint64_t ask_spans(uint64_t k, uint64_t j, size_t room, uint32_t *refusal
     uint64_t place = ~0u, count = ~0u;
     uint8_t operator_ = UNTOUCHED;
     uint32_t *out = (uint32_t *)(void *)lend(room * sizeof *out);
-    *refusal = dreichnook_spans(listing, length, k, j, out, room, &place, &operator_, &count);
+    *refusal = LOOK_UP(spans, k, j, out, room, &place, &operator_, &count);
     refusal_fits(*refusal, place, DREICHNOOK_NO_SEQUENCE, DREICHNOOK_NO_ROOM);
     REQUIRE(*refusal != DREICHNOOK_NO_QUALIFIER);
+    tell(operator_);
     REQUIRE(operator_ <= DREICHNOOK_ORDER && (*refusal == 0) == (count > 0) && (*refusal == 0 || operator_ == 0));
     REQUIRE((count > 1) == (operator_ != DREICHNOOK_OPERATOR_NONE) && count <= room / 3);
     only_written((uint8_t *)out, (size_t)count * 3 * sizeof *out);
@@ -129,12 +193,12 @@ static uint64_t ask_translation(uint64_t k, uint64_t j, size_t room, uint32_t *r
     uint64_t place = ~0u, size = ~0u;
     uint8_t *out = lend(room);
     if (j == 0) {
-        *refusal = dreichnook_translations(listing, length, k, out, room, &place, &size);
+        *refusal = LOOK_UP(translations, k, out, room, &place, &size);
         refusal_fits(*refusal, place, DREICHNOOK_NO_SEQUENCE, DREICHNOOK_NO_ROOM);
         REQUIRE(*refusal != DREICHNOOK_NO_FEATURE && *refusal != DREICHNOOK_NO_QUALIFIER);
         REQUIRE(size <= room && (size == 0 || out[size - 1] == '\n'));
     } else {
-        *refusal = dreichnook_translation(listing, length, k, j, out, room, &place, &size);
+        *refusal = LOOK_UP(translation, k, j, out, room, &place, &size);
         refusal_fits(*refusal, place, DREICHNOOK_NO_SEQUENCE, DREICHNOOK_STOP_INSIDE);
         REQUIRE(*refusal != DREICHNOOK_NO_QUALIFIER && size <= room);
     }
@@ -166,11 +230,15 @@ static void ask_in_tight_room(uint64_t (*ask)(uint64_t, uint64_t, size_t, uint32
 static uint32_t ask_feature(uint64_t k, uint64_t j)
 {
     uint64_t place = ~0u, key = ~0u, key_size = ~0u, location = ~0u, location_size = ~0u;
-    uint32_t refusal = dreichnook_feature(listing, length, k, j, &place, &key, &key_size, &location, &location_size);
+    uint32_t refusal = LOOK_UP(feature, k, j, &place, &key, &key_size, &location, &location_size);
     refusal_fits(refusal, place, DREICHNOOK_NO_SEQUENCE, DREICHNOOK_NO_FEATURE);
     part_fits(refusal, key, key_size);
     part_fits(refusal, location, location_size);
-    REQUIRE(refusal != 0 || location_size > 0);
+    REQUIRE(refusal != 0 || (key_size > 0 && location_size > 0));
+    tell_part(key, key_size);
+    tell_part(location, location_size);
+    if (refusal == 0)
+        body_says(k, 4 * j - 1, (uint64_t[]){key, key_size, location, location_size}, 4);
     ask_in_tight_room(ask_spans, k, j);
     if (j != 0)
         ask_in_tight_room(ask_translation, k, j);
@@ -184,11 +252,15 @@ static void ask_sequence(uint64_t k)
 {
     uint64_t place = ~0u, start = ~0u, size = ~0u;
     uint8_t kind = UNTOUCHED;
-    uint32_t refusal = dreichnook_sequence(listing, length, k, &place, &kind, &start, &size);
+    uint32_t refusal = LOOK_UP(sequence, k, &place, &kind, &start, &size);
     refusal_fits(refusal, place, DREICHNOOK_NO_SEQUENCE, DREICHNOOK_SKIPPED);
     part_fits(refusal, start, size);
     REQUIRE(kind <= DREICHNOOK_AA && (refusal == 0) == (kind != DREICHNOOK_KIND_NONE));
     saw(43, kind);
+    tell(kind);
+    tell_part(start, size);
+    if (refusal == 0)
+        body_says(k, 0, (uint64_t[]){kind, start, size}, 3);
     ask_in_tight_room(ask_translation, k, 0);
     for (uint64_t j = 1; j <= SOME && ask_feature(k, j) == 0; j++)
         ;
@@ -196,12 +268,14 @@ static void ask_sequence(uint64_t k)
     ask_feature(k, UINT64_MAX);
 }
 
-static uint64_t ask_check(void)
+static void ask_check(void)
 {
-    uint64_t place = ~0u, total = ~0u, skipped = ~0u, features = ~0u, judged = ~0u, unjudged = ~0u;
+    uint64_t place = ~0u, judged = ~0u, unjudged = ~0u;
+    total = skipped = features = ~0u;
     verdict = dreichnook_check(listing, length, &place, &total, &skipped, &features, &judged, &unjudged);
     verdict_place = place;
-    saw(verdict, place);
+    /* Not each place by itself: refused inputs would be nearly all that libFuzzer keeps. */
+    saw(verdict, place / 512);
     if (verdict == 0) {
         REQUIRE(place == 0 && total > 0 && skipped <= total && total - skipped <= features && judged + unjudged <= features);
         saw(44, total);
@@ -214,7 +288,146 @@ static uint64_t ask_check(void)
         REQUIRE(place <= length && (verdict == DREICHNOOK_NOT_THE_LAYOUT || place < length));
         REQUIRE(total == 0 && skipped == 0 && features == 0 && judged == 0 && unjudged == 0);
     }
-    return total;
+}
+
+/* Asks for some items and for some that aren't there; gives all that was said, as one number. */
+static uint64_t ask_for_items(void)
+{
+    told = 0;
+    for (uint64_t k = 0; k <= SOME; k++)
+        ask_sequence(k);
+    ask_sequence(total);
+    ask_sequence(total + 1);
+    return told;
+}
+
+/* The maker, with room for so many bytes; the two numbers are for ask_in_tight_room only. */
+static uint64_t ask_index(uint64_t k, uint64_t j, size_t room, uint32_t *refusal)
+{
+    uint64_t place = ~0u, size = ~0u;
+    uint8_t *out = lend(room);
+    *refusal = dreichnook_index(listing, length, out, room, &place, &size);
+    refusal_fits(*refusal, place, DREICHNOOK_NO_ROOM, DREICHNOOK_NO_ROOM);
+    REQUIRE(size <= room && (*refusal == 0) == (size > 0));
+    (void)k, (void)j;
+    only_written(out, (size_t)size);
+    return size;
+}
+
+/* The numbers of an index that the maker has written: bodies in order without gaps, and parts of the listing in them. */
+static void index_fits(const uint8_t *index, uint64_t size)
+{
+    uint64_t start = 4 + 8 * total, left_out = 0, counted = 0;
+    REQUIRE(size >= start && number_at(index, 0) == total);
+    for (uint64_t k = 1; k <= total; k++) {
+        const uint64_t body = number_at(index, 8 * k - 4), body_size = number_at(index, 8 * k);
+        REQUIRE(body == start && body_size >= 12 && (body_size - 12) % 16 == 0 && body_size <= size - start);
+        const uint64_t kind = number_at(index, body);
+        REQUIRE(kind <= DREICHNOOK_AA);
+        for (uint64_t at = body + 4; at < body + body_size; at += 8) {
+            part_fits(0, number_at(index, at), number_at(index, at + 4));
+            REQUIRE(number_at(index, at + 4) > 0);
+        }
+        if (kind == DREICHNOOK_KIND_NONE) {
+            REQUIRE(body_size == 12 && number_at(index, body + 8) == 3);
+            REQUIRE(memcmp(listing + number_at(index, body + 4), "000", 3) == 0);
+            left_out++;
+        }
+        counted += (body_size - 12) / 16;
+        start += body_size;
+    }
+    REQUIRE(start == size && left_out == skipped && counted == features);
+}
+
+/* The index that the maker writes, with room for more bytes behind it, and its size: 0 where it refuses. */
+static uint8_t made[MOST];
+static size_t made_size;
+
+static void ask_maker(void)
+{
+    uint32_t refusal;
+    made_size = (size_t)ask_index(0, 0, LENT, &refusal);
+    memcpy(made, lent, made_size);
+    if (made_size > 0)
+        index_fits(made, made_size);
+    ask_index(0, 0, 0, &refusal);
+    ask_in_tight_room(ask_index, 0, 0);
+}
+
+/* Lends these bytes as the index. The checker must say where they part from the made one. */
+static uint32_t ask_index_check(const uint8_t *bytes, size_t size, uint64_t *place)
+{
+    static uint8_t *memory;
+    if (memory == NULL)
+        memory = guarded(MOST);
+    beside = lend_to_read(memory, bytes, size);
+    beside_length = size;
+    uint64_t same = 0;
+    while (same < size && same < made_size && bytes[same] == made[same])
+        same++;
+    *place = ~0u;
+    const uint32_t refusal = dreichnook_index_check(listing, length, beside, beside_length, place);
+    if (verdict != 0)
+        REQUIRE(refusal == verdict && *place == verdict_place);
+    else if (same == made_size && same == size)
+        REQUIRE(refusal == 0 && *place == 0);
+    else
+        REQUIRE(refusal == OTHER_INDEX && *place == same);
+    saw(48, verdict == 0 ? *place : 0);
+    return refusal;
+}
+
+/* The same, and then lookups with it: they go by the checker, and with the right index they say what they said without one. */
+static void ask_with_index(const uint8_t *bytes, size_t size, uint64_t plain)
+{
+    const uint32_t checked = verdict;
+    const uint64_t checked_place = verdict_place;
+    uint64_t place;
+    verdict = ask_index_check(bytes, size, &place);
+    verdict_place = place;
+    if (verdict == 0) {
+        REQUIRE(ask_for_items() == plain);
+    } else {
+        ask_sequence(0);
+        ask_sequence(1);
+    }
+    beside = NULL;
+    verdict = checked;
+    verdict_place = checked_place;
+}
+
+/*
+ * The right index, and some that aren't: cut, with a byte more, with a byte changed. Where and how the listing's bytes decide,
+ * so that listings that differ little try others. Then the right one changed as the input says: behind byte 0 stands a place in
+ * two bytes, then what is to stand there. If nothing is, the index ends there.
+ */
+static void ask_with_indexes(const uint8_t *change, size_t change_size, uint64_t plain)
+{
+    static uint8_t changed[MOST + LENT];
+    uint64_t place;
+    ask_with_index(made, made_size, plain);
+    if (verdict == 0) {
+        told = 0;
+        for (size_t n = 0; n < length; n++)
+            tell(listing[n]);
+        const uint64_t by = told;
+        ask_with_index(made, by % made_size, plain);
+        made[made_size] = (uint8_t)by;
+        ask_with_index(made, made_size + 1, plain);
+        for (uint64_t n = 0; n < 64; n++) {
+            const size_t at = ((by >> 16) + n) % made_size;
+            memcpy(changed, made, made_size);
+            changed[at] ^= 1 << ((by >> 8) + n / 8) % 8;
+            ask_index_check(changed, made_size, &place);
+        }
+        ask_with_index(changed, made_size, plain);
+    }
+    if (change_size >= 3) {
+        const size_t at = (change[1] + 256u * change[2]) % (made_size + 1), size = change_size - 3;
+        memcpy(changed, made, made_size);
+        memcpy(changed + at, change + 3, size);
+        ask_with_index(changed, size == 0 || at + size > made_size ? at + size : made_size, plain);
+    }
 }
 
 /* What libFuzzer calls for each input. */
@@ -230,20 +443,15 @@ int LLVMFuzzerTestOneInput(const uint8_t *data, size_t size)
     }
     if (size > MOST)
         return 0;
-    /* Against the page behind it, or against the one before. */
-    uint8_t *front = size % 2 == 0 ? memory + MOST - size : memory;
-    REQUIRE(mprotect(memory, MOST, PROT_READ | PROT_WRITE) == 0);
-    if (size > 0)
-        memcpy(front, data, size);
-    REQUIRE(mprotect(memory, MOST, PROT_READ) == 0);
-    listing = front;
-    length = size;
+    const uint8_t *zero = size > 0 ? memchr(data, 0, size) : NULL;
+    length = zero == NULL ? size : (size_t)(zero - data);
+    listing = lend_to_read(memory, data, length);
 
-    const uint64_t total = ask_check();
-    for (uint64_t k = 0; k <= SOME; k++)
-        ask_sequence(k);
-    ask_sequence(total);
-    ask_sequence(total + 1);
+    ask_check();
+    const uint64_t plain = ask_for_items();
+    ask_maker();
+    if (verdict != 0 || made_size > 0) /* else an index too long for the output here */
+        ask_with_indexes(data + length, size - length, plain);
     return 0;
 }
 
@@ -260,5 +468,50 @@ int main(int count, char **words)
     }
     printf("harness: %d files, nothing found\n", count - 1);
     return 0;
+}
+#else
+static uint64_t dice;
+
+static size_t throw(size_t sides)
+{
+    dice = dice * 6364136223846793005u + 1442695040888963407u;
+    return (size_t)(dice >> 33) % sides;
+}
+
+size_t LLVMFuzzerMutate(uint8_t *data, size_t size, size_t most);
+size_t LLVMFuzzerCustomMutator(uint8_t *data, size_t size, size_t most, unsigned seed);
+
+/*
+ * How libFuzzer makes a new input of an old one: half of the time as it likes, which hardly ever leaves a listing accepted. Else
+ * in some texts one byte becomes another one of the same text, and now and then a change of the index is put behind a byte 0.
+ */
+size_t LLVMFuzzerCustomMutator(uint8_t *data, size_t size, size_t most, unsigned seed)
+{
+    if (seed % 2 == 0 || size == 0)
+        return LLVMFuzzerMutate(data, size, most);
+    dice = seed;
+    const uint8_t *zero = memchr(data, 0, size);
+    const size_t end = zero == NULL ? size : (size_t)(zero - data);
+    for (size_t changes = 1 + throw(3); changes > 0 && end > 0; changes--) {
+        size_t start = throw(end), stop;
+        do {
+            while (start < end && data[start] != '>')
+                start++;
+            start++;
+            for (stop = start; stop < end && data[stop] != '<'; stop++)
+                ;
+        } while (start < end && stop == start);
+        if (start < end) {
+            const uint8_t byte = data[start + throw(stop - start)];
+            data[start + throw(stop - start)] = byte;
+        }
+    }
+    const size_t more = 3 + throw(4);
+    if (throw(4) > 0 || most - end < more)
+        return size;
+    data[end] = 0;
+    for (size_t n = 1; n < more; n++)
+        data[end + n] = (uint8_t)(n == 2 ? throw(3) : throw(256));
+    return end + more;
 }
 #endif

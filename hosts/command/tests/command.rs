@@ -55,7 +55,7 @@ fn specimens() -> Vec<String> {
     let files = fs::read_dir(SPECIMENS).unwrap();
     let names = files.map(|file| file.unwrap().file_name().into_string().unwrap());
     let names: Vec<_> = names.filter(|name| name.ends_with(".xml")).collect();
-    assert_eq!(names.len(), 57);
+    assert_eq!(names.len(), 59);
     names
 }
 

@@ -53,7 +53,7 @@ fn every_specimen_is_judged_as_expected() {
         assert_eq!(said, figures, "{file}");
         judged += 1;
     }
-    assert_eq!(judged, 57);
+    assert_eq!(judged, 59);
 }
 
 #[test]

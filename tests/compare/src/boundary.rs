@@ -1,6 +1,6 @@
 //! The public calls, as libdreichnook.a gives them to other programs.
 
-use crate::lookups::{Answer, Question, Room};
+use crate::lookups::{Answer, Lent, Question, Room};
 use referee::{Counts, Refusal};
 
 extern "C" {
@@ -15,74 +15,79 @@ extern "C" {
         unjudged: *mut u64,
     ) -> u32;
 
-    fn dreichnook_sequence(
+    fn dreichnook_index(
         listing: *const u8,
         length: usize,
-        sequence: u64,
-        place: *mut u64,
-        kind: *mut u8,
-        start: *mut u64,
-        size: *mut u64,
-    ) -> u32;
-
-    fn dreichnook_feature(
-        listing: *const u8,
-        length: usize,
-        sequence: u64,
-        feature: u64,
-        place: *mut u64,
-        key_start: *mut u64,
-        key_size: *mut u64,
-        location_start: *mut u64,
-        location_size: *mut u64,
-    ) -> u32;
-
-    fn dreichnook_qualifier(
-        listing: *const u8,
-        length: usize,
-        sequence: u64,
-        feature: u64,
-        qualifier: u64,
-        place: *mut u64,
-        name_start: *mut u64,
-        name_size: *mut u64,
-        present: *mut u8,
-        value_start: *mut u64,
-        value_size: *mut u64,
-    ) -> u32;
-
-    fn dreichnook_spans(
-        listing: *const u8,
-        length: usize,
-        sequence: u64,
-        feature: u64,
-        out: *mut u32,
-        room: usize,
-        place: *mut u64,
-        operator: *mut u8,
-        count: *mut u64,
-    ) -> u32;
-
-    fn dreichnook_translation(
-        listing: *const u8,
-        length: usize,
-        sequence: u64,
-        feature: u64,
         out: *mut u8,
         room: usize,
         place: *mut u64,
         size: *mut u64,
     ) -> u32;
 
-    fn dreichnook_translations(
+    fn dreichnook_index_check(
         listing: *const u8,
         length: usize,
-        sequence: u64,
-        out: *mut u8,
-        room: usize,
+        index: *const u8,
+        index_length: usize,
         place: *mut u64,
-        size: *mut u64,
     ) -> u32;
+}
+
+/// Declares each lookup without an index and with one, and gives the function that asks the one or the other.
+/// Both have the same arguments from `sequence` on.
+macro_rules! lookups {
+    ($($name:ident: $plain:ident, $indexed:ident($($argument:ident: $type:ty),*);)*) => {
+        extern "C" {
+            $(
+                fn $plain(listing: *const u8, length: usize, $($argument: $type),*) -> u32;
+
+                fn $indexed(
+                    listing: *const u8,
+                    length: usize,
+                    index: *const u8,
+                    index_length: usize,
+                    $($argument: $type),*
+                ) -> u32;
+            )*
+        }
+
+        $(
+            #[allow(clippy::too_many_arguments)]
+            unsafe fn $name(lent: Lent, $($argument: $type),*) -> u32 {
+                let (listing, length) = (lent.listing.as_ptr(), lent.listing.len());
+                match lent.index {
+                    None => $plain(listing, length, $($argument),*),
+                    Some(index) => {
+                        $indexed(listing, length, index.as_ptr(), index.len(), $($argument),*)
+                    }
+                }
+            }
+        )*
+    };
+}
+
+lookups! {
+    sequence: dreichnook_sequence, dreichnook_indexed_sequence(
+        sequence: u64, place: *mut u64, kind: *mut u8, start: *mut u64, size: *mut u64
+    );
+    feature: dreichnook_feature, dreichnook_indexed_feature(
+        sequence: u64, feature: u64, place: *mut u64, key_start: *mut u64, key_size: *mut u64,
+        location_start: *mut u64, location_size: *mut u64
+    );
+    qualifier: dreichnook_qualifier, dreichnook_indexed_qualifier(
+        sequence: u64, feature: u64, qualifier: u64, place: *mut u64, name_start: *mut u64,
+        name_size: *mut u64, present: *mut u8, value_start: *mut u64, value_size: *mut u64
+    );
+    spans: dreichnook_spans, dreichnook_indexed_spans(
+        sequence: u64, feature: u64, out: *mut u32, room: usize, place: *mut u64,
+        operator: *mut u8, count: *mut u64
+    );
+    translation: dreichnook_translation, dreichnook_indexed_translation(
+        sequence: u64, feature: u64, out: *mut u8, room: usize, place: *mut u64, size: *mut u64
+    );
+    translations: dreichnook_translations, dreichnook_indexed_translations(
+        sequence: u64, out: *mut u8, room: usize, place: *mut u64, size: *mut u64
+    );
 }
 
 /// What the numbers hold before a call. No answer has them, so one that a call forgets to set is a difference.
@@ -132,59 +137,64 @@ fn checked(rule: u32, place: u64, counts: [u64; 5]) -> Result<Counts, Refusal> {
     }
 }
 
+/// The first item of a lent room, and how many there are.
+fn raw<T>(room: &mut [T]) -> (*mut T, usize) {
+    (room.as_mut_ptr(), room.len())
+}
+
 /// Asks the archive. What it writes into the room is seen there.
-pub fn ask(input: &[u8], question: Question, room: &mut Room) -> Answer {
-    let (listing, length) = (input.as_ptr(), input.len());
+pub fn ask(lent: Lent, question: Question, room: &mut Room) -> Answer {
+    let (listing, length) = (lent.listing.as_ptr(), lent.listing.len());
     let mut place = UNSET;
+    let at = &mut place;
     let (mut a, mut b, mut c, mut d, mut e) = (UNSET, UNSET, UNSET, UNSET, UNSET);
     let mut byte = UNSET_BYTE;
-    // SAFETY: each call reads `length` bytes from `listing`, writes within the lent room, whose size it is told, and one
-    // number through each other pointer.
+    // SAFETY: each call reads the bytes of the listing and of the index by their lengths, writes within the lent room, whose
+    // size it is told, and one number through each other pointer.
     let (number, shown) = unsafe {
         match question {
             Question::Check => {
-                let number = dreichnook_check(
-                    listing, length, &mut place, &mut a, &mut b, &mut c, &mut d, &mut e,
-                );
+                let number =
+                    dreichnook_check(listing, length, at, &mut a, &mut b, &mut c, &mut d, &mut e);
                 (number, [a, b, c, d, e])
             }
+            Question::Index => {
+                let (out, size) = raw(room.bytes());
+                let number = dreichnook_index(listing, length, out, size, at, &mut a);
+                (number, [a, 0, 0, 0, 0])
+            }
+            Question::IndexCheck => {
+                let index = lent.index.unwrap_or_default();
+                let (index, index_length) = (index.as_ptr(), index.len());
+                let number = dreichnook_index_check(listing, length, index, index_length, at);
+                (number, [0; 5])
+            }
             Question::Sequence(k) => {
-                let number =
-                    dreichnook_sequence(listing, length, k, &mut place, &mut byte, &mut a, &mut b);
+                let number = sequence(lent, k, at, &mut byte, &mut a, &mut b);
                 (number, [u64::from(byte), a, b, 0, 0])
             }
             Question::Feature(k, f) => {
-                let number = dreichnook_feature(
-                    listing, length, k, f, &mut place, &mut a, &mut b, &mut c, &mut d,
-                );
+                let number = feature(lent, k, f, at, &mut a, &mut b, &mut c, &mut d);
                 (number, [a, b, c, d, 0])
             }
             Question::Qualifier(k, f, q) => {
-                let number = dreichnook_qualifier(
-                    listing, length, k, f, q, &mut place, &mut a, &mut b, &mut byte, &mut c, &mut d,
-                );
+                let number =
+                    qualifier(lent, k, f, q, at, &mut a, &mut b, &mut byte, &mut c, &mut d);
                 (number, [a, b, u64::from(byte), c, d])
             }
             Question::Spans(k, f) => {
-                let out = room.numbers();
-                let (at, size) = (out.as_mut_ptr(), out.len());
-                let number = dreichnook_spans(
-                    listing, length, k, f, at, size, &mut place, &mut byte, &mut a,
-                );
+                let (out, size) = raw(room.numbers());
+                let number = spans(lent, k, f, out, size, at, &mut byte, &mut a);
                 (number, [u64::from(byte), a, 0, 0, 0])
             }
             Question::Translation(k, f) => {
-                let out = room.bytes();
-                let (at, size) = (out.as_mut_ptr(), out.len());
-                let number =
-                    dreichnook_translation(listing, length, k, f, at, size, &mut place, &mut a);
+                let (out, size) = raw(room.bytes());
+                let number = translation(lent, k, f, out, size, at, &mut a);
                 (number, [a, 0, 0, 0, 0])
             }
             Question::Translations(k) => {
-                let out = room.bytes();
-                let (at, size) = (out.as_mut_ptr(), out.len());
-                let number =
-                    dreichnook_translations(listing, length, k, at, size, &mut place, &mut a);
+                let (out, size) = raw(room.bytes());
+                let number = translations(lent, k, out, size, at, &mut a);
                 (number, [a, 0, 0, 0, 0])
             }
         }

@@ -6,10 +6,20 @@ use referee::{Listing, Part, Refusal};
 use std::collections::BTreeMap;
 use std::path::{Path, PathBuf};
 
-/// A call with its numbers: the sequence, the feature in it, the qualifier of that.
+/// What is lent to be read: a listing, and beside it an index, if one is lent.
+#[derive(Clone, Copy)]
+pub struct Lent<'a> {
+    pub listing: &'a [u8],
+    pub index: Option<&'a [u8]>,
+}
+
+/// A call with its numbers: the sequence, the feature in it, the qualifier of that. Those with numbers are the lookups, which
+/// are asked with an index where one is lent.
 #[derive(Clone, Copy, Debug, PartialEq, Eq)]
 pub enum Question {
     Check,
+    Index,
+    IndexCheck,
     Sequence(u64),
     Feature(u64, u64),
     Qualifier(u64, u64, u64),
@@ -62,6 +72,8 @@ impl Question {
     fn call(self) -> &'static str {
         match self {
             Question::Check => "check",
+            Question::Index => "index",
+            Question::IndexCheck => "index_check",
             Question::Sequence(..) => "sequence",
             Question::Feature(..) => "feature",
             Question::Qualifier(..) => "qualifier",
@@ -71,11 +83,19 @@ impl Question {
         }
     }
 
+    /// Whether it is asked with an index where one is lent.
+    fn is_lookup(self) -> bool {
+        !matches!(
+            self,
+            Question::Check | Question::Index | Question::IndexCheck
+        )
+    }
+
     /// How many items of lent output this answer has, if the call writes any.
     fn written(self, answer: &Answer) -> Option<usize> {
         match self {
             Question::Spans(..) => Some(3 * answer.shown[1] as usize),
-            Question::Translation(..) | Question::Translations(..) => {
+            Question::Index | Question::Translation(..) | Question::Translations(..) => {
                 Some(answer.shown[0] as usize)
             }
             _ => None,
@@ -84,8 +104,18 @@ impl Question {
 }
 
 /// Asks the referee.
-fn judged(listing: &Listing, question: Question, room: &mut Room) -> Answer {
-    let shown = match question {
+pub fn judged(
+    listing: &Listing,
+    index: Option<&[u8]>,
+    question: Question,
+    room: &mut Room,
+) -> Answer {
+    let lent = match index {
+        Some(index) if question.is_lookup() => listing.indexed(index),
+        _ => Ok(listing),
+    };
+    let size = |size| [size, 0, 0, 0, 0];
+    let shown = lent.and_then(|listing| match question {
         Question::Check => listing.check().map(|counts| {
             [
                 counts.total,
@@ -95,6 +125,10 @@ fn judged(listing: &Listing, question: Question, room: &mut Room) -> Answer {
                 counts.unjudged,
             ]
         }),
+        Question::Index => listing.index(room.bytes()).map(size),
+        Question::IndexCheck => listing
+            .index_check(index.unwrap_or_default())
+            .map(|()| [0; 5]),
         Question::Sequence(k) => listing.sequence(k).map(|answer| {
             let [start, size] = numbers(answer.residues);
             [answer.kind as u64, start, size, 0, 0]
@@ -113,15 +147,9 @@ fn judged(listing: &Listing, question: Question, room: &mut Room) -> Answer {
         Question::Spans(k, f) => listing
             .spans(k, f, room.numbers())
             .map(|answer| [answer.operator as u64, answer.count, 0, 0, 0]),
-        Question::Translation(k, f) => {
-            let size = listing.translation(k, f, room.bytes());
-            size.map(|size| [size, 0, 0, 0, 0])
-        }
-        Question::Translations(k) => {
-            let size = listing.translations(k, room.bytes());
-            size.map(|size| [size, 0, 0, 0, 0])
-        }
-    };
+        Question::Translation(k, f) => listing.translation(k, f, room.bytes()).map(size),
+        Question::Translations(k) => listing.translations(k, room.bytes()).map(size),
+    });
     match shown {
         Ok(shown) => Answer {
             number: 0,
@@ -149,7 +177,8 @@ const HUGE: [u64; 2] = [(1 << 32) + 1, u64::MAX];
 /// The numbers to ask for among so many items; without a count the question is refused whatever the number.
 fn asked_numbers(count: Option<u64>, all: bool) -> Vec<u64> {
     match count {
-        None => vec![0, 1, u64::MAX],
+        None if all => vec![0, 1, u64::MAX],
+        None => vec![1],
         Some(count) if all => (0..=count + 1).chain(HUGE).collect(),
         Some(count) => vec![count.max(1), count + 1],
     }
@@ -164,9 +193,9 @@ fn count_of<T, U>(
     Some((1..).take_while(|&number| item(number).is_ok()).count() as u64)
 }
 
-/// Every question about a listing: for each item of its tree, for number 0, one too many and huge. Of a long one, the last items.
-fn questions(listing: &Listing, all: bool) -> Vec<Question> {
-    let mut questions = vec![Question::Check];
+/// Every lookup in a listing: for each item of its tree, for number 0, one too many and huge. Of a long one, the last items.
+fn lookups_of(listing: &Listing, all: bool) -> Vec<Question> {
+    let mut questions = Vec::new();
     let total = listing.check().ok().map(|counts| counts.total);
     for k in asked_numbers(total, all) {
         questions.extend([Question::Sequence(k), Question::Translations(k)]);
@@ -186,11 +215,11 @@ fn questions(listing: &Listing, all: bool) -> Vec<Question> {
 }
 
 /// The sizes of room to ask with: none, one short, exact and larger.
-fn rooms(listing: &Listing, question: Question) -> Vec<usize> {
+fn rooms(listing: &Listing, index: Option<&[u8]>, question: Question) -> Vec<usize> {
     const NO_ROOM: u32 = 34;
-    let mut size = 1 << 10;
+    let mut size = 1 << 6;
     let answer = loop {
-        let answer = judged(listing, question, &mut Room::new(size));
+        let answer = judged(listing, index, question, &mut Room::new(size));
         if answer.number != NO_ROOM {
             break answer;
         }
@@ -234,7 +263,10 @@ fn by_the_check(number: u32) -> u32 {
     }
 }
 
-/// The numbers that each call may answer, as `by_the_check` has them.
+/// A call: whether it is a lookup with an index, and its name.
+type Call = (bool, &'static str);
+
+/// The numbers that each call without an index may answer, as `by_the_check` has them.
 const ANSWERS: [(&str, &[u32]); 7] = [
     ("check", &[0, 1]),
     ("sequence", &[0, 1, 30, 31]),
@@ -245,36 +277,68 @@ const ANSWERS: [(&str, &[u32]); 7] = [
     ("translations", &[0, 1, 30, 31, 34]),
 ];
 
+/// Those calls with their numbers.
+fn plain_calls() -> Vec<(Call, Vec<u32>)> {
+    let calls = ANSWERS.into_iter();
+    calls
+        .map(|(name, numbers)| ((false, name), numbers.to_vec()))
+        .collect()
+}
+
+/// The calls that have to do with an index: maker, checker, and the same lookups, which may find the index wrong.
+pub fn index_calls() -> Vec<(Call, Vec<u32>)> {
+    let mut calls = vec![
+        ((false, "index"), vec![0, 1, 34]),
+        ((false, "index_check"), vec![0, 1, 50]),
+    ];
+    for (name, numbers) in ANSWERS.into_iter().filter(|&(name, _)| name != "check") {
+        calls.push(((true, name), [numbers, &[50]].concat()));
+    }
+    calls
+}
+
 /// Compares on so many generated listings, and all that doesn't depend on the count.
 pub fn run(count: u64, seed: u64, root: &Path) -> Result<bool, String> {
     let specimens = layout::specimens(&root.join("tests/specimens"))?;
-    let mut lookups = Lookups::new(boundary::ask, Some(root.join("target/compare")));
-    lookups.kind("specimens", layout::specimen_inputs(specimens));
-    lookups.kind("hand-made", layout::hand_made());
-    lookups.kind("generated", layout::generated(count, seed));
-    lookups.kind("one damage", check::damages(count / 5, seed));
+    let folder = Some(root.join("target/compare"));
+    let mut lookups = Lookups::new("lookups", plain_calls(), boundary::ask, folder);
+    let plain = Lookups::plain;
+    lookups.kind("specimens", layout::specimen_inputs(specimens), plain);
+    lookups.kind("hand-made", layout::hand_made(), plain);
+    lookups.kind("generated", layout::generated(count, seed), plain);
+    lookups.kind("one damage", check::damages(count / 5, seed), plain);
     let numbers = 0..count / 5;
     let values = numbers.map(|number| mutants::value_mutant(seed, number));
-    lookups.kind("mutants of values", values);
+    lookups.kind("mutants of values", values, plain);
     let sizes = [large::LONGEST, large::LONGEST + 1];
     let sized = sizes.map(|size| large::inputs(&large::MIXES, size));
     let sized = sized.into_iter().flatten();
-    lookups.kind("of the greatest size, and one byte more", sized);
+    lookups.kind("of the greatest size, and one byte more", sized, plain);
     Ok(lookups.close())
 }
 
 /// The comparison with the referee, and how often each call was answered by which number.
-struct Lookups<A> {
+pub struct Lookups<A> {
+    name: &'static str,
+    /// The calls with the numbers that must be met.
+    calls: Vec<(Call, Vec<u32>)>,
     ask: A,
-    count: Count,
-    answers: BTreeMap<(&'static str, u32), usize>,
+    pub count: Count,
+    answers: BTreeMap<(Call, u32), usize>,
     /// Where listings with a difference are kept.
     folder: Option<PathBuf>,
 }
 
-impl<A: Fn(&[u8], Question, &mut Room) -> Answer> Lookups<A> {
-    fn new(ask: A, folder: Option<PathBuf>) -> Self {
+impl<A: Fn(Lent, Question, &mut Room) -> Answer> Lookups<A> {
+    pub fn new(
+        name: &'static str,
+        calls: Vec<(Call, Vec<u32>)>,
+        ask: A,
+        folder: Option<PathBuf>,
+    ) -> Self {
         Lookups {
+            name,
+            calls,
             ask,
             count: Count::default(),
             answers: BTreeMap::new(),
@@ -282,12 +346,19 @@ impl<A: Fn(&[u8], Question, &mut Room) -> Answer> Lookups<A> {
         }
     }
 
-    /// Asks all questions about all inputs of one kind, and prints how many there were.
-    fn kind(&mut self, kind: &str, inputs: impl Iterator<Item = Input>) {
+    /// Asks about all inputs of one kind, each as `about` does, and prints how many there were.
+    pub fn kind(
+        &mut self,
+        kind: &str,
+        inputs: impl Iterator<Item = Input>,
+        mut about: impl FnMut(&mut Self, &Input, &Listing),
+    ) {
         let before = self.count.cases;
         let (mut accepted, mut refused) = (0, 0);
         for input in inputs {
-            if self.listing(&input) {
+            let listing = Listing::new(&input.bytes);
+            about(self, &input, &listing);
+            if listing.check().is_ok() {
                 accepted += 1;
             } else {
                 refused += 1;
@@ -297,28 +368,58 @@ impl<A: Fn(&[u8], Question, &mut Room) -> Answer> Lookups<A> {
         println!("{kind}: {accepted} accepted listings, {refused} refused, {asked} questions");
     }
 
-    /// Asks all questions about one listing; whether it is accepted.
-    fn listing(&mut self, input: &Input) -> bool {
-        let listing = Listing::new(&input.bytes);
-        for question in questions(&listing, input.bytes.len() < SMALL) {
-            for size in rooms(&listing, question) {
-                self.question(input, &listing, question, size);
-            }
+    /// Asks everything that needs no index.
+    fn plain(&mut self, input: &Input, listing: &Listing) {
+        self.question(input, listing, None, Question::Check);
+        self.lookups(input, listing, None);
+    }
+
+    /// Asks for every item of a listing, and for some that aren't there.
+    pub fn lookups(&mut self, input: &Input, listing: &Listing, index: Option<&[u8]>) {
+        for question in lookups_of(listing, input.bytes.len() < SMALL) {
+            self.question(input, listing, index, question);
         }
-        listing.check().is_ok()
+    }
+
+    /// Asks one question with every size of room.
+    pub fn question(
+        &mut self,
+        input: &Input,
+        listing: &Listing,
+        index: Option<&[u8]>,
+        question: Question,
+    ) {
+        for size in rooms(listing, index, question) {
+            self.one(input, listing, index, question, size);
+        }
     }
 
     /// Compares the number, everything that is set, and every item of the room and about it.
-    fn question(&mut self, input: &Input, listing: &Listing, question: Question, size: usize) {
+    fn one(
+        &mut self,
+        input: &Input,
+        listing: &Listing,
+        index: Option<&[u8]>,
+        question: Question,
+        size: usize,
+    ) {
+        let lent = Lent {
+            listing: &input.bytes,
+            index,
+        };
         let (mut room, mut judge_room) = (Room::new(size), Room::new(size));
-        let answer = (self.ask)(&input.bytes, question, &mut room);
-        let referee = judged(listing, question, &mut judge_room);
-        let met = (question.call(), by_the_check(referee.number));
+        let answer = (self.ask)(lent, question, &mut room);
+        let referee = judged(listing, index, question, &mut judge_room);
+        let call = (question.is_lookup() && index.is_some(), question.call());
+        let met = (call, by_the_check(referee.number));
         *self.answers.entry(met).or_default() += 1;
         let folder = self.folder.as_deref();
         self.count
             .case((answer, &room) == (referee, &judge_room), |number| {
                 println!("DIFFERS: {} ({} bytes)", input.name, input.bytes.len());
+                if let Some(index) = index {
+                    println!("  with an index of {} bytes", index.len());
+                }
                 println!("  asked: {question:?}, room for {size}");
                 println!("  archive: {answer:?}");
                 println!("  referee:   {referee:?}");
@@ -326,26 +427,30 @@ impl<A: Fn(&[u8], Question, &mut Room) -> Answer> Lookups<A> {
                     println!("  lent output: {item}");
                 }
                 if let Some(folder) = folder {
-                    keep(folder, number, &input.bytes);
+                    keep(folder, number, "xml", &input.bytes);
+                    if let Some(index) = index {
+                        keep(folder, number, "index", index);
+                    }
                 }
             });
     }
 
     /// The calls with a number that was never the answer.
-    fn unmet(&self) -> Vec<(&'static str, u32)> {
-        let all = ANSWERS
-            .into_iter()
-            .flat_map(|(call, numbers)| numbers.iter().map(move |&number| (call, number)));
+    fn unmet(&self) -> Vec<(Call, u32)> {
+        let calls = self.calls.iter();
+        let all =
+            calls.flat_map(|(call, numbers)| numbers.iter().map(move |&number| (*call, number)));
         all.filter(|met| !self.answers.contains_key(met)).collect()
     }
 
     /// Prints the last lines; true if nothing differs and every number was met.
-    fn close(&self) -> bool {
-        for (call, numbers) in ANSWERS {
+    pub fn close(&self) -> bool {
+        for &((is_indexed, name), ref numbers) in &self.calls {
             let met: Vec<String> = numbers
                 .iter()
                 .map(|&number| {
-                    let count = self.answers.get(&(call, number)).unwrap_or(&0);
+                    let met = ((is_indexed, name), number);
+                    let count = self.answers.get(&met).unwrap_or(&0);
                     match number {
                         0 => format!("answered {count}"),
                         1 => format!("refused by the check {count}"),
@@ -353,13 +458,14 @@ impl<A: Fn(&[u8], Question, &mut Room) -> Answer> Lookups<A> {
                     }
                 })
                 .collect();
-            println!("{call}: {}", met.join(", "));
+            let prefix = if is_indexed { "indexed_" } else { "" };
+            println!("{prefix}{name}: {}", met.join(", "));
         }
         let unmet = self.unmet();
         if !unmet.is_empty() {
             println!("NEVER THE ANSWER (0: answered, 1: refused by the check): {unmet:?}");
         }
-        self.count.close("lookups") && unmet.is_empty()
+        self.count.close(self.name) && unmet.is_empty()
     }
 }
 
@@ -370,17 +476,22 @@ mod tests {
     /// A reader that errs: the referee's answer, changed by the questioned reader's error.
     type Error = fn(&Listing, Question, &mut Room) -> Answer;
 
+    /// The referee's answer without an index.
+    fn judged(listing: &Listing, question: Question, room: &mut Room) -> Answer {
+        super::judged(listing, None, question, room)
+    }
+
     /// How many answers of an erring reader differ, on some valid listings and some others.
     fn differ(error: Error) -> usize {
-        let ask = |input: &[u8], question: Question, room: &mut Room| {
-            error(&Listing::new(input), question, room)
+        let ask = |lent: Lent, question: Question, room: &mut Room| {
+            error(&Listing::new(lent.listing), question, room)
         };
-        let mut lookups = Lookups::new(ask, None);
+        let mut lookups = Lookups::new("test", plain_calls(), ask, None);
         // The erring reader checks them anew for each question, so they are short.
         let short = layout::generated(400, 1).filter(|input| {
             input.bytes.len() < 5_000 && input.bytes.windows(5).any(|bytes| bytes == b">CDS<")
         });
-        lookups.kind("test", short.take(20));
+        lookups.kind("test", short.take(20), Lookups::plain);
         lookups.count.differ
     }
 
@@ -529,8 +640,8 @@ mod tests {
 
     #[test]
     fn a_number_that_is_never_the_answer_fails() {
-        let mut lookups = Lookups::new(boundary::ask, None);
-        lookups.kind("none", std::iter::empty());
+        let mut lookups = Lookups::new("test", plain_calls(), boundary::ask, None);
+        lookups.kind("none", std::iter::empty(), Lookups::plain);
         assert_eq!(lookups.unmet().len(), 37);
         assert!(!lookups.close());
     }
@@ -550,8 +661,8 @@ mod tests {
 
     #[test]
     fn the_archive_agrees() {
-        let mut lookups = Lookups::new(boundary::ask, None);
-        lookups.kind("generated", layout::generated(60, 1));
+        let mut lookups = Lookups::new("test", plain_calls(), boundary::ask, None);
+        lookups.kind("generated", layout::generated(60, 1), Lookups::plain);
         assert_eq!(lookups.count.differ, 0);
         assert!(lookups.count.cases > 1000);
     }

@@ -3,6 +3,7 @@
 mod boundary;
 mod check;
 mod heavy;
+mod index;
 mod large;
 mod layout;
 mod location;
@@ -27,6 +28,7 @@ compare check COUNT [SEED]       the whole check on COUNT generated listings, CO
 compare vocabulary COUNT [SEED]  the check of every key with every name, of near misses, and of COUNT generated feature tables
 compare residues COUNT [SEED]    the check of every character and of foreign residues at each place, and of COUNT generated texts
 compare lookups COUNT [SEED]     every public call, with any numbers and any room, on COUNT generated listings, and more
+compare index COUNT [SEED]       maker, checker and lookups with right and wrong indexes, on COUNT generated listings, and more
 compare make KIND SIZE FILE      writes a listing of this size, or nearly, for measuring";
 
 fn main() -> ExitCode {
@@ -63,6 +65,7 @@ fn compare(what: &str, count: &str, seed: &str, root: &Path) -> Result<bool, Str
         "vocabulary" => vocabulary::run(count, seed, root),
         "residues" => residues::run(count, seed, root),
         "lookups" => lookups::run(count, seed, root),
+        "index" => index::run(count, seed, root),
         _ => Err(usage()),
     }?;
     println!("{:.0} seconds", start.elapsed().as_secs_f64());

@@ -9,6 +9,7 @@ use std::path::{Path, PathBuf};
 pub type Verdict<T = ()> = Result<T, Refusal>;
 
 /// An input and a name by which it can be made again.
+#[derive(Clone)]
 pub struct Input {
     pub name: String,
     pub bytes: Vec<u8>,
@@ -114,7 +115,7 @@ where
             println!("  proved reader: {}", words(&input.bytes, proved));
             println!("  referee:         {}", words(&input.bytes, referee));
             if let Some(folder) = folder {
-                keep(folder, number, &input.bytes);
+                keep(folder, number, "xml", &input.bytes);
             }
         });
         (proved, referee)
@@ -141,10 +142,10 @@ impl<P: Fn(&[u8]) -> Verdict, J: Fn(&[u8]) -> Verdict> Comparison<P, J> {
     }
 }
 
-/// Keeps an input with a difference.
-pub fn keep(folder: &Path, number: usize, input: &[u8]) {
-    let file = folder.join(format!("differs-{number}.xml"));
-    let kept = fs::create_dir_all(folder).and_then(|()| fs::write(&file, input));
+/// Keeps an input with a difference, or another of the bytes that were lent with it.
+pub fn keep(folder: &Path, number: usize, extension: &str, bytes: &[u8]) {
+    let file = folder.join(format!("differs-{number}.{extension}"));
+    let kept = fs::create_dir_all(folder).and_then(|()| fs::write(&file, bytes));
     match kept {
         Ok(()) => println!("  kept as {}", file.display()),
         Err(error) => println!("  not kept: {}: {error}", file.display()),

@@ -6,6 +6,7 @@ mod cds;
 pub mod coding;
 pub mod generate;
 pub mod hand;
+mod index;
 pub mod layout;
 mod listing;
 pub mod location;

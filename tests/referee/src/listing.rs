@@ -1,7 +1,8 @@
-//! A listing that was checked once, and document 01's "What may be asked".
+//! A listing that was checked once, document 01's "What may be asked", and the index of document 02.
 
 use crate::cds;
 use crate::coding::Coding;
+use crate::index;
 use crate::layout::layout;
 use crate::location::{location, Location, Operator};
 use crate::text::Part;
@@ -30,6 +31,8 @@ const NO_ROOM: Refusal = Refusal::of_question(34);
 const NOT_A_CDS: Refusal = Refusal::of_question(35);
 const UNJUDGED: Refusal = Refusal::of_question(36);
 const STOP_INSIDE: Refusal = Refusal::of_question(37);
+/// The refusal of an index that isn't the listing's; it carries a place.
+const OTHER_INDEX: u32 = 50;
 
 /// What the check counts in an accepted listing.
 #[derive(Clone, Copy, Debug, Default, PartialEq, Eq)]
@@ -193,6 +196,39 @@ impl<'a> Listing<'a> {
             lines.push(coding.filter(|_| letters.is_some()));
         }
         write(out, length, lines.iter().flat_map(line))
+    }
+
+    /// The index, written to the front of `out`; gives its length.
+    pub fn index(&self, out: &mut [u8]) -> Result<u64, Refusal> {
+        let index = self.made_index()?;
+        write(out, index.len() as u64, index.into_iter())
+    }
+
+    /// Takes an index only if it is the one that the maker would write.
+    pub fn index_check(&self, index: &[u8]) -> Result<(), Refusal> {
+        let made = self.made_index()?;
+        match index::parting(index, &made) {
+            Some(place) => Err(Refusal {
+                rule: OTHER_INDEX,
+                place,
+            }),
+            None => Ok(()),
+        }
+    }
+
+    /// The listing for lookups with an index: "Lookups with an index first run that checker. After it they equal the plain lookups."
+    pub fn indexed(&self, index: &[u8]) -> Result<&Listing<'a>, Refusal> {
+        self.index_check(index)?;
+        Ok(self)
+    }
+
+    /// The index that the maker would write, if it had room.
+    pub fn made_index(&self) -> Result<Vec<u8>, Refusal> {
+        let sequences = self.accepted()?.tree.sequences.iter();
+        let bodies: Vec<_> = sequences
+            .map(|sequence| index::body(Kind::of(self.bytes, sequence), sequence))
+            .collect();
+        Ok(index::index(&bodies))
     }
 
     fn accepted(&self) -> Result<&Accepted, Refusal> {

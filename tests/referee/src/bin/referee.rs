@@ -1,4 +1,4 @@
-//! The program `referee`: document 01's questions about a listing, and the generator.
+//! The program `referee`: document 01's questions about a listing, the index of document 02, and the generator.
 
 use referee::generate::{case, Case, Expectation};
 use referee::{verdict_lines, Listing, Part, Refusal};
@@ -14,9 +14,12 @@ referee qualifier FILE K F Q
 referee spans FILE K F [ROOM]
 referee translation FILE K F [ROOM]
 referee translations FILE K [ROOM]
+referee index FILE [ROOM]
+referee index-check FILE INDEX
+referee indexed-QUESTION FILE INDEX K.. [ROOM]
 referee generate SEED COUNT DIR
 referee samples DIR
-FILE may be - for standard input.";
+FILE may be - for standard input. QUESTION is one of those from sequence to translations.";
 
 fn main() -> ExitCode {
     let arguments: Vec<String> = std::env::args().skip(1).collect();
@@ -24,7 +27,7 @@ fn main() -> ExitCode {
     let outcome = match words[..] {
         ["generate", seed, count, directory] => generate(seed, count, directory),
         ["samples", directory] => samples(directory),
-        [question, file, ref numbers @ ..] => ask(question, file, numbers),
+        [question, file, ref words @ ..] => ask(question, file, words),
         _ => Err(USAGE.into()),
     };
     match outcome {
@@ -37,22 +40,39 @@ fn main() -> ExitCode {
 }
 
 /// Answers one question and prints the answer or the refusal.
-fn ask(question: &str, file: &str, numbers: &[&str]) -> Result<(), String> {
-    let numbers: Vec<u64> = numbers
-        .iter()
-        .map(|text| number(text))
-        .collect::<Result<_, _>>()?;
-    let bytes = read(file).map_err(|error| format!("{file}: {error}"))?;
+fn ask(question: &str, file: &str, words: &[&str]) -> Result<(), String> {
+    let bytes = read(file)?;
     let listing = Listing::new(&bytes);
-    let answer = match (question, &numbers[..]) {
-        ("check", []) => listing
+    let answer = match (question, question.strip_prefix("indexed-"), words) {
+        ("check", ..) if words.is_empty() => listing
             .check()
             .map(|counts| verdict_lines(Ok(counts)).into_bytes()),
-        ("sequence", &[k]) => sequence(&listing, k),
-        ("feature", &[k, f]) => feature(&listing, k, f),
-        ("qualifier", &[k, f, q]) => qualifier(&listing, k, f, q),
+        ("index", _, room) if room.len() < 2 => {
+            with_room(&numbers(room)?, |room| index(&listing, room))
+        }
+        ("index-check", _, &[index]) => listing
+            .index_check(&read(index)?)
+            .map(|()| b"verdict accepted\n".to_vec()),
+        (_, Some(plain), &[index, ref words @ ..]) => match listing.indexed(&read(index)?) {
+            Ok(listing) => lookup(listing, plain, &numbers(words)?)?,
+            Err(refusal) => Err(refusal),
+        },
+        _ => lookup(&listing, question, &numbers(words)?)?,
+    };
+    let lines = answer.unwrap_or_else(|refusal| verdict_lines(Err(refusal)).into_bytes());
+    io::stdout()
+        .write_all(&lines)
+        .map_err(|error| error.to_string())
+}
+
+/// Answers a question that has numbers.
+fn lookup(listing: &Listing, question: &str, numbers: &[u64]) -> Result<Answer, String> {
+    Ok(match (question, numbers) {
+        ("sequence", &[k]) => sequence(listing, k),
+        ("feature", &[k, f]) => feature(listing, k, f),
+        ("qualifier", &[k, f, q]) => qualifier(listing, k, f, q),
         ("spans", &[k, f, ref room @ ..]) if room.len() < 2 => {
-            with_room(room, |room| spans(&listing, k, f, room))
+            with_room(room, |room| spans(listing, k, f, room))
         }
         ("translation", &[k, f, ref room @ ..]) if room.len() < 2 => with_room(room, |room| {
             letters(room, |out| listing.translation(k, f, out))
@@ -61,11 +81,7 @@ fn ask(question: &str, file: &str, numbers: &[&str]) -> Result<(), String> {
             letters(room, |out| listing.translations(k, out))
         }),
         _ => return Err(USAGE.into()),
-    };
-    let lines = answer.unwrap_or_else(|refusal| verdict_lines(Err(refusal)).into_bytes());
-    io::stdout()
-        .write_all(&lines)
-        .map_err(|error| error.to_string())
+    })
 }
 
 type Answer = Result<Vec<u8>, Refusal>;
@@ -74,13 +90,17 @@ fn number(text: &str) -> Result<u64, String> {
     text.parse().map_err(|_| format!("not a number: {text}"))
 }
 
-fn read(file: &str) -> io::Result<Vec<u8>> {
-    if file != "-" {
-        return std::fs::read(file);
-    }
+fn numbers(words: &[&str]) -> Result<Vec<u64>, String> {
+    words.iter().map(|text| number(text)).collect()
+}
+
+fn read(file: &str) -> Result<Vec<u8>, String> {
     let mut bytes = Vec::new();
-    io::stdin().read_to_end(&mut bytes)?;
-    Ok(bytes)
+    let read = match file {
+        "-" => io::stdin().read_to_end(&mut bytes).map(|_| bytes),
+        _ => std::fs::read(file),
+    };
+    read.map_err(|error| format!("{file}: {error}"))
 }
 
 fn sequence(listing: &Listing, k: u64) -> Answer {
@@ -126,6 +146,14 @@ fn letters(room: usize, ask: impl Fn(&mut [u8]) -> Result<u64, Refusal>) -> Answ
     lines.extend_from_slice(&out[..length as usize]);
     lines.push(b'\n');
     Ok(lines)
+}
+
+/// The index itself, byte for byte.
+fn index(listing: &Listing, room: usize) -> Answer {
+    let mut out = vec![0; room];
+    let length = listing.index(&mut out)?;
+    out.truncate(length as usize);
+    Ok(out)
 }
 
 /// Asks with ever more room, up to the given one; if none is given, with enough.

@@ -1,5 +1,6 @@
 //! Generated listings: damaged ones with known rules and places, and valid ones.
 
+use crate::index;
 use crate::lookups::{against_model, all_refused};
 use crate::report::Report;
 use referee::generate::residues::{
@@ -57,6 +58,7 @@ pub fn valid(report: &mut Report) {
     for _ in 0..1000 {
         let (model, written) = valid_listing(rng);
         against_model(report, &model, &written);
+        index::against_model(report, &model, &written);
     }
     for number in 0..3000 {
         expect(report, &case(5, number));

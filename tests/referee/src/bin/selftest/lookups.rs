@@ -11,7 +11,7 @@ use referee::{
 };
 use std::fmt::Debug;
 
-fn refusal(rule: u32) -> Refusal {
+pub fn refusal(rule: u32) -> Refusal {
     Refusal { rule, place: 0 }
 }
 
@@ -21,7 +21,7 @@ fn part(start: usize, size: usize) -> Part {
 
 /// Asks with rooms around the answer's size. A refusal must leave the lent
 /// output alone; a success must write the answer to its front and nothing else.
-fn lent<T, A>(
+pub fn lent<T, A>(
     report: &mut Report,
     name: &str,
     (filler, answer): (T, &[T]),
@@ -47,7 +47,7 @@ fn lent<T, A>(
 }
 
 /// Lent bytes that are no letters.
-const BYTE: u8 = 0xee;
+pub const BYTE: u8 = 0xee;
 /// Lent numbers that are no positions.
 const NUMBER: u32 = 0xdead_beef;
 

@@ -2,6 +2,7 @@
 
 mod generated;
 mod hand;
+mod index;
 mod locations;
 mod lookups;
 mod places;
@@ -20,6 +21,7 @@ fn main() -> ExitCode {
     report.section("values by hand", hand::values);
     report.section("the program's lines", hand::lines);
     report.section("lookups by hand", lookups::by_hand);
+    report.section("the index by hand", index::by_hand);
     report.section("codons and coding texts", translations::all);
     report.section("locations", locations::all);
     report.section("the vocabulary's tables", vocabulary::tables);
