@@ -1,13 +1,14 @@
 -- One answer only: two results that a call's promise allows are equal, the parts that are shown by their bytes and where they stand.
-use Prim.Native.Nat.{ℕ, _+_}
-use mathlib.Core.Path.{_≡_, ap, sym, _∙_}
+use Prim.Native.Nat.{ℕ}
+use mathlib.Core.Path.{_≡_}
 use mathlib.Core.Bool.{Bool}
 use mathlib.Core.List.{List}
-use Rattle.paper.specs.Answers.{shown, Part, SequenceSays, FeatureSays, QualifierSays, SpansSays, TranslationSays, TranslationsSays}
+use Rattle.paper.specs.Answers.{Part, SequenceSays, FeatureSays, QualifierSays, SpansSays, TranslationSays, TranslationsSays}
 use Rattle.paper.proofs.Once as once
 use Rattle.read_layout.proofs.Wholes.{laid-once}
-use Rattle.ask_show.specs.Shown.{Points}
-use Rattle.ask_lookups.specs.Shows.{View, SequenceView, FeatureView, QualifierView, ShowsSequence, ShowsFeature, ShowsQualifier}
+use Rattle.ask_show.specs.Shown.{SequenceView, FeatureView, QualifierView}
+use Rattle.ask_show.proofs.Views as views
+use Rattle.ask_lookups.specs.Shows.{ShowsSequence, ShowsFeature, ShowsQualifier}
 
 -- ---- the numbers and the places
 
@@ -39,28 +40,11 @@ module _ {w : List ℕ} {k : ℕ} where
 -- ---- parts of the lent listing, which stands at `at`
 
 module _ {w : List ℕ} {at : ℕ × ℕ} where
-  view-once : {x y : Part} (a b : View) → Points w at x (a .bytes) (a .ptr) → Points w at y (b .bytes) (b .ptr) → x ≡ y → a ≡ b
-  view-once a b f g e =
-      let r = f .bytes ∙ ap (shown w) e ∙ sym (g .bytes) in
-      let p = f .there ∙ ap (λ (x : Part). (at .0, x .start + at .1)) e ∙ sym (g .there) in
-      λ i. record { bytes = r i; ptr = p i }
-
   pub shows-sequence-once : {k : ℕ} (x y : SequenceView) → ShowsSequence w at k x → ShowsSequence w at k y → x ≡ y
-  shows-sequence-once x y f g =
-      let z = sequence-once (f .says) (g .says) in
-      let r = view-once (x .residues) (y .residues) (f .points) (g .points) (z .3) in
-      λ i. record { number = z .0 i; place = z .1 i; kind = z .2 i; residues = r i }
+  shows-sequence-once {k} = views.shows-sequence-once (SequenceSays w k) (λ n p d m q e x y. sequence-once)
 
   pub shows-feature-once : {k j : ℕ} (x y : FeatureView) → ShowsFeature w at k j x → ShowsFeature w at k j y → x ≡ y
-  shows-feature-once x y f g =
-      let z = feature-once (f .says) (g .says) in
-      let n = view-once (x .key) (y .key) (f .named) (g .named) (z .2) in
-      let l = view-once (x .location) (y .location) (f .located) (g .located) (z .3) in
-      λ i. record { number = z .0 i; place = z .1 i; key = n i; location = l i }
+  shows-feature-once {k} {j} = views.shows-feature-once (FeatureSays w k j) (λ n p m q x y v u. feature-once)
 
   pub shows-qualifier-once : {k j i : ℕ} (x y : QualifierView) → ShowsQualifier w at k j i x → ShowsQualifier w at k j i y → x ≡ y
-  shows-qualifier-once x y f g =
-      let z = qualifier-once (f .says) (g .says) in
-      let n = view-once (x .name) (y .name) (f .named) (g .named) (z .2) in
-      let v = view-once (x .value) (y .value) (f .valued) (g .valued) (z .4) in
-      λ i. record { number = z .0 i; place = z .1 i; name = n i; present = z .3 i; value = v i }
+  shows-qualifier-once {k} {j} {i} = views.shows-qualifier-once (QualifierSays w k j i) (λ n p m q x v y u a b. qualifier-once)

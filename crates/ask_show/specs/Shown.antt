@@ -45,3 +45,50 @@ pub record Points (w : List ℕ) (at : ℕ × ℕ) (x : paper.Part) (r : List �
 pub record PointsAt (w : List ℕ) (at : ℕ × ℕ) (x : Stretch) (r : List ℕ) (p : ℕ × ℕ) : Type 0 where
   pub says : Lies w x → Points w at (partIs x) r p
   pub none : ¬ Lies w x → Points w at noPart r p
+
+-- ---- what a call returns and sets: a part is the bytes that are shown, and where they stand
+
+pub record View : Type 0 where
+  pub bytes : List ℕ
+  pub ptr : ℕ × ℕ
+
+pub record SequenceView : Type 0 where
+  pub number : ℕ
+  pub place : ℕ
+  pub kind : ℕ
+  pub residues : View
+
+pub record FeatureView : Type 0 where
+  pub number : ℕ
+  pub place : ℕ
+  pub key : View
+  pub location : View
+
+pub record QualifierView : Type 0 where
+  pub number : ℕ
+  pub place : ℕ
+  pub name : View
+  pub present : Bool
+  pub value : View
+
+-- ---- the listing w stands at `at`; `Says` is what the paper says of the call, in parts
+
+pub record ShowsSequenceBy (Says : (number place kind : ℕ) (residues : paper.Part) → Type 0) (w : List ℕ) (at : ℕ × ℕ) (x : SequenceView) : Type 0 where
+  pub residues : paper.Part
+  pub says : Says (x .number) (x .place) (x .kind) residues
+  pub points : Points w at residues (x .residues .bytes) (x .residues .ptr)
+
+pub record ShowsFeatureBy (Says : (number place : ℕ) (key location : paper.Part) → Type 0) (w : List ℕ) (at : ℕ × ℕ) (x : FeatureView) : Type 0 where
+  pub key : paper.Part
+  pub location : paper.Part
+  pub says : Says (x .number) (x .place) key location
+  pub named : Points w at key (x .key .bytes) (x .key .ptr)
+  pub located : Points w at location (x .location .bytes) (x .location .ptr)
+
+pub record ShowsQualifierBy (Says : (number place : ℕ) (name : paper.Part) (present : Bool) (value : paper.Part) → Type 0) (w : List ℕ) (at : ℕ × ℕ)
+    (x : QualifierView) : Type 0 where
+  pub name : paper.Part
+  pub value : paper.Part
+  pub says : Says (x .number) (x .place) name (x .present) value
+  pub named : Points w at name (x .name .bytes) (x .name .ptr)
+  pub valued : Points w at value (x .value .bytes) (x .value .ptr)

@@ -1,5 +1,5 @@
 -- `ask_lookups::feature` meets its contract.
-use Rattle.ask_lookups.proofs.Shown.{shows-feature}
+use Rattle.ask_show.proofs.Views.{shows-feature}
 use borrow.Author.Needs.{needs}
 use Rattle.ask_lookups.proofs.feature.Statement.{statement}
 use Rattle.ask_lookups.proofs.feature.Tie as tie
@@ -14,7 +14,7 @@ shown-requires-2 : tie.Need-shown-requires-2
 shown-requires-2 c κs = search needs
 
 returns : tie.Need-returns
-returns c = shows-feature (c .before .before .before .before .locate-feature .ensures) (c .before .shown .ensures) (c .shown2 .ensures)
+returns c = shows-feature _ (c .before .before .before .before .locate-feature .ensures) (c .before .shown .ensures) (c .shown2 .ensures)
 
 pub feature-spec : {M : Type 1} → statement M
 feature-spec = tie.close (tie.spec locate-feature-requires shown-requires shown-requires-2 returns)

@@ -1,5 +1,5 @@
 -- `ask_lookups::qualifier` meets its contract.
-use Rattle.ask_lookups.proofs.Shown.{shows-qualifier}
+use Rattle.ask_show.proofs.Views.{shows-qualifier}
 use borrow.Author.Needs.{needs}
 use Rattle.ask_lookups.proofs.qualifier.Statement.{statement}
 use Rattle.ask_lookups.proofs.qualifier.Tie as tie
@@ -14,7 +14,7 @@ shown-requires-2 : tie.Need-shown-requires-2
 shown-requires-2 c κs = search needs
 
 returns : tie.Need-returns
-returns c = shows-qualifier (c .before .before .before .before .locate-qualifier .ensures) (c .before .shown .ensures) (c .shown2 .ensures)
+returns c = shows-qualifier _ (c .before .before .before .before .locate-qualifier .ensures) (c .before .shown .ensures) (c .shown2 .ensures)
 
 pub qualifier-spec : {M : Type 1} → statement M
 qualifier-spec =

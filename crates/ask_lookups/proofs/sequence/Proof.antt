@@ -1,5 +1,5 @@
 -- `ask_lookups::sequence` meets its contract.
-use Rattle.ask_lookups.proofs.Shown.{shows-sequence}
+use Rattle.ask_show.proofs.Views.{shows-sequence}
 use borrow.Author.Needs.{needs}
 use Rattle.ask_lookups.proofs.sequence.Statement.{statement}
 use Rattle.ask_lookups.proofs.sequence.Tie as tie
@@ -11,7 +11,7 @@ shown-requires : tie.Need-shown-requires
 shown-requires c κs = search needs
 
 returns : tie.Need-returns
-returns c = shows-sequence (c .before .before .locate-sequence .ensures) (c .shown .ensures)
+returns c = shows-sequence _ (c .before .before .locate-sequence .ensures) (c .shown .ensures)
 
 pub sequence-spec : {M : Type 1} → statement M
 sequence-spec = tie.close (tie.spec locate-sequence-requires shown-requires returns)

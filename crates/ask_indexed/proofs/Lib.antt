@@ -1,0 +1,4 @@
+pub mod Found
+pub mod Known
+pub mod Answered
+pub mod Once
