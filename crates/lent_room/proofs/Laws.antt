@@ -138,11 +138,11 @@ pub agree-whole : (x y : List ℕ) → agree x y ≡ length x → length y ≤ l
 agree-whole [] [] e l = refl
 agree-whole [] (b ∷ y) e l = absurd (omega (arith, l))
 agree-whole (a ∷ x) [] e l = absurd (omega (arith, e))
-agree-whole (a ∷ x) (b ∷ y) e l = go (eqb a b) refl e
+agree-whole (a ∷ x) (b ∷ y) e l = go (eqb a b) refl (agree-whole x y) e
   where
-    go : (t : Bool) → eqb a b ≡ t → cond t (suc (agree x y)) 0 ≡ suc (length x) → b ∷ y ≡ a ∷ x
-    go true h k = let i = sym (eqb-true a b h) in let j = agree-whole x y (omega (arith, k)) (omega (arith, l)) in λ t. i t ∷ j t
-    go false h k = absurd (omega (arith, k))
+    go : (t : Bool) → eqb a b ≡ t → (agree x y ≡ length x → length y ≤ length x → y ≡ x) → cond t (suc (agree x y)) 0 ≡ suc (length x) → b ∷ y ≡ a ∷ x
+    go true h r k = let i = sym (eqb-true a b h) in let j = r (omega (arith, k)) (omega (arith, l)) in λ t. i t ∷ j t
+    go false h r k = absurd (omega (arith, k))
 
 -- ---- the definitions tried
 
