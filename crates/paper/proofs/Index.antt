@@ -70,7 +70,7 @@ module _ (s : Sequence ℕ) where
   pub kind-none : kindIn s ≡ 0 → Skipped s
   kind-none e = by (isSkipped s) refl e
     where
-      some-kind : (a b : Bool) → ¬ (_≡_ {A = ℕ} (cond a 1 (cond b 2 3)) 0)
+      some-kind : (a b : Bool) → ¬ (cond a (kindNumber dna) (cond b (kindNumber rna) (kindNumber aa)) ≡ 0)
       some-kind true b e = omega arith
       some-kind false true e = omega arith
       some-kind false false e = omega arith
@@ -148,7 +148,7 @@ entry-most f start (x ∷ l) n (suc (suc i), e) =
 pub kind-small : (s : Sequence ℕ) → kindIn s < 4
 kind-small s = by (isSkipped s) (isOf dna s) (isOf rna s)
   where
-    by : (a b c : Bool) → cond a 0 (cond b 1 (cond c 2 3)) < 4
+    by : (a b c : Bool) → cond a 0 (cond b (kindNumber dna) (cond c (kindNumber rna) (kindNumber aa))) < 4
     by true b c = omega arith
     by false true c = omega arith
     by false false true = omega arith
