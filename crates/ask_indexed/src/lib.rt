@@ -224,13 +224,7 @@ pub fn spans(listing: &[u8], index: &[u8], k: usize, j: usize, out: &mut [u32]) 
 // ---- translations
 
 // One translation at the front of out; or nothing is written.
-pub fn translation(
-    listing: &[u8],
-    index: &[u8],
-    k: usize,
-    j: usize,
-    out: &mut [u8],
-) -> LentAnswer
+pub fn translation(listing: &[u8], index: &[u8], k: usize, j: usize, out: &mut [u8]) -> LentAnswer
     ensures { λ r. ⌜ IndexedTranslationSays (now (listing .entry)) (now (index .entry)) k j (now (out .entry)) (r .number) (r .place) (r .size) (now (out .exit)) ⌝ }
 {
     match find_entry(listing, index, k, j) {
