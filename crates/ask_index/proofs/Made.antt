@@ -18,8 +18,15 @@ use Rattle.lent_room.specs.declared.Pass.{Pass}
 use Rattle.lent_room.specs.declared.Pass.the-variants.{Write, Compare}
 use Rattle.lent_room.proofs.Laws.{sets-front, agree-self, agree-whole}
 use Rattle.index_walk.specs.Bodies.{InWord, numbersOf, IndexLaid, LaysIndex}
+use Rattle.ask_answers.specs.Stretches.{nothingLent}
+use Rattle.ask_answers.specs.declared.LentAnswer.{LentAnswer}
 use Rattle.ask_find.specs.Finds.{FirstIs}
 use Rattle.ask_index.specs.Takes.{IndexOf}
+
+pub made-refused : {w out : List ℕ} {n p : ℕ} {r : LentAnswer} → Checked w (refuse n p) → r ≡ nothingLent n p → IndexSays w out (r .number) (r .place) (r .size) out
+made-refused {w} {out} {n} {p} c e =
+    subst (λ (r : LentAnswer). IndexSays w out (r .number) (r .place) (r .size) out) (sym e)
+    (record { outcome = refuse n p; finds = FindsIndex.own c; lent = Lent.refused })
 
 module _ {w : List ℕ} {at total features : ℕ} (f : FirstIs w at total features) where
   -- the counts are small: each sequence and each feature takes some bytes
@@ -29,7 +36,7 @@ module _ {w : List ℕ} {at total features : ℕ} (f : FirstIs w at total featur
       let l = within-limit (f .accepted) in
       (omega (arith, f .totals, f .featured, r, l), omega (arith, f .totals, f .featured, r, l))
 
-  x : List ℕ
+  abbrev x : List ℕ
   x = indexOf (f .listing)
 
   size-is : length x ≡ 4 + 20 * total + 16 * features
@@ -44,8 +51,10 @@ module _ {w : List ℕ} {at total features : ℕ} (f : FirstIs w at total featur
   -- ---- made
 
   module _ {out : List ℕ} where
-    pub made-short : length out < 4 + 20 * total + 16 * features → IndexSays w out 34 0 0 out
-    made-short h = record { outcome = give x; finds = FindsIndex.index (f .accepted); lent = Lent.short (omega (arith, h, size-is)) }
+    pub made-short : {r : LentAnswer} → length out < 4 + 20 * total + 16 * features → r ≡ nothingLent 34 0 → IndexSays w out (r .number) (r .place) (r .size) out
+    made-short h e =
+        subst (λ (r : LentAnswer). IndexSays w out (r .number) (r .place) (r .size) out) (sym e)
+        (record { outcome = give x; finds = FindsIndex.index (f .accepted); lent = Lent.short (omega (arith, h, size-is)) })
 
     pub made-whole : {after : List ℕ} {r : Laid} → 4 + 20 * total + 16 * features ≤ length out → LaysIndex Write w at total (4 + 8 * total) [] out r after
         → IndexSays w out 0 0 (4 + 20 * total + 16 * features) after

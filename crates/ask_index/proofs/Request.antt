@@ -47,13 +47,13 @@ one-index {l = l} {m} c d = ap (λ (x : Listing ℕ). indexOf x) (laid-once l m 
 takes : {w x : List ℕ} {l : Listing ℕ} → Checked w (give l) → x ≡ indexOf l → IndexCheckSays w x 0 0
 takes c e = IndexCheckSays.taken (ChecksIndex.belongs c e)
 
-room-enough : {w out after : List ℕ} {n p z : ℕ} → IndexSays w out n p z after → length w / 4 ≤ length out → ¬ (n ≡ 34)
-room-enough {w} {out} i h e = go (i .outcome) (i .finds) (i .lent) e
+room-enough : {w out after : List ℕ} {l : Listing ℕ} {n p z : ℕ} → Checked w (give l) → length w / 4 ≤ length out → IndexSays w out n p z after → n ≡ 0
+room-enough {w} {out} {l = l} c h i =
+    go (subst (λ (o : Outcome (List ℕ)). Lent out o _ _ _ _) (once.finds-index-once laid-once (i .finds) (FindsIndex.index c)) (i .lent))
   where
-    go : (o : Outcome (List ℕ)) → FindsIndex w o → {n p z : ℕ} {after : List ℕ} → Lent out o n p z after → ¬ (n ≡ 34)
-    go _ (FindsIndex.own c) Lent.refused e = not-34 c e
-    go _ (FindsIndex.index {l} c) (Lent.short k) e = omega (arith, h, k, index-room (laid-out c) c)
-    go _ f (Lent.written k) e = omega (arith, e)
+    go : {n p z : ℕ} {after : List ℕ} → Lent out (give (indexOf l)) n p z after → n ≡ 0
+    go (Lent.short k) = absurd (omega (arith, h, k, index-room (laid-out c) c))
+    go (Lent.written k) = refl
 
 pub request5 : Request5
 request5 =
@@ -61,7 +61,7 @@ request5 =
       exactly = λ w x out after z i.
           let m = made-is i refl in
           (λ c. let t = taken-is c refl in t .2 ∙ one-index (t .1) (m .1) ∙ sym (m .2), λ e. takes (m .1) (e ∙ m .2));
-      room = λ w out after n p z i h. room-enough i h;
+      room = λ w out after l n p z c h i. room-enough c h i;
       sequence = λ w x c k n p d r. once.with-index-plain laid-once c;
       feature = λ w x c k j n p a b. once.with-index-plain laid-once c;
       qualifier = λ w x c k j i n p a v b. once.with-index-plain laid-once c;

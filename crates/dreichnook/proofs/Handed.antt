@@ -2,21 +2,23 @@
 use Prim.Native.Nat.{ℕ, _≤_}
 use native.Mathlib.Omega.{arith}
 use mathlib.Core.Path.{_≡_, refl, sym, subst, subst₂}
+use mathlib.Core.Bool.{Bool}
 use mathlib.Core.List.{List}
-use Rattle.paper.specs.Answers.{CheckSays, SequenceSays, FeatureSays, QualifierSays, SpansSays, TranslationSays, TranslationsSays}
-use Rattle.paper.specs.Demands.{InListing}
+use Rattle.paper.specs.Answers.{CheckSays, Part, NoSequence, NoFeature, NoQualifier, NoSpans, NothingWritten}
+use Rattle.paper.specs.Index.{IndexCheckSays}
+use Rattle.paper.specs.Demands.{InListing, AnswerOrRefusal}
 use Rattle.paper.specs.declared.Verdict.{Verdict}
 use Rattle.ask_answers.specs.Stretches.{partIs}
-use Rattle.ask_answers.specs.Handed.{Narrow, HandsVerdict, HandsSequence, HandsFeature, HandsQualifier, HandsSpans, HandsLent}
+use Rattle.ask_answers.specs.Handed.{Narrow, HandsVerdict, HandsSequence, HandsFeature, HandsQualifier, HandsSpans, HandsLent, HandsIndexVerdict}
 use Rattle.ask_answers.specs.declared.SequenceAnswer.{SequenceAnswer}
 use Rattle.ask_answers.specs.declared.FeatureAnswer.{FeatureAnswer}
 use Rattle.ask_answers.specs.declared.QualifierAnswer.{QualifierAnswer}
 use Rattle.ask_answers.specs.declared.SpansAnswer.{SpansAnswer}
 use Rattle.ask_answers.specs.declared.LentAnswer.{LentAnswer}
-use Rattle.dreichnook.specs.Numbers.{part, SaysCheck, SaysQualifier}
-use Rattle.paper.proofs.Demands.{demand1, demand2}
+use Rattle.ask_answers.specs.declared.IndexVerdict.{IndexVerdict}
+use Rattle.dreichnook.specs.Numbers.{part, SaysCheck, SaysQualifierBy}
+use Rattle.paper.proofs.Demands.{demand1}
 use Rattle.paper.proofs.Refusals.{refusal-most, ends-most}
-use Rattle.dreichnook.proofs.Operators.{operator-most}
 
 stays : {n r : ℕ} → Narrow n r → n ≤ 99 → n ≡ r
 stays h l = sym (h .says (omega (arith, l)))
@@ -29,45 +31,54 @@ module _ {w : List ℕ} where
       let e = stays h (refusal-most (demand1 .check w _ p x)) in
       record { verdict = v; says = x; is = λ i. record { number = sym e i; place = p; total = 0; skipped = 0; features = 0; judged = 0; unjudged = 0 } }
 
-  pub sequence-handed : {k : ℕ} {a : SequenceAnswer} {n p d s z : ℕ} → SequenceSays w k (a .number) (a .place) (a .kind) (partIs (a .residues))
-      → HandsSequence a n p d s z → SequenceSays w k n p d (part s z) × InListing w (part s z)
-  sequence-handed {k} {a} x (HandsSequence.sequence h) = (
-    subst (λ (n : ℕ). SequenceSays w k n (a .place) (a .kind) (partIs (a .residues))) (stays h (ends-most (demand1 .sequence w k _ _ _ _ x))) x,
-    demand2 .sequence w k _ _ _ _ x,
-  )
+  pub index-check-handed : {x : List ℕ} {a : IndexVerdict} {n p : ℕ} → IndexCheckSays w x (a .number) (a .place) → HandsIndexVerdict a n p → IndexCheckSays w x n p
+  index-check-handed {x} {a} y (HandsIndexVerdict.verdict h) =
+      subst (λ (n : ℕ). IndexCheckSays w x n (a .place)) (stays h (ends-most (demand1 .index-check w x _ _ y))) y
 
-  module _ {k j : ℕ} where
-    pub feature-handed : {a : FeatureAnswer} {n p s z t y : ℕ} → FeatureSays w k j (a .number) (a .place) (partIs (a .key)) (partIs (a .location))
-        → HandsFeature a n p s z t y → FeatureSays w k j n p (part s z) (part t y) × (InListing w (part s z) × InListing w (part t y))
-    feature-handed {a} x (HandsFeature.feature h) = (
-      subst (λ (n : ℕ). FeatureSays w k j n (a .place) (partIs (a .key)) (partIs (a .location))) (stays h (ends-most (demand1 .feature w k j _ _ _ _ x))) x,
-      demand2 .feature w k j _ _ _ _ x,
+  -- ---- `Says` is what the paper says of the call, with an index or without
+
+  module _ (Says : (number place kind : ℕ) (residues : Part) → Type 0) (ends : (n p d : ℕ) (r : Part) → Says n p d r → AnswerOrRefusal n p (NoSequence d r))
+      (inside : (n p d : ℕ) (r : Part) → Says n p d r → InListing w r) where
+    pub sequence-handed : {a : SequenceAnswer} {n p d s z : ℕ} → Says (a .number) (a .place) (a .kind) (partIs (a .residues)) → HandsSequence a n p d s z
+        → Says n p d (part s z) × InListing w (part s z)
+    sequence-handed {a} x (HandsSequence.sequence h) = (
+      subst (λ (n : ℕ). Says n (a .place) (a .kind) (partIs (a .residues))) (stays h (ends-most (ends _ _ _ _ x))) x,
+      inside _ _ _ _ x,
     )
 
-    pub qualifier-handed : {i : ℕ} {a : QualifierAnswer} {n p s z f t y : ℕ}
-        → QualifierSays w k j i (a .number) (a .place) (partIs (a .name)) (a .present) (partIs (a .value)) → HandsQualifier a n p s z f t y
-        → SaysQualifier w k j i (record { number = n; place = p; name = part s z; flag = f; value = part t y })
-    qualifier-handed {i} {a} x (HandsQualifier.qualifier h e) =
+  module _ (Says : (number place : ℕ) (key location : Part) → Type 0) (ends : (n p : ℕ) (a b : Part) → Says n p a b → AnswerOrRefusal n p (NoFeature a b))
+      (inside : (n p : ℕ) (a b : Part) → Says n p a b → InListing w a × InListing w b) where
+    pub feature-handed : {a : FeatureAnswer} {n p s z t y : ℕ} → Says (a .number) (a .place) (partIs (a .key)) (partIs (a .location)) → HandsFeature a n p s z t y
+        → Says n p (part s z) (part t y) × (InListing w (part s z) × InListing w (part t y))
+    feature-handed {a} x (HandsFeature.feature h) = (
+      subst (λ (n : ℕ). Says n (a .place) (partIs (a .key)) (partIs (a .location))) (stays h (ends-most (ends _ _ _ _ x))) x,
+      inside _ _ _ _ x,
+    )
+
+  module _ (Says : (number place : ℕ) (name : Part) (present : Bool) (value : Part) → Type 0)
+      (ends : (n p : ℕ) (a v : Part) (b : Bool) → Says n p a b v → AnswerOrRefusal n p (NoQualifier a b v))
+      (inside : (n p : ℕ) (a v : Part) (b : Bool) → Says n p a b v → InListing w a × InListing w v) where
+    pub qualifier-handed : {a : QualifierAnswer} {n p s z f t y : ℕ} → Says (a .number) (a .place) (partIs (a .name)) (a .present) (partIs (a .value))
+        → HandsQualifier a n p s z f t y → SaysQualifierBy Says w (record { number = n; place = p; name = part s z; flag = f; value = part t y })
+    qualifier-handed {a} x (HandsQualifier.qualifier h e) =
         record {
           present = a .present;
           flagged = e;
-          says =
-              subst (λ (n : ℕ). QualifierSays w k j i n (a .place) (partIs (a .name)) (a .present) (partIs (a .value))) (stays h (ends-most (demand1 .qualifier w k j i _ _ _ _ _ x))) x;
-          inside = demand2 .qualifier w k j i _ _ _ _ _ x;
+          says = subst (λ (n : ℕ). Says n (a .place) (partIs (a .name)) (a .present) (partIs (a .value))) (stays h (ends-most (ends _ _ _ _ _ x))) x;
+          inside = inside _ _ _ _ _ x;
         }
 
-    pub spans-handed : {out after : List ℕ} {a : SpansAnswer} {n p o c : ℕ} → SpansSays w k j out (a .number) (a .place) (a .operator) (a .count) after
-        → HandsSpans a n p o c → SpansSays w k j out n p o c after
-    spans-handed {out} {after} {a} x (HandsSpans.spans h g) =
-        subst₂ (λ (n o : ℕ). SpansSays w k j out n (a .place) o (a .count) after) (stays h (ends-most (demand1 .spans w k j _ _ _ _ out after x)))
-        (stays g (operator-most x)) x
+module _ {out : List ℕ} (Says : (number place operator count : ℕ) (after : List ℕ) → Type 0)
+    (ends : (n p o c : ℕ) (after : List ℕ) → Says n p o c after → AnswerOrRefusal n p (NoSpans o c out after))
+    (most : (n p o c : ℕ) (after : List ℕ) → Says n p o c after → o ≤ 99) where
+  pub spans-handed : {after : List ℕ} {a : SpansAnswer} {n p o c : ℕ} → Says (a .number) (a .place) (a .operator) (a .count) after → HandsSpans a n p o c
+      → Says n p o c after
+  spans-handed {after} {a} x (HandsSpans.spans h g) =
+      subst₂ (λ (n o : ℕ). Says n (a .place) o (a .count) after) (stays h (ends-most (ends _ _ _ _ after x))) (stays g (most _ _ _ _ after x)) x
 
-    pub translation-handed : {out after : List ℕ} {a : LentAnswer} {n p c : ℕ} → TranslationSays w k j out (a .number) (a .place) (a .size) after
-        → HandsLent a n p c → TranslationSays w k j out n p c after
-    translation-handed {out} {after} {a} x (HandsLent.lent h) =
-        subst (λ (n : ℕ). TranslationSays w k j out n (a .place) (a .size) after) (stays h (ends-most (demand1 .translation w k j _ _ _ out after x))) x
-
-  pub translations-handed : {k : ℕ} {out after : List ℕ} {a : LentAnswer} {n p c : ℕ} → TranslationsSays w k out (a .number) (a .place) (a .size) after
-      → HandsLent a n p c → TranslationsSays w k out n p c after
-  translations-handed {k} {out} {after} {a} x (HandsLent.lent h) =
-      subst (λ (n : ℕ). TranslationsSays w k out n (a .place) (a .size) after) (stays h (ends-most (demand1 .translations w k _ _ _ out after x))) x
+-- a translation, all of a sequence, an index
+module _ {out : List ℕ} (Says : (number place size : ℕ) (after : List ℕ) → Type 0)
+    (ends : (n p z : ℕ) (after : List ℕ) → Says n p z after → AnswerOrRefusal n p (NothingWritten z out after)) where
+  pub lent-handed : {after : List ℕ} {a : LentAnswer} {n p c : ℕ} → Says (a .number) (a .place) (a .size) after → HandsLent a n p c → Says n p c after
+  lent-handed {after} {a} x (HandsLent.lent h) =
+      subst (λ (n : ℕ). Says n (a .place) (a .size) after) (stays h (ends-most (ends _ _ _ after x))) x

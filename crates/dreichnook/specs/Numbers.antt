@@ -4,6 +4,7 @@ use mathlib.Core.Path.{_≡_}
 use mathlib.Core.Bool.{Bool}
 use mathlib.Core.List.{List}
 use Rattle.paper.specs.Answers.{Part, CheckSays, CheckNumbers, numbersOf, QualifierSays}
+use Rattle.paper.specs.Index.{IndexedQualifierSays}
 use Rattle.paper.specs.Demands.{InListing}
 use Rattle.paper.specs.declared.Verdict.{Verdict}
 use Rattle.ask_answers.specs.Handed.{flagOf}
@@ -27,9 +28,17 @@ pub record QualifierNumbers : Type 0 where
   pub flag : ℕ
   pub value : Part
 
-pub record SaysQualifier (w : List ℕ) (k j i : ℕ) (x : QualifierNumbers) : Type 0 where
+-- `Says` is what the paper says of the call
+pub record SaysQualifierBy (Says : (number place : ℕ) (name : Part) (present : Bool) (value : Part) → Type 0) (w : List ℕ) (x : QualifierNumbers) : Type 0 where
   pub present : Bool
   pub flagged : x .flag ≡ flagOf present
-  pub says : QualifierSays w k j i (x .number) (x .place) (x .name) present (x .value)
+  pub says : Says (x .number) (x .place) (x .name) present (x .value)
   -- "start + size never exceeds length"
   pub inside : InListing w (x .name) × InListing w (x .value)
+
+abbrev pub SaysQualifier : List ℕ → ℕ → ℕ → ℕ → QualifierNumbers → Type 0
+SaysQualifier w k j i = SaysQualifierBy (QualifierSays w k j i) w
+
+-- with an index x
+abbrev pub SaysIndexedQualifier : List ℕ → List ℕ → ℕ → ℕ → ℕ → QualifierNumbers → Type 0
+SaysIndexedQualifier w x k j i = SaysQualifierBy (IndexedQualifierSays w x k j i) w

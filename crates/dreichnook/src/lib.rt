@@ -1,9 +1,10 @@
-// The library for the box: document 01's calls as C functions. hosts/include/dreichnook.h describes each.
-// Relies on the check and the lookups, and on ask_answers, which hands their answers over as numbers: 0 or the number of the refusal is
+// The library for the box: the calls of document 01 and of request 5 of 02 as C functions. hosts/include/dreichnook.h describes each.
+// Relies on the check, the index and the lookups with and without one, and on ask_answers, which hands their answers over as numbers: 0 or the number of the refusal is
 // returned, every number pointed to is set in every case, and a part is given as start and size within the lent listing.
 ghost use Rattle.paper.specs.Demands.{InListing};
 ghost use Rattle.paper.specs.Answers.{SequenceSays, FeatureSays, TranslationSays, TranslationsSays, SpansSays};
-ghost use Rattle.dreichnook.specs.Numbers.{part, SaysCheck, SaysQualifier};
+ghost use Rattle.paper.specs.Index.{IndexSays, IndexCheckSays, IndexedSequenceSays, IndexedFeatureSays, IndexedSpansSays, IndexedTranslationSays, IndexedTranslationsSays};
+ghost use Rattle.dreichnook.specs.Numbers.{part, SaysCheck, SaysQualifier, SaysIndexedQualifier};
 
 #[no_mangle]
 pub extern "C" fn dreichnook_check(
@@ -149,6 +150,159 @@ pub extern "C" fn dreichnook_translations(
 {
     ask_answers::hand_lent(
         ask_lookups::translations(listing, sequence, out),
+        place,
+        size,
+    )
+}
+
+// ---- an index that travels with the listing
+
+#[no_mangle]
+pub extern "C" fn dreichnook_index(
+    listing: &[u8],
+    out: &mut [u8],
+    place: &mut usize,
+    size: &mut usize,
+) -> u32
+    ensures { λ r. ⌜ IndexSays (now (listing .entry)) (now (out .entry)) r (now (place .exit)) (now (size .exit)) (now (out .exit)) ⌝ }
+{
+    ask_answers::hand_lent(ask_index::index(listing, out), place, size)
+}
+
+#[no_mangle]
+pub extern "C" fn dreichnook_index_check(listing: &[u8], index: &[u8], place: &mut usize) -> u32
+    ensures { λ r. ⌜ IndexCheckSays (now (listing .entry)) (now (index .entry)) r (now (place .exit)) ⌝ }
+{
+    ask_answers::hand_index_verdict(ask_index::check_index(listing, index), place)
+}
+
+#[no_mangle]
+pub extern "C" fn dreichnook_indexed_sequence(
+    listing: &[u8],
+    index: &[u8],
+    sequence: usize,
+    place: &mut usize,
+    kind: &mut u8,
+    start: &mut usize,
+    size: &mut usize,
+) -> u32
+    ensures { λ r. ⌜ IndexedSequenceSays (now (listing .entry)) (now (index .entry)) sequence r (now (place .exit)) (now (kind .exit)) (part (now (start .exit)) (now (size .exit))) ⌝ }
+    ensures { λ _. ⌜ InListing (now (listing .entry)) (part (now (start .exit)) (now (size .exit))) ⌝ }
+{
+    ask_answers::hand_sequence(
+        ask_indexed::locate_sequence(listing, index, sequence),
+        place,
+        kind,
+        start,
+        size,
+    )
+}
+
+#[no_mangle]
+pub extern "C" fn dreichnook_indexed_feature(
+    listing: &[u8],
+    index: &[u8],
+    sequence: usize,
+    feature: usize,
+    place: &mut usize,
+    keystart: &mut usize,
+    keysize: &mut usize,
+    locationstart: &mut usize,
+    locationsize: &mut usize,
+) -> u32
+    ensures { λ r. ⌜ IndexedFeatureSays (now (listing .entry)) (now (index .entry)) sequence feature r (now (place .exit)) (part (now (keystart .exit)) (now (keysize .exit))) (part (now (locationstart .exit)) (now (locationsize .exit))) ⌝ }
+    ensures { λ _. ⌜ InListing (now (listing .entry)) (part (now (keystart .exit)) (now (keysize .exit))) × InListing (now (listing .entry)) (part (now (locationstart .exit)) (now (locationsize .exit))) ⌝ }
+{
+    ask_answers::hand_feature(
+        ask_indexed::locate_feature(listing, index, sequence, feature),
+        place,
+        keystart,
+        keysize,
+        locationstart,
+        locationsize,
+    )
+}
+
+#[no_mangle]
+pub extern "C" fn dreichnook_indexed_qualifier(
+    listing: &[u8],
+    index: &[u8],
+    sequence: usize,
+    feature: usize,
+    qualifier: usize,
+    place: &mut usize,
+    namestart: &mut usize,
+    namesize: &mut usize,
+    present: &mut u8,
+    valuestart: &mut usize,
+    valuesize: &mut usize,
+) -> u32
+    ensures { λ r. ⌜ SaysIndexedQualifier (now (listing .entry)) (now (index .entry)) sequence feature qualifier (record { number = r; place = now (place .exit); name = part (now (namestart .exit)) (now (namesize .exit)); flag = now (present .exit); value = part (now (valuestart .exit)) (now (valuesize .exit)) }) ⌝ }
+{
+    ask_answers::hand_qualifier(
+        ask_indexed::locate_qualifier(listing, index, sequence, feature, qualifier),
+        place,
+        namestart,
+        namesize,
+        present,
+        valuestart,
+        valuesize,
+    )
+}
+
+#[no_mangle]
+pub extern "C" fn dreichnook_indexed_spans(
+    listing: &[u8],
+    index: &[u8],
+    sequence: usize,
+    feature: usize,
+    out: &mut [u32],
+    place: &mut usize,
+    operator: &mut u8,
+    count: &mut usize,
+) -> u32
+    ensures { λ r. ⌜ IndexedSpansSays (now (listing .entry)) (now (index .entry)) sequence feature (now (out .entry)) r (now (place .exit)) (now (operator .exit)) (now (count .exit)) (now (out .exit)) ⌝ }
+{
+    ask_answers::hand_spans(
+        ask_indexed::spans(listing, index, sequence, feature, out),
+        place,
+        operator,
+        count,
+    )
+}
+
+#[no_mangle]
+pub extern "C" fn dreichnook_indexed_translation(
+    listing: &[u8],
+    index: &[u8],
+    sequence: usize,
+    feature: usize,
+    out: &mut [u8],
+    place: &mut usize,
+    size: &mut usize,
+) -> u32
+    ensures { λ r. ⌜ IndexedTranslationSays (now (listing .entry)) (now (index .entry)) sequence feature (now (out .entry)) r (now (place .exit)) (now (size .exit)) (now (out .exit)) ⌝ }
+{
+    ask_answers::hand_lent(
+        ask_indexed::translation(listing, index, sequence, feature, out),
+        place,
+        size,
+    )
+}
+
+#[no_mangle]
+pub extern "C" fn dreichnook_indexed_translations(
+    listing: &[u8],
+    index: &[u8],
+    sequence: usize,
+    out: &mut [u8],
+    place: &mut usize,
+    size: &mut usize,
+) -> u32
+    ensures { λ r. ⌜ IndexedTranslationsSays (now (listing .entry)) (now (index .entry)) sequence (now (out .entry)) r (now (place .exit)) (now (size .exit)) (now (out .exit)) ⌝ }
+{
+    ask_answers::hand_lent(
+        ask_indexed::translations(listing, index, sequence, out),
         place,
         size,
     )

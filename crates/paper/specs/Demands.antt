@@ -128,8 +128,8 @@ pub record Demand3 : Type 0 where
 pub record Request5 : Type 0 where
   -- "A checker takes it only if it is the one the maker would write for the listing beside it": exactly then
   pub exactly : (w x out after : List ℕ) (size : ℕ) → IndexSays w out 0 0 size after → IndexCheckSays w x 0 0 ↔ (x ≡ take size after)
-  -- how much room the maker needs: with a quarter of the listing's length it never refuses for want of room
-  pub room : (w out after : List ℕ) (n p size : ℕ) → IndexSays w out n p size after → length w / 4 ≤ length out → ¬ (n ≡ 34)
+  -- how much room the maker needs: a quarter of the listing's length is enough for every accepted listing
+  pub room : (w out after : List ℕ) (l : Listing ℕ) (n p size : ℕ) → Checked w (give l) → length w / 4 ≤ length out → IndexSays w out n p size after → n ≡ 0
   -- "Lookups with an index first run that checker. After it they equal the plain lookups"
   pub sequence : (w x : List ℕ) → IndexCheckSays w x 0 0 → (k n p d : ℕ) (r : Part) → IndexedSequenceSays w x k n p d r ↔ SequenceSays w k n p d r
   pub feature : (w x : List ℕ) → IndexCheckSays w x 0 0 → (k j n p : ℕ) (a b : Part) → IndexedFeatureSays w x k j n p a b ↔ FeatureSays w k j n p a b
@@ -141,7 +141,7 @@ pub record Request5 : Type 0 where
       → IndexedTranslationSays w x k j out n p z after ↔ TranslationSays w k j out n p z after
   pub translations : (w x : List ℕ) → IndexCheckSays w x 0 0 → (k n p z : ℕ) (out after : List ℕ)
       → IndexedTranslationsSays w x k out n p z after ↔ TranslationsSays w k out n p z after
-  -- "An old index whose every number still fits is harmless and accepted.": that of the accepted listing v is taken for the accepted listing
-  -- w where the numbers of their sequences are the same, whatever else of them differs; and then all of the above holds of it
+  -- "An old index whose every number still fits is harmless and accepted.": that of the accepted listing v is taken for the accepted
+  -- listing w where the numbers of their sequences are the same, whatever else of them differs; and then all of the above holds of it
   pub old : (v w : List ℕ) (l m : Listing ℕ) → Checked v (give l) → Checked w (give m) → map bodyOf (l .sequences) ≡ map bodyOf (m .sequences)
       → IndexCheckSays w (indexOf l) 0 0

@@ -73,7 +73,8 @@ contentsOf l = opening l ++ entries (firstBody l) (map bodyOf (l .sequences))
 abbrev pub indexOf : Listing ℕ → List ℕ
 indexOf l = inBytes (contentsOf l ++ gather bodyOf (l .sequences))
 
--- ---- its maker: "Maker and checker refuse a listing that isn't accepted with the check's refusal; the maker then gives 34 if room is short."
+-- ---- its maker: "Maker and checker refuse a listing that isn't accepted with the check's refusal; the maker then gives 34 if room is
+-- short."
 
 pub data FindsIndex (w : List ℕ) : Outcome (List ℕ) → Type 0 where
   own : {n p : ℕ} → Checked w (refuse n p) → FindsIndex w (refuse n p)

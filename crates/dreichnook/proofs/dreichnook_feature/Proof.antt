@@ -1,5 +1,6 @@
 -- `dreichnook::dreichnook_feature` meets its contract.
 use Rattle.dreichnook.proofs.Handed.{feature-handed}
+use Rattle.paper.proofs.Demands.{demand1, demand2}
 use borrow.Author.Needs.{needs}
 use Rattle.dreichnook.proofs.dreichnook_feature.Statement.{statement}
 use Rattle.dreichnook.proofs.dreichnook_feature.Tie as tie
@@ -13,7 +14,7 @@ hand-feature-requires c κs = search needs
 returns : tie.Need-returns
 returns c =
     let locate-feature = c .before .before .before .before .before .before .locate-feature in
-    feature-handed (locate-feature .ensures .0) (c .hand-feature .ensures)
+    feature-handed _ (demand1 .feature _ _ _) (demand2 .feature _ _ _) (locate-feature .ensures .0) (c .hand-feature .ensures)
 
 pub dreichnook-feature-spec : {M : Type 1} → statement M
 dreichnook-feature-spec = tie.close (tie.spec locate-feature-requires hand-feature-requires returns)

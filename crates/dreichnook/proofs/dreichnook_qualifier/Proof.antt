@@ -1,5 +1,6 @@
 -- `dreichnook::dreichnook_qualifier` meets its contract.
 use Rattle.dreichnook.proofs.Handed.{qualifier-handed}
+use Rattle.paper.proofs.Demands.{demand1, demand2}
 use borrow.Author.Needs.{needs}
 use Rattle.dreichnook.proofs.dreichnook_qualifier.Statement.{statement}
 use Rattle.dreichnook.proofs.dreichnook_qualifier.Tie as tie
@@ -13,7 +14,7 @@ hand-qualifier-requires c κs = search needs
 returns : tie.Need-returns
 returns c =
     let locate-qualifier = c .before .before .before .before .before .before .before .locate-qualifier in
-    qualifier-handed (locate-qualifier .ensures .0) (c .hand-qualifier .ensures)
+    qualifier-handed _ (demand1 .qualifier _ _ _ _) (demand2 .qualifier _ _ _ _) (locate-qualifier .ensures .0) (c .hand-qualifier .ensures)
 
 pub dreichnook-qualifier-spec : {M : Type 1} → statement M
 dreichnook-qualifier-spec = tie.close (tie.spec locate-qualifier-requires hand-qualifier-requires returns)

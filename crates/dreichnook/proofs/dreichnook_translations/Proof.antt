@@ -1,5 +1,6 @@
 -- `dreichnook::dreichnook_translations` meets its contract.
-use Rattle.dreichnook.proofs.Handed.{translations-handed}
+use Rattle.dreichnook.proofs.Handed.{lent-handed}
+use Rattle.paper.proofs.Demands.{demand1}
 use borrow.Author.Needs.{needs}
 use Rattle.dreichnook.proofs.dreichnook_translations.Statement.{statement}
 use Rattle.dreichnook.proofs.dreichnook_translations.Tie as tie
@@ -16,7 +17,7 @@ same-length c = search needs
 returns : tie.Need-returns
 returns c =
     let translations = c .before .before .before .before .before .translations in
-    translations-handed (translations .ensures) (c .hand-lent .ensures)
+    lent-handed _ (λ n p z. demand1 .translations _ _ n p z _) (translations .ensures) (c .hand-lent .ensures)
 
 pub dreichnook-translations-spec : {M : Type 1} → statement M
 dreichnook-translations-spec = tie.close (tie.spec translations-requires hand-lent-requires same-length returns)
