@@ -18,10 +18,16 @@ enum-told : tie.Need-enum-told
 enum-told c = search needs
 
 returns : tie.Need-returns
-returns c = IndexCheckSays.refused (subst (TakesIndex (now (c@args .listing)) (now (c@args .index))) (c@rule .given .1) (c@take-index .ensures))
+returns c =
+    let args = c .before .before .before .before .before .before .args in
+    IndexCheckSays.refused
+    (subst (TakesIndex (now (args .listing)) (now (args .index))) (c .before .rule .given .1) (c .before .before .before .take-index .ensures))
 
 returns-2 : tie.Need-returns-2
-returns-2 c = index-belongs (subst (TakesIndex (now (c@args .listing)) (now (c@args .index))) (c@enum-told .given .1) (c@take-index .ensures))
+returns-2 c =
+    let args = c .before .before .before .before .before .args in
+    index-belongs
+    (subst (TakesIndex (now (args .listing)) (now (args .index))) (c .enum-told .given .1) (c .before .before .take-index .ensures))
 
 pub check-index-spec : {M : Type 1} → statement M
 check-index-spec =
