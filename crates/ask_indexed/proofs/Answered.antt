@@ -35,7 +35,7 @@ use Rattle.ask_index.specs.Takes.{IndexOf}
 use Rattle.ask_found.specs.Answers as answers
 use Rattle.ask_found.proofs.Translated.{translations-none}
 use Rattle.ask_indexed.specs.Finds.{Refuses, checker, later, SequenceRefused, FeatureRefused, BodyHere, EntryHere, KnowsBody}
-use Rattle.ask_indexed.proofs.Found.{feature-given, residues-part, body-stands, key-part, location-part, location-some, feature-there, feature-is, entry-found}
+use Rattle.ask_indexed.proofs.Found.{feature-given, residues-part, body-stands, key-part, location-part, location-some, feature-there, feature-is}
 use Rattle.ask_indexed.proofs.Known.{body-kind, body-knows}
 
 -- ---- what is promised
@@ -112,8 +112,9 @@ module _ {w x : List ℕ} {k : ℕ} {b : Body} (i : BodyHere w x k b) where
     pub translations-answered : {y : Entry} {known : Known} {g : FoundFeature} {out after : List ℕ} {r : LentAnswer} → e ≡ entry.Found y → KnowsBody b known
         → FeatureFrom w (y .key) (y .location) g → answers.AnswersTranslations w known g out r after
         → IndexedTranslationsSays w x k out (r .number) (r .place) (r .size) after
-    translations-answered z h from a =
-        let j = entry-found i z f in
+    translations-answered {y = e'} z h from a =
+        let y = subst (EntryFound x b 1) z f .says (i .asked) (i .is) in
+        let j : EntryHere w x k 1 b e' = record { body = i; asked = y .0; numbered = y .1; key = y .2; location = y .3 } in
         let t = tail (featuresOf (i .asked)) (j .asked) (j .numbered) in
         let s = front-stands (i .asked) (body-stands i .stands) (t .1) in
         let u = s .1 in

@@ -8,8 +8,8 @@ use mathlib.Core.Option.{Option·none-ne-some}
 use lib.ListN.{length, take, drop, take-append-drop}
 use lib.Seq.{drop-drop}
 use Rattle.paper.specs.Bytes.{bytes, raw}
-use Rattle.paper.specs.Lists.{Numbered}
-use Rattle.paper.specs.Tree.{Text, Feature, Sequence}
+use Rattle.paper.specs.Lists.{_∈_}
+use Rattle.paper.specs.Tree.{Text, featuresOf, featureTexts}
 use Rattle.paper.specs.Layout.{child, feature, sequence}
 use Rattle.paper.specs.Locations.{Location, Locates}
 use Rattle.paper.specs.Rules.{rule-24}
@@ -37,7 +37,7 @@ use Rattle.index_find.specs.declared.EntryAt.{EntryAt}
 use Rattle.index_find.specs.declared.EntryAt.the-variants as entry
 use Rattle.ask_index.specs.Takes.{IndexOf}
 use Rattle.ask_found.proofs.Accepted.{feature-keeps}
-use Rattle.ask_indexed.specs.Finds.{Refuses, later, BodyHere, BodyAsked, EntryHere, EntryAsked}
+use Rattle.ask_indexed.specs.Finds.{Refuses, checker, later, SequenceRefused, FeatureRefused, BodyHere, BodyAsked, EntryHere, EntryAsked}
 use Rattle.ask_indexed.specs.declared.Entered.the-variants as entered
 
 -- ---- by its numbers
@@ -65,6 +65,11 @@ module _ {w x : List ℕ} {k : ℕ} where
     entry-found q f =
         let z = entry-in q f .says (i .asked) (i .is) in
         record { body = i; asked = z .0; numbered = z .1; key = z .2; location = z .3 }
+
+-- a refusal of the sequence comes first
+pub refused-earlier : {w x : List ℕ} {k j n p : ℕ} → Refuses w x (SequenceRefused w k) n p → Refuses w x (FeatureRefused w k j) n p
+refused-earlier (checker c) = checker c
+refused-earlier (later i f) = later i (paper.earlier f)
 
 -- ---- in the listing
 
@@ -104,12 +109,12 @@ module _ {w x : List ℕ} {k j : ℕ} {b : Body} {e : Entry} (i : EntryHere w x 
   pub feature-given : FindsFeature w k j (give (i .body .asked, i .asked))
   feature-given = paper.feature (i .body .finds) (i .numbered)
 
-  stated : (t : Text ℕ) → _ → StatedStretch w t
+  stated : (t : Text ℕ) → t ∈ featureTexts (i .asked) → StatedStretch w t
   stated =
       let y = i .body in
       let l = y .index .listing in
       feature-stated (laid-out (y .index .accepted)) (y .asked) (number-in (l .sequences) k (y .asked) (y .numbered)) (i .asked)
-      (number-in _ j (i .asked) (i .numbered))
+      (number-in (featuresOf (y .asked)) j (i .asked) (i .numbered))
 
   pub key-part : IsPart w (i .asked .key) (e .key)
   key-part = stated-part (stated (i .asked .key) (0, refl)) (i .key)

@@ -63,19 +63,19 @@ raw-symbols rna v h = raw-plain (isSymbol rna) refl v h
 raw-symbols aa v h = raw-plain (isSymbol aa) refl v h
 
 -- the kind of a number is the one that the moltype names
-kind-numbered : {q : Sequence ℕ} (c : Molecule) (d : Kind) → moleculeNumber c ≡ kindNumber d → IsKind d q → KindIs (q .moltype .read) c
-kind-numbered Dna dna e h = h
-kind-numbered Dna rna e h = absurd (omega (arith, e))
-kind-numbered Dna aa e h = absurd (omega (arith, e))
-kind-numbered Rna dna e h = absurd (omega (arith, e))
-kind-numbered Rna rna e h = h
-kind-numbered Rna aa e h = absurd (omega (arith, e))
-kind-numbered Aa dna e h = absurd (omega (arith, e))
-kind-numbered Aa rna e h = absurd (omega (arith, e))
-kind-numbered Aa aa e h = h
-kind-numbered Other dna e h = absurd (omega (arith, e))
-kind-numbered Other rna e h = absurd (omega (arith, e))
-kind-numbered Other aa e h = absurd (omega (arith, e))
+kind-numbered : (q : Sequence ℕ) (c : Molecule) (d : Kind) → moleculeNumber c ≡ kindNumber d → IsKind d q → KindIs (q .moltype .read) c
+kind-numbered q Dna dna e h = h
+kind-numbered q Dna rna e h = absurd (omega (arith, e))
+kind-numbered q Dna aa e h = absurd (omega (arith, e))
+kind-numbered q Rna dna e h = absurd (omega (arith, e))
+kind-numbered q Rna rna e h = h
+kind-numbered q Rna aa e h = absurd (omega (arith, e))
+kind-numbered q Aa dna e h = absurd (omega (arith, e))
+kind-numbered q Aa rna e h = absurd (omega (arith, e))
+kind-numbered q Aa aa e h = h
+kind-numbered q Other dna e h = absurd (omega (arith, e))
+kind-numbered q Other rna e h = absurd (omega (arith, e))
+kind-numbered q Other aa e h = absurd (omega (arith, e))
 
 unskipped : {w : List ℕ} {k : ℕ} {q : Sequence ℕ} → paper.FindsSequence w k (paper.give q) → ¬ Rules.Skipped q
 unskipped (paper.sequence c n u) = u
@@ -84,7 +84,7 @@ module _ {w x : List ℕ} {k : ℕ} {b : Body} (i : BodyHere w x k b) where
   pub body-kind : KindIs (i .asked .moltype .read) (b .kind)
   body-kind =
       let n = named (accepts (i .finds)) in
-      kind-numbered (b .kind) (n .0) (i .is .kind ∙ kind-in (i .asked) (n .0) (n .1) (unskipped (i .finds))) (n .1)
+      kind-numbered (i .asked) (b .kind) (n .0) (i .is .kind ∙ kind-in (i .asked) (n .0) (n .1) (unskipped (i .finds))) (n .1)
 
   pub body-knows : {r : Known} → KnowsBody b r → Knows w (i .asked) r
   body-knows {r} h =

@@ -1,0 +1,49 @@
+-- A refusal, or its answer.
+use denote.Ref.{now}
+use mathlib.Core.Path.{subst}
+use Rattle.ask_indexed.specs.Finds.{EntryAsked}
+use Rattle.ask_indexed.proofs.Answered.{feature-refused, feature-answered}
+use borrow.Author.Needs.{needs}
+use Rattle.ask_indexed.proofs.locate_feature.Statement.{statement}
+use Rattle.ask_indexed.proofs.locate_feature.Tie as tie
+
+find-entry-requires : tie.Need-find-entry-requires
+find-entry-requires c κs = search needs
+
+enum-known-rule : tie.Need-enum-known-rule
+enum-known-rule c = search needs
+
+no-feature-requires : tie.Need-no-feature-requires
+no-feature-requires c κs = search needs
+
+enum-known-entry : tie.Need-enum-known-entry
+enum-known-entry c = search needs
+
+feature-answer-requires : tie.Need-feature-answer-requires
+feature-answer-requires c κs = search needs
+
+returns : tie.Need-returns
+returns c =
+    let args = c .before .before .before .before .before .before .before .args in
+    feature-refused
+    (subst (EntryAsked (now (args .listing)) (now (args .index)) (args .k) (args .j)) (c .before .before .rule .given .1) (c .before .before .before .before .find-entry .ensures))
+    (c .no-feature .ensures)
+
+returns-2 : tie.Need-returns-2
+returns-2 c =
+    let args = c .before .before .before .before .before .before .before .args in
+    feature-answered
+    (subst (EntryAsked (now (args .listing)) (now (args .index)) (args .k) (args .j)) (c .before .before .entry .given .1) (c .before .before .before .before .find-entry .ensures))
+    (c .feature-answer .ensures)
+
+pub locate-feature-spec : {M : Type 1} → statement M
+locate-feature-spec =
+    tie.close
+    (tie.spec
+    find-entry-requires
+    enum-known-rule
+    no-feature-requires
+    enum-known-entry
+    feature-answer-requires
+    returns
+    returns-2)
