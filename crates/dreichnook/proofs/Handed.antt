@@ -35,38 +35,38 @@ module _ {w : List ℕ} where
   index-check-handed {x} {a} y (HandsIndexVerdict.verdict h) =
       subst (λ (n : ℕ). IndexCheckSays w x n (a .place)) (stays h (ends-most (demand1 .index-check w x _ _ y))) y
 
-  -- ---- `Says` is what the paper says of the call, with an index or without
+-- ---- `Says` is what the paper says of the call, with an index or without
 
-  module _ (Says : (number place kind : ℕ) (residues : Part) → Type 0) (ends : (n p d : ℕ) (r : Part) → Says n p d r → AnswerOrRefusal n p (NoSequence d r))
-      (inside : (n p d : ℕ) (r : Part) → Says n p d r → InListing w r) where
-    pub sequence-handed : {a : SequenceAnswer} {n p d s z : ℕ} → Says (a .number) (a .place) (a .kind) (partIs (a .residues)) → HandsSequence a n p d s z
-        → Says n p d (part s z) × InListing w (part s z)
-    sequence-handed {a} x (HandsSequence.sequence h) = (
-      subst (λ (n : ℕ). Says n (a .place) (a .kind) (partIs (a .residues))) (stays h (ends-most (ends _ _ _ _ x))) x,
-      inside _ _ _ _ x,
-    )
+module _ (w : List ℕ) (Says : (number place kind : ℕ) (residues : Part) → Type 0) (ends : (n p d : ℕ) (r : Part) → Says n p d r → AnswerOrRefusal n p (NoSequence d r))
+    (inside : (n p d : ℕ) (r : Part) → Says n p d r → InListing w r) where
+  pub sequence-handed : {a : SequenceAnswer} {n p d s z : ℕ} → Says (a .number) (a .place) (a .kind) (partIs (a .residues)) → HandsSequence a n p d s z
+      → Says n p d (part s z) × InListing w (part s z)
+  sequence-handed {a} x (HandsSequence.sequence h) = (
+    subst (λ (n : ℕ). Says n (a .place) (a .kind) (partIs (a .residues))) (stays h (ends-most (ends _ _ _ _ x))) x,
+    inside _ _ _ _ x,
+  )
 
-  module _ (Says : (number place : ℕ) (key location : Part) → Type 0) (ends : (n p : ℕ) (a b : Part) → Says n p a b → AnswerOrRefusal n p (NoFeature a b))
-      (inside : (n p : ℕ) (a b : Part) → Says n p a b → InListing w a × InListing w b) where
-    pub feature-handed : {a : FeatureAnswer} {n p s z t y : ℕ} → Says (a .number) (a .place) (partIs (a .key)) (partIs (a .location)) → HandsFeature a n p s z t y
-        → Says n p (part s z) (part t y) × (InListing w (part s z) × InListing w (part t y))
-    feature-handed {a} x (HandsFeature.feature h) = (
-      subst (λ (n : ℕ). Says n (a .place) (partIs (a .key)) (partIs (a .location))) (stays h (ends-most (ends _ _ _ _ x))) x,
-      inside _ _ _ _ x,
-    )
+module _ (w : List ℕ) (Says : (number place : ℕ) (key location : Part) → Type 0) (ends : (n p : ℕ) (a b : Part) → Says n p a b → AnswerOrRefusal n p (NoFeature a b))
+    (inside : (n p : ℕ) (a b : Part) → Says n p a b → InListing w a × InListing w b) where
+  pub feature-handed : {a : FeatureAnswer} {n p s z t y : ℕ} → Says (a .number) (a .place) (partIs (a .key)) (partIs (a .location)) → HandsFeature a n p s z t y
+      → Says n p (part s z) (part t y) × (InListing w (part s z) × InListing w (part t y))
+  feature-handed {a} x (HandsFeature.feature h) = (
+    subst (λ (n : ℕ). Says n (a .place) (partIs (a .key)) (partIs (a .location))) (stays h (ends-most (ends _ _ _ _ x))) x,
+    inside _ _ _ _ x,
+  )
 
-  module _ (Says : (number place : ℕ) (name : Part) (present : Bool) (value : Part) → Type 0)
-      (ends : (n p : ℕ) (a v : Part) (b : Bool) → Says n p a b v → AnswerOrRefusal n p (NoQualifier a b v))
-      (inside : (n p : ℕ) (a v : Part) (b : Bool) → Says n p a b v → InListing w a × InListing w v) where
-    pub qualifier-handed : {a : QualifierAnswer} {n p s z f t y : ℕ} → Says (a .number) (a .place) (partIs (a .name)) (a .present) (partIs (a .value))
-        → HandsQualifier a n p s z f t y → SaysQualifierBy Says w (record { number = n; place = p; name = part s z; flag = f; value = part t y })
-    qualifier-handed {a} x (HandsQualifier.qualifier h e) =
-        record {
-          present = a .present;
-          flagged = e;
-          says = subst (λ (n : ℕ). Says n (a .place) (partIs (a .name)) (a .present) (partIs (a .value))) (stays h (ends-most (ends _ _ _ _ _ x))) x;
-          inside = inside _ _ _ _ _ x;
-        }
+module _ (w : List ℕ) (Says : (number place : ℕ) (name : Part) (present : Bool) (value : Part) → Type 0)
+    (ends : (n p : ℕ) (a v : Part) (b : Bool) → Says n p a b v → AnswerOrRefusal n p (NoQualifier a b v))
+    (inside : (n p : ℕ) (a v : Part) (b : Bool) → Says n p a b v → InListing w a × InListing w v) where
+  pub qualifier-handed : {a : QualifierAnswer} {n p s z f t y : ℕ} → Says (a .number) (a .place) (partIs (a .name)) (a .present) (partIs (a .value))
+      → HandsQualifier a n p s z f t y → SaysQualifierBy Says w (record { number = n; place = p; name = part s z; flag = f; value = part t y })
+  qualifier-handed {a} x (HandsQualifier.qualifier h e) =
+      record {
+        present = a .present;
+        flagged = e;
+        says = subst (λ (n : ℕ). Says n (a .place) (partIs (a .name)) (a .present) (partIs (a .value))) (stays h (ends-most (ends _ _ _ _ _ x))) x;
+        inside = inside _ _ _ _ _ x;
+      }
 
 module _ {out : List ℕ} (Says : (number place operator count : ℕ) (after : List ℕ) → Type 0)
     (ends : (n p o c : ℕ) (after : List ℕ) → Says n p o c after → AnswerOrRefusal n p (NoSpans o c out after))

@@ -1,6 +1,8 @@
 -- `dreichnook::dreichnook_translation` meets its contract.
-use Rattle.dreichnook.proofs.Handed.{lent-handed}
+use denote.Ref.{now}
+use Rattle.paper.specs.Answers.{TranslationSays}
 use Rattle.paper.proofs.Demands.{demand1}
+use Rattle.dreichnook.proofs.Handed.{lent-handed}
 use borrow.Author.Needs.{needs}
 use Rattle.dreichnook.proofs.dreichnook_translation.Statement.{statement}
 use Rattle.dreichnook.proofs.dreichnook_translation.Tie as tie
@@ -16,8 +18,9 @@ same-length c = search needs
 
 returns : tie.Need-returns
 returns c =
+    let args = c .before .before .before .before .before .before .before .before .before .args in
     let translation = c .before .before .before .before .before .translation in
-    lent-handed _ (λ n p z. demand1 .translation _ _ _ n p z _) (translation .ensures) (c .hand-lent .ensures)
+    lent-handed (TranslationSays (now (args .listing)) (args .sequence) (args .feature) (now (args .out))) (λ n p z after. demand1 .translation (now (args .listing)) (args .sequence) (args .feature) n p z (now (args .out)) after) (translation .ensures) (c .hand-lent .ensures)
 
 pub dreichnook-translation-spec : {M : Type 1} → statement M
 dreichnook-translation-spec = tie.close (tie.spec translation-requires hand-lent-requires same-length returns)

@@ -1,6 +1,8 @@
 -- `dreichnook::dreichnook_translations` meets its contract.
-use Rattle.dreichnook.proofs.Handed.{lent-handed}
+use denote.Ref.{now}
+use Rattle.paper.specs.Answers.{TranslationsSays}
 use Rattle.paper.proofs.Demands.{demand1}
+use Rattle.dreichnook.proofs.Handed.{lent-handed}
 use borrow.Author.Needs.{needs}
 use Rattle.dreichnook.proofs.dreichnook_translations.Statement.{statement}
 use Rattle.dreichnook.proofs.dreichnook_translations.Tie as tie
@@ -16,8 +18,9 @@ same-length c = search needs
 
 returns : tie.Need-returns
 returns c =
+    let args = c .before .before .before .before .before .before .before .before .before .args in
     let translations = c .before .before .before .before .before .translations in
-    lent-handed _ (λ n p z. demand1 .translations _ _ n p z _) (translations .ensures) (c .hand-lent .ensures)
+    lent-handed (TranslationsSays (now (args .listing)) (args .sequence) (now (args .out))) (λ n p z after. demand1 .translations (now (args .listing)) (args .sequence) n p z (now (args .out)) after) (translations .ensures) (c .hand-lent .ensures)
 
 pub dreichnook-translations-spec : {M : Type 1} → statement M
 dreichnook-translations-spec = tie.close (tie.spec translations-requires hand-lent-requires same-length returns)

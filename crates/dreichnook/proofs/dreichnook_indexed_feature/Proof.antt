@@ -1,0 +1,26 @@
+-- `dreichnook::dreichnook_indexed_feature` meets its contract.
+use denote.Ref.{now}
+use Rattle.paper.specs.Index.{IndexedFeatureSays}
+use Rattle.paper.proofs.Demands.{demand1, demand2}
+use Rattle.dreichnook.proofs.Handed.{feature-handed}
+use borrow.Author.Needs.{needs}
+use Rattle.dreichnook.proofs.dreichnook_indexed_feature.Statement.{statement}
+use Rattle.dreichnook.proofs.dreichnook_indexed_feature.Tie as tie
+
+locate-feature-requires : tie.Need-locate-feature-requires
+locate-feature-requires c κs = search needs
+
+hand-feature-requires : tie.Need-hand-feature-requires
+hand-feature-requires c κs = search needs
+
+returns : tie.Need-returns
+returns c =
+    let args = c .before .before .before .before .before .before .before .before .before .args in
+    let locate-feature = c .before .before .before .before .before .before .locate-feature in
+    feature-handed (now (args .listing)) (IndexedFeatureSays (now (args .listing)) (now (args .index)) (args .sequence) (args .feature))
+    (demand1 .indexed-feature (now (args .listing)) (now (args .index)) (args .sequence) (args .feature))
+    (demand2 .indexed-feature (now (args .listing)) (now (args .index)) (args .sequence) (args .feature)) (locate-feature .ensures .0)
+    (c .hand-feature .ensures)
+
+pub dreichnook-indexed-feature-spec : {M : Type 1} → statement M
+dreichnook-indexed-feature-spec = tie.close (tie.spec locate-feature-requires hand-feature-requires returns)
