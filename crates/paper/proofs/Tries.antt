@@ -10,7 +10,7 @@ use mathlib.Core.Option.{none, some}
 use lib.ListN.{length}
 use lib.Dec.{leb}
 use Rattle.paper.specs.Bytes.{bytes, raw, all, leading, isBlank}
-use Rattle.paper.specs.Lists.{Count, end, has, lacks}
+use Rattle.paper.specs.Lists.{Count, end, has, lacks, gather}
 use Rattle.paper.specs.Tree.{Text, Sequence, Listing, markText}
 use Rattle.paper.specs.Form.{Form, lit, _·_}
 use Rattle.paper.specs.Layout.{blanks, leaf, root, doctype, LaidOut}
@@ -18,6 +18,7 @@ use Rattle.paper.specs.Locations.{Member, Operator, Location, many, Loca
 use Rattle.paper.specs.Vocabulary.{Row, nucleotideRows, nucleotideNames, aminoRows, aminoNames, isOneOf, counted}
 use Rattle.paper.specs.Rules.{L, Skipped, Kind, dna, rna, aa, isSymbol, upperIn, valueRead, vocabulary, InResidues, rule-18, rule-19}
 use Rattle.paper.specs.Answers.{limit, Checked, Counts, CheckSays, kindNumber, page, Prints}
+use Rattle.paper.specs.Index.{inBytes, bodyOf, contentsOf, agree}
 use Rattle.paper.specs.declared.Verdict.the-variants.{Accepted, Refused}
 use Rattle.paper.proofs.Accepted.{listing, tree, laid}
 use Rattle.paper.proofs.Locate.{locate-sound}
@@ -173,3 +174,15 @@ foreign-byte s n p (rule-18 k i h) e = by (cut (isSymbol k) (s .residues .read))
     by (whole a q) = absurd (h a)
     by (before b x q o) = (k, leading (isSymbol k) (s .residues .read), x, b, q, leading-in (isSymbol k) (s .residues .read), o, refl)
 foreign-byte s n p (rule-19 k i m c h) e = absurd (omega (arith, e))
+
+-- the index of the listing that is proved to be accepted, number by number: DNA with two features, AA with one, and a skipped sequence
+index-tried : contentsOf tree ++ gather bodyOf (tree .sequences)
+    ≡ 3 ∷ 28 ∷ 44 ∷ 72 ∷ 28 ∷ 100 ∷ 12
+    ∷ 1 ∷ 1504 ∷ 12 ∷ 719 ∷ 6 ∷ 766 ∷ 5 ∷ 1164 ∷ 3 ∷ 1208 ∷ 40
+    ∷ 3 ∷ 2232 ∷ 4 ∷ 1778 ∷ 6 ∷ 1825 ∷ 4
+    ∷ 0 ∷ 2455 ∷ 3 ∷ []
+index-tried = refl
+
+-- an index differs at its first other byte, or where the shorter one ends
+index-differs : (agree (inBytes (1 ∷ 12 ∷ [])) (inBytes (1 ∷ 268 ∷ [])) ≡ 5) × (agree (inBytes (1 ∷ [])) (inBytes (1 ∷ 12 ∷ [])) ≡ 4) × (agree (inBytes (1 ∷ [])) [] ≡ 0)
+index-differs = (refl, refl, refl)
