@@ -3,13 +3,13 @@ use Prim.Native.Nat.{ℕ}
 use mathlib.Core.Path.{_≡_}
 use mathlib.Core.Bool.{Bool, true, false}
 use mathlib.Core.List.{List}
-use Rattle.paper.specs.Tree.{Listing}
-use Rattle.paper.specs.Layout.{LaidOut, child}
+use Rattle.paper.specs.Layout.{child}
 use Rattle.paper.specs.Layout as layout
 use Rattle.paper.specs.Rules.{Skipped}
-use Rattle.paper.specs.Answers.{refuse, give, Checked, CheckSays, FindsSequence, FindsFeature}
+use Rattle.paper.specs.Answers.{refuse, give, CheckSays, FindsSequence, FindsFeature}
 use Rattle.paper.specs.Answers as paper
 use Rattle.paper.specs.declared.Verdict.the-variants.{Accepted}
+use Rattle.paper.proofs.Inside.{laid-out}
 use Rattle.value_words.specs.Reading.{Tells}
 use Rattle.value_words.proofs.Tests.{tells-true, tells-false}
 use Rattle.walk_items.specs.Items.{IsSequence}
@@ -28,9 +28,6 @@ use Rattle.judge_header.specs.Headers.{JudgesHeader}
 use Rattle.judge_header.specs.declared.Headed.{Headed}
 use Rattle.judge_texts.specs.Texts.{TellsSkipped}
 use Rattle.ask_find.specs.Finds.{FirstIs, SequenceIs, FeatureIs, FeatureAsked, QualifierAsked}
-
-laid-out : {w : List ℕ} {l : Listing ℕ} → Checked w (give l) → LaidOut l w
-laid-out (paper.accepted short laid clean) = laid
 
 pub first-found : {w : List ℕ} {t s f j u : ℕ} {h : Headed} → CheckSays w (Accepted t s f j u) → JudgesHeader w h → FirstIs w (h .first) t f
 first-found c j =

@@ -1,14 +1,12 @@
 -- The index that is made, and the one that is taken, from what the walk laid.
 use Prim.Native.Nat.{ℕ, _+_, _*_, _≤_, _<_}
 use native.Mathlib.Omega.{arith}
-use mathlib.Core.Path.{_≡_, refl, sym, ap, _∙_, subst, subst₂}
+use mathlib.Core.Path.{_≡_, sym, ap, _∙_, subst, subst₂}
 use mathlib.Core.Bool.{Bool, true, false, true≢false}
 use mathlib.Core.List.{List, []}
-use lib.ListN.{length, drop}
-use lib.Seq.{sets}
-use Rattle.paper.specs.Tree.{Listing}
+use lib.ListN.{length}
 use Rattle.paper.specs.Answers.{limit, refuse, give, Checked, Lent}
-use Rattle.paper.specs.Index.{inBytes, sizeOf, indexOf, agree, FindsIndex, IndexSays, ChecksIndex, IndexCheckSays}
+use Rattle.paper.specs.Index.{indexOf, agree, FindsIndex, IndexSays, ChecksIndex, IndexCheckSays}
 use Rattle.paper.proofs.Inside.{within-limit, laid-out}
 use Rattle.paper.proofs.Sizes.{listing-room}
 use Rattle.paper.proofs.Index.{length-in-bytes, index-size, index-room}
@@ -17,7 +15,7 @@ use Rattle.lent_room.specs.declared.Laid.{Laid}
 use Rattle.lent_room.specs.declared.Pass.{Pass}
 use Rattle.lent_room.specs.declared.Pass.the-variants.{Write, Compare}
 use Rattle.lent_room.proofs.Laws.{sets-front, agree-self, agree-whole}
-use Rattle.index_walk.specs.Bodies.{InWord, numbersOf, IndexLaid, LaysIndex}
+use Rattle.index_walk.specs.Bodies.{numbersOf, IndexLaid, LaysIndex}
 use Rattle.ask_answers.specs.Stretches.{nothingLent}
 use Rattle.ask_answers.specs.declared.LentAnswer.{LentAnswer}
 use Rattle.ask_find.specs.Finds.{FirstIs}

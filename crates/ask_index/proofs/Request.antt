@@ -2,13 +2,12 @@
 use Prim.Native.Nat.{ℕ, _/_, _≤_}
 use native.Mathlib.Omega.{arith}
 use mathlib.Core.Path.{_≡_, refl, sym, ap, _∙_, subst}
-use mathlib.Core.Logic.{_↔_}
-use mathlib.Core.List.{List, map}
+use mathlib.Core.List.{List}
 use lib.ListN.{length, take}
 use lib.Seq.{take-at}
-use Rattle.paper.specs.Tree.{Sequence, Listing}
+use Rattle.paper.specs.Tree.{Listing}
 use Rattle.paper.specs.Answers.{Outcome, give, Checked, Lent}
-use Rattle.paper.specs.Index.{bodyOf, indexOf, FindsIndex, IndexSays, ChecksIndex, IndexCheckSays}
+use Rattle.paper.specs.Index.{indexOf, FindsIndex, IndexSays, ChecksIndex, IndexCheckSays}
 use Rattle.paper.specs.Demands.{Request5}
 use Rattle.paper.proofs.Inside.{laid-out}
 use Rattle.paper.proofs.Index.{index-room, same-index}

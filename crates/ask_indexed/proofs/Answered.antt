@@ -1,13 +1,11 @@
 -- The answers with an index: the checker's refusal, or what the plain lookup says of the item that the index found.
 use Prim.Native.Nat.{ℕ, zero, suc}
 use native.Mathlib.Omega.{arith}
-use mathlib.Core.Path.{_≡_, refl, sym, ap, _∙_, subst}
-use mathlib.Core.Bool.{Bool}
+use mathlib.Core.Path.{_≡_, refl, sym, ap, subst}
 use mathlib.Core.List.{List, [], _∷_}
 use Rattle.paper.specs.Lists.{Numbered}
-use Rattle.paper.specs.Tree.{Feature, Sequence, featuresOf}
-use Rattle.paper.specs.Layout.{child, feature}
-use Rattle.paper.specs.Answers.{refuse, give, FindsQualifier}
+use Rattle.paper.specs.Tree.{Feature, featuresOf}
+use Rattle.paper.specs.Answers.{refuse, give}
 use Rattle.paper.specs.Answers as paper
 use Rattle.paper.specs.Index.{ChecksIndex, WithIndex, IndexedSequenceSays, IndexedFeatureSays, IndexedQualifierSays, IndexedSpansSays, IndexedTranslationSays, IndexedTranslationsSays}
 use Rattle.walk_items.specs.Items.{FeatureFrom}
@@ -18,13 +16,12 @@ use Rattle.walk_seek.specs.Within.{QualifierIn, QualifierFound}
 use Rattle.walk_seek.specs.declared.QualifierAt.{QualifierAt}
 use Rattle.walk_seek.specs.declared.QualifierAt.the-variants as qualifier
 use Rattle.judge_faults.specs.declared.Known.{Known}
-use Rattle.index_find.specs.Finds.{EntryIn, EntryFound}
+use Rattle.index_find.specs.Finds.{EntryFound}
 use Rattle.index_find.specs.declared.Body.{Body}
 use Rattle.index_find.specs.declared.Entry.{Entry}
 use Rattle.index_find.specs.declared.EntryAt.{EntryAt}
 use Rattle.index_find.specs.declared.EntryAt.the-variants as entry
-use Rattle.ask_answers.specs.Stretches.{partIs, Lies, noStretch, noSequence, noFeature, noQualifier, noSpans, nothingLent}
-use Rattle.ask_answers.specs.declared.Stretch.{Stretch}
+use Rattle.ask_answers.specs.Stretches.{partIs, Lies, noSequence, noFeature, noQualifier, noSpans, nothingLent}
 use Rattle.ask_answers.specs.declared.SequenceAnswer.{SequenceAnswer}
 use Rattle.ask_answers.specs.declared.FeatureAnswer.{FeatureAnswer}
 use Rattle.ask_answers.specs.declared.QualifierAnswer.{QualifierAnswer}
@@ -35,7 +32,7 @@ use Rattle.ask_index.specs.Takes.{IndexOf}
 use Rattle.ask_found.specs.Answers as answers
 use Rattle.ask_found.proofs.Translated.{translations-none}
 use Rattle.ask_indexed.specs.Finds.{Refuses, checker, later, SequenceRefused, FeatureRefused, BodyHere, EntryHere, KnowsBody}
-use Rattle.ask_indexed.proofs.Found.{feature-given, residues-part, body-stands, key-part, location-part, location-some, feature-there, feature-is}
+use Rattle.ask_indexed.proofs.Found.{feature-given, residues-part, body-stands, key-part, location-part, feature-there, feature-is}
 use Rattle.ask_indexed.proofs.Known.{body-kind, body-knows}
 
 -- ---- what is promised

@@ -5,7 +5,7 @@ use mathlib.Core.Path.{_≡_, refl, sym, ap, _∙_, subst}
 use mathlib.Core.Logic.{inl}
 use mathlib.Core.List.{List, [], _++_}
 use mathlib.Core.Option.{Option·none-ne-some}
-use lib.ListN.{length, take, drop, take-append-drop}
+use lib.ListN.{length, drop, take-append-drop}
 use lib.Seq.{drop-drop}
 use Rattle.paper.specs.Bytes.{bytes, raw}
 use Rattle.paper.specs.Lists.{_∈_}

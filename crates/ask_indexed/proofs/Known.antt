@@ -5,9 +5,9 @@ use native.Mathlib.Decide.{ℕ-discrete}
 use mathlib.Core.Path.{_≡_, refl, sym, ap, _∙_, subst}
 use mathlib.Core.List.{List, List-discrete}
 use lib.ListN.{length}
-use Rattle.paper.specs.Bytes.{bytes, raw, all, leading}
+use Rattle.paper.specs.Bytes.{bytes, raw, all}
 use Rattle.paper.specs.Tree.{Sequence}
-use Rattle.paper.specs.Rules.{L, Kind, dna, rna, aa, kindName, IsKind, isSymbol}
+use Rattle.paper.specs.Rules.{Kind, dna, rna, aa, kindName, IsKind, isSymbol}
 use Rattle.paper.specs.Rules as Rules
 use Rattle.paper.specs.Answers.{kindNumber}
 use Rattle.paper.specs.Answers as paper
@@ -18,7 +18,6 @@ use Rattle.value_words.specs.declared.Molecule.{Molecule}
 use Rattle.value_words.specs.declared.Molecule.the-variants.{Dna, Rna, Aa, Other}
 use Rattle.value_words.proofs.Read.{raw-plain}
 use Rattle.walk_steps.specs.Stands.{IsPart}
-use Rattle.walk_steps.specs.declared.Range.{Range}
 use Rattle.judge_faults.specs.Known.{Knows}
 use Rattle.judge_faults.specs.declared.Known.{Known}
 use Rattle.index_find.specs.Finds.{moleculeNumber}

@@ -6,7 +6,7 @@ use mathlib.Core.Bool.{Bool, true, false, cond}
 use mathlib.Core.List.{List, [], _∷_}
 use lib.ListN.{length, drop, length-append, length-drop}
 use Rattle.paper.specs.Bytes.{bytes, same, raw}
-use Rattle.paper.specs.Tree.{Text, Feature, Sequence}
+use Rattle.paper.specs.Tree.{Text, Sequence}
 use Rattle.paper.specs.Rules.{dna, rna}
 use Rattle.paper.specs.Answers.{limit}
 use Rattle.paper.specs.Index.{isSkipped}

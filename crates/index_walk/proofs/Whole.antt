@@ -4,10 +4,9 @@ use native.Mathlib.Omega.{arith}
 use mathlib.Core.Path.{_≡_, refl, sym, ap, _∙_, subst, subst₂}
 use mathlib.Core.Bool.{Bool, true, false}
 use mathlib.Core.List.{List, [], _∷_, _++_, map}
-use lib.ListN.{length, drop, length-append}
+use lib.ListN.{length, length-append}
 use Rattle.paper.specs.Bytes.{bytes, isBlank}
 use Rattle.paper.specs.Lists.{gather}
-use Rattle.paper.specs.Form.{each}
 use Rattle.paper.specs.Tree.{Sequence}
 use Rattle.paper.specs.Layout.{child, sequence}
 use Rattle.paper.specs.Answers.{limit}
@@ -19,8 +18,8 @@ use Rattle.lent_room.specs.declared.Laid.{Laid}
 use Rattle.lent_room.specs.declared.Pass.{Pass}
 use Rattle.lent_room.specs.declared.Pass.the-variants.{Measure, Write, Compare}
 use Rattle.lent_room.proofs.Passes.{lays-none}
-use Rattle.read_steps.specs.Follow.{Not, Starts, closing}
-use Rattle.walk_steps.specs.Stands.{Stands, Over, TellsChild}
+use Rattle.read_steps.specs.Follow.{Not, closing}
+use Rattle.walk_steps.specs.Stands.{Over, TellsChild}
 use Rattle.walk_items.specs.Items.{MeetsSequence, IsSequence}
 use Rattle.walk_items.specs.declared.FoundSequence.{FoundSequence}
 use Rattle.walk_items.proofs.Sequences.{sequence-leads}

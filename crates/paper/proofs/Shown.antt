@@ -13,7 +13,6 @@ use Rattle.paper.specs.Form.{Form, these, lit, _·_, _∪_, given, maybe
 use Rattle.paper.specs.Lists.{_∈_, gather, present}
 use Rattle.paper.specs.Tree.{Text, Spoken, Party, Identification, Heading, reference, application, Qualifier, Feature, Table, Sequence, Listing, featuresIn, featuresOf, listed, spokenTexts, partyTexts, identificationTexts, headingTexts, qualifierTexts, featureTexts, sequenceTexts, attributeTexts, partiesTexts, textsOf}
 use Rattle.paper.specs.Layout.{blanks, gap, text, tag, close, attribute, content, leaf, spoken, child, child?, holding, holding?, identification, heading, party, qualifier, quals, feature, table, otherIds, inner, sequence, attributes, parties, root, doctype, LaidOut}
-use Rattle.paper.specs.Answers.{partOf}
 use Rattle.paper.specs.Demands.{StatedStretch}
 use Rattle.paper.proofs.Lists.{of-append, in-first, in-second, in-gather}
 

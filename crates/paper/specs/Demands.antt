@@ -13,7 +13,7 @@ use Rattle.paper.specs.Tree.{Text, Feature, Sequence, Listing, Bare, tex
 use Rattle.paper.specs.Layout.{LaidOut, Writes}
 use Rattle.paper.specs.Locations.{Location, Locates, Span, spans}
 use Rattle.paper.specs.Rules.{L, Breaks}
-use Rattle.paper.specs.Answers.{limit, give, Checked, CheckSays, Part, shown, noPart, partOf, SequenceSays, FeatureSays, QualifierSays, SpansSays, TranslationSays, TranslationsSays, NoSequence, NoFeature, NoQualifier, NoSpans, NothingWritten}
+use Rattle.paper.specs.Answers.{limit, give, Checked, CheckSays, Part, shown, partOf, SequenceSays, FeatureSays, QualifierSays, SpansSays, TranslationSays, TranslationsSays, NoSequence, NoFeature, NoQualifier, NoSpans, NothingWritten}
 use Rattle.paper.specs.Index.{bodyOf, indexOf, IndexSays, IndexCheckSays, IndexedSequenceSays, IndexedFeatureSays, IndexedQualifierSays, IndexedSpansSays, IndexedTranslationSays, IndexedTranslationsSays}
 use Rattle.paper.specs.declared.Verdict.{Verdict}
 use Rattle.paper.specs.declared.Verdict.the-variants.{Accepted, Refused}

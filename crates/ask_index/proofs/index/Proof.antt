@@ -1,6 +1,6 @@
 -- The check's refusal, 34, or the index.
 use native.Mathlib.Omega.{arith}
-use mathlib.Core.Path.{subst, sym}
+use mathlib.Core.Path.{subst}
 use denote.Ref.{now}
 use Rattle.ask_find.specs.Finds.{FindsFirst}
 use Rattle.ask_index.proofs.Made.{few, made-refused, made-short, made-whole}

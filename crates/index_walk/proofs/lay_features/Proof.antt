@@ -1,7 +1,6 @@
 -- Feature by feature. Invariant: those passed are laid. The measure is what is left of the text.
 use Prim.Native.Nat.{_-_}
 use native.Mathlib.Omega.{arith}
-use mathlib.Core.Path.{_∙_}
 use lib.ListN.{length}
 use Rattle.index_walk.proofs.Bodies.{Featuring, featuring-none, featuring-stuck, featuring-next, featuring-done}
 use borrow.Author.Needs.{needs}

@@ -1,7 +1,7 @@
 -- Number by number. Invariant: those passed are laid.
 use Prim.Native.Nat.{_-_}
 use mathlib.Core.Bool.{true}
-use mathlib.Core.Path.{_∙_, subst}
+use mathlib.Core.Path.{_∙_}
 use lib.ListN.{length, take}
 use borrow.Author.Tests.{not-true, not-false}
 use Rattle.paper.specs.Index.{inBytes}
