@@ -96,11 +96,9 @@ static uint32_t make(const struct asked *it)
 static const struct column {
     const char *name;
     call *ask;
-    /* Whether what it takes beside the check is small: all translations of a sequence with many features are much work. */
-    bool targeted;
 } columns[] = {
-    {"check", check, true}, {"sequence", sequence, true}, {"feature", feature, true},
-    {"qualifier", qualifier, true}, {"spans", spans, true}, {"translations", translations, false},
+    {"check", check}, {"sequence", sequence}, {"feature", feature},
+    {"qualifier", qualifier}, {"spans", spans}, {"translations", translations},
 };
 
 /* ---- the times */
@@ -169,7 +167,7 @@ static bool tell_ratios(const struct times *times, bool targeted)
     printf("\n%-22s%14.2f", times->name, maker);
     for (size_t i = 0; i < COUNT(columns); i++) {
         const double ratio = times->indexed[i] / times->alone[0];
-        longest = columns[i].targeted && ratio > longest ? ratio : longest;
+        longest = ratio > longest ? ratio : longest;
         printf("%14.2f", ratio);
     }
     if (!targeted) {
@@ -210,7 +208,7 @@ int main(int argc, char **argv)
             printf("%14.1f", 1e6 * times[i].alone[k]);
         }
     }
-    printf("\n\nThe index: times the check, of the call that makes it and of the calls with it; all translations have no target\n");
+    printf("\n\nThe index: times the check, of the call that makes it and of the calls with it\n");
     printf("%-22s%14s", "", "maker");
     tell_names("index check");
     bool met = true;
