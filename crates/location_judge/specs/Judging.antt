@@ -1,6 +1,7 @@
 -- What is promised of the judgement of a location.
 use Prim.Native.Nat.{ℕ}
 use mathlib.Core.Path.{_≡_}
+use mathlib.Core.Bool.{Bool}
 use mathlib.Core.List.{List}
 use lib.ListN.{length}
 use Rattle.paper.specs.Bytes.{raw}
@@ -37,3 +38,12 @@ Judges s L (Is f) = (t : Location) × Spells s t × AreFacts L t f
 -- the verdict on the part that stands from here to there
 pub record JudgesPart (s : List ℕ) (from to L : ℕ) (r : Judgement) : Type 0 where
   pub is : (w : List ℕ) → ShowsBytes s from to w → Judges w L r
+
+-- ---- whether a location leaves its region unjudged
+
+-- of whichever location the bytes are
+pub record Leaves (s : List ℕ) (r : Bool) : Type 0 where
+  pub says : (t : Location) → Spells s t → r ≡ leavesUnjudged t
+
+pub record LeavesPart (s : List ℕ) (from to : ℕ) (r : Bool) : Type 0 where
+  pub is : (w : List ℕ) → ShowsBytes s from to w → Leaves w r

@@ -11,7 +11,7 @@ ghost use mathlib.Core.Bool.{_||_};
 ghost use Prim.Native.Nat.{_<_};
 ghost use Rattle.paper.proofs.Locate.Model;
 ghost use Rattle.location_judge.specs.Readings.{Outs, withMember};
-ghost use Rattle.location_judge.specs.Judging.{Judges, JudgesPart};
+ghost use Rattle.location_judge.specs.Judging.{Judges, JudgesPart, Leaves, LeavesPart};
 
 // What is asked of a location, for a sequence of L residues.
 pub struct Facts {
@@ -187,4 +187,21 @@ pub fn judge_location(s: &[u8], from: usize, to: usize, top: u32) -> Judgement
     ensures { λ r. ⌜ JudgesPart (now (s .entry)) from to top r ⌝ }
 {
     judge(read_steps::bytes_of(s, from, to), top)
+}
+
+// Whether the location that the bytes s of a part are written from leaves its region unjudged.
+fn unjudged(s: &[u8], top: u32) -> bool
+    ensures { λ r. ⌜ Leaves (now (s .entry)) r ⌝ }
+{
+    match judge(s, top) {
+        Judgement::Bad => false,
+        Judgement::Is(f) => f.unjudged,
+    }
+}
+
+// The same of the location that stands in the listing s from `from` to before `to`.
+pub fn leaves_unjudged(s: &[u8], from: usize, to: usize, top: u32) -> bool
+    ensures { λ r. ⌜ LeavesPart (now (s .entry)) from to r ⌝ }
+{
+    unjudged(read_steps::bytes_of(s, from, to), top)
 }
