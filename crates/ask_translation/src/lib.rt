@@ -1,20 +1,30 @@
-// The translation of one feature of an accepted listing, into lent bytes.
-// Relies on what the qualifiers of a coding region say, the judged location and the writing of a translation.
+// The translation of one feature of an accepted listing, into lent bytes. Where the listing gives it, it is copied: rule 28 was judged, so
+// the value is the translation. Relies on what the qualifiers of a coding region say, on its location and on the writing of a translation.
 use judge_faults::Known;
-use judge_qualifiers::Start;
+use judge_qualifiers::Noted;
 use judge_qualifiers::is_coding;
+use judge_qualifiers::note;
 use judge_qualifiers::start_of;
-use location_judge::judging::judge_location;
+use lent_room::Pass;
+use lent_room::lay_bytes;
+use location_judge::judging::leaves_unjudged;
 use protein_measure::Size;
+use protein_measure::measure;
 use protein_write::write;
 use read_steps::bytes_of;
+use value_words::same;
 use walk_items::FoundFeature;
+use walk_items::FoundQualifier;
+use walk_steps::Maybe;
+use walk_steps::Range;
 ghost use mathlib.Core.Path.{_≡_};
 ghost use Rattle.paper.specs.Translation.{code1};
-ghost use Rattle.protein_code.specs.Tables.{CodeTable};
+ghost use Rattle.protein_code.specs.Tables.{CodeTable, Coded, codeOf};
 ghost use Rattle.value_vocabulary.specs.Tables.{VocabularyTable};
-ghost use Rattle.ask_translation.specs.Plans.{Plans};
-ghost use Rattle.ask_translation.specs.Ones.{refusal, TranslatesOne};
+ghost use Rattle.ask_translation.specs.Plans.{GivenAt, Plans};
+ghost use Rattle.ask_translation.specs.Ones.{refusal, LaysText, SizesText, LaysPlanned, TranslatesOne};
+
+// ---- how it is translated
 
 // How a feature is translated.
 pub enum Plan {
@@ -22,25 +32,82 @@ pub enum Plan {
     NoCds,
     // It is a CDS that isn't judged.
     Unjudged,
+    // It is a judged CDS, and the listing gives its translation here.
+    Given(Range),
     // It is a judged CDS, and its codons start with this residue of its spans.
     From(usize),
 }
 
-pub fn plan_of(s: &[u8], known: Known, feature: FoundFeature, vocabulary: &[u8; 3492]) -> Plan
+// And where its qualifiers end.
+pub struct Planned {
+    pub plan: Plan,
+    pub next: usize,
+}
+
+// The value of the translation that stands at a place, where one does before `next`.
+fn given_at(s: &[u8], at: usize, next: usize) -> Maybe
+    ensures { λ r. ⌜ GivenAt (now (s .entry)) at next r ⌝ }
+{
+    if next <= at {
+        return Maybe::Absent;
+    }
+    let FoundQualifier {
+        name,
+        value,
+        next: _,
+    } = walk_items::qualifier(s, at);
+    if same(bytes_of(s, name.from, name.to), b"translation") {
+        return value;
+    }
+    Maybe::Absent
+}
+
+pub fn plan_of(s: &[u8], known: Known, feature: FoundFeature, vocabulary: &[u8; 3492]) -> Planned
     requires { ⌜ VocabularyTable (now vocabulary) ⌝ }
     ensures { λ r. ⌜ Plans (now (s .entry)) known feature r ⌝ }
 {
+    let Noted {
+        frame,
+        excepted,
+        organisms: _,
+        moltypes: _,
+        words: _,
+        rest,
+        next,
+    } = note(s, feature.quals, false, 0, vocabulary);
     let name = bytes_of(s, feature.key.from, feature.key.to);
     let kind = known.kind;
     if !is_coding(name, kind) {
-        return Plan::NoCds;
+        return Planned {
+            plan: Plan::NoCds,
+            next,
+        };
     }
-    let verdict = judge_location(s, feature.location.from, feature.location.to, known.top);
-    match start_of(s, feature.quals, verdict, vocabulary) {
-        Start::Unjudged => Plan::Unjudged,
-        Start::At(n) => Plan::From(n),
+    if excepted {
+        return Planned {
+            plan: Plan::Unjudged,
+            next,
+        };
+    }
+    if leaves_unjudged(s, feature.location.from, feature.location.to, known.top) {
+        return Planned {
+            plan: Plan::Unjudged,
+            next,
+        };
+    }
+    match given_at(s, rest, next) {
+        Maybe::Present(value) => Planned {
+            plan: Plan::Given(value),
+            next,
+        },
+        Maybe::Absent => Planned {
+            plan: Plan::From(start_of(frame)),
+            next,
+        },
     }
 }
+
+// ---- measured or written
 
 // The number of a refusal, or 0, and the length of what was written.
 pub struct Written {
@@ -53,6 +120,70 @@ pub fn refused(number: usize) -> Written
     ensures { λ r. ⌜ r ≡ refusal number ⌝ }
 {
     Written { number, size: 0 }
+}
+
+// A text at the front of out, if it is to be written; or only whether it fits.
+fn lay_text(text: &[u8], to_write: bool, out: &mut [u8]) -> Written
+    ensures { λ r. ⌜ LaysText (now (text .entry)) to_write (now (out .entry)) r (now (out .exit)) ⌝ }
+{
+    if out.len() < text.len() {
+        return refused(34);
+    }
+    if to_write {
+        lay_bytes(Pass::Write, text, 0, b"", out);
+    }
+    Written {
+        number: 0,
+        size: text.len(),
+    }
+}
+
+// The same of the translation of a coding text.
+fn lay_letters(
+    r: &[u8],
+    loc: &[u8],
+    top: u32,
+    start: usize,
+    to_write: bool,
+    code: &[u8; 5128],
+    out: &mut [u8],
+) -> Size
+    requires { ⌜ Coded (now code) ⌝ }
+    ensures { λ y. ⌜ SizesText (codeOf (now (code .entry))) (now (r .entry)) (now (loc .entry)) top start to_write (now (out .entry)) y (now (out .exit)) ⌝ }
+{
+    if to_write {
+        return write(r, loc, top, start, code, out);
+    }
+    measure(r, loc, top, start, out.len(), code)
+}
+
+// The translation that was planned, at the front of out if it is to be written.
+pub fn lay_planned(
+    s: &[u8],
+    known: Known,
+    feature: FoundFeature,
+    plan: Plan,
+    to_write: bool,
+    code: &[u8; 5128],
+    out: &mut [u8],
+) -> Written
+    requires { ⌜ CodeTable code1 (now code) ⌝ }
+    ensures { λ r. ⌜ LaysPlanned (now (s .entry)) known feature plan to_write (now (out .entry)) r (now (out .exit)) ⌝ }
+{
+    match plan {
+        Plan::NoCds => refused(35),
+        Plan::Unjudged => refused(36),
+        Plan::Given(value) => lay_text(bytes_of(s, value.from, value.to), to_write, out),
+        Plan::From(start) => {
+            let r = bytes_of(s, known.residues.from, known.residues.to);
+            let loc = bytes_of(s, feature.location.from, feature.location.to);
+            match lay_letters(r, loc, known.top, start, to_write, code, out) {
+                Size::Is(n) => Written { number: 0, size: n },
+                Size::Short => refused(34),
+                Size::Stop => refused(37),
+            }
+        }
+    }
 }
 
 // One translation at the front of out; or nothing is written.
@@ -68,17 +199,6 @@ pub fn translate(
     requires { ⌜ VocabularyTable (now vocabulary) ⌝ }
     ensures { λ r. ⌜ TranslatesOne (now (s .entry)) known feature (now (out .entry)) r (now (out .exit)) ⌝ }
 {
-    match plan_of(s, known, feature, vocabulary) {
-        Plan::NoCds => refused(35),
-        Plan::Unjudged => refused(36),
-        Plan::From(start) => {
-            let r = bytes_of(s, known.residues.from, known.residues.to);
-            let loc = bytes_of(s, feature.location.from, feature.location.to);
-            match write(r, loc, known.top, start, code, out) {
-                Size::Is(n) => Written { number: 0, size: n },
-                Size::Short => refused(34),
-                Size::Stop => refused(37),
-            }
-        }
-    }
+    let Planned { plan, next: _ } = plan_of(s, known, feature, vocabulary);
+    lay_planned(s, known, feature, plan, true, code, out)
 }

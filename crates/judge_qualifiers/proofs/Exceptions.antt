@@ -89,31 +89,41 @@ module _ {s : List ℕ} {number : ℕ} {value : Maybe} {e : Bool} where
 
 -- ---- the region
 
-leaves : {f : Feature ℕ} (q : Qualifier ℕ) → q ∈ qualifiersOf f → Excepted (q .name .read) ⊎ OtherCode q → Unjudged f
-leaves q m (inl x) = excepted q m (x .0) (x .1) (x .2)
-leaves q m (inr x) = other-code q m (x .0) (x .1)
+-- it is left by its qualifiers
+pub leaves-by-qualifier : (f : Feature ℕ) {e : Bool} → e ≡ true → Tells e (HasExcepted (qualifiersOf f)) → Unjudged f
+leaves-by-qualifier f {e} h t = let x = tells-true e h t in by (x .0) (x .1) (x .2)
+  where
+    by : (q : Qualifier ℕ) → q ∈ qualifiersOf f → Excepted (q .name .read) ⊎ OtherCode q → Unjudged f
+    by q m (inl x) = excepted q m (x .0) (x .1) (x .2)
+    by q m (inr x) = other-code q m (x .0) (x .1)
 
--- it is left by its location alone
-by-location : {f : Feature ℕ} → ¬ HasExcepted (qualifiersOf f) → Unjudged f → (t : Location) × Locates t (f .location .read) × (leavesUnjudged t ≡ true)
-by-location n (excepted q m name k e) = absurd (n (q, m, inl (name, k, e)))
-by-location n (other-code q m k v) = absurd (n (q, m, inr (k, v)))
-by-location n (located t h e) = (t, h, e)
+module _ (f : Feature ℕ) (n : ¬ HasExcepted (qualifiersOf f)) where
+  -- it is left by its location alone
+  by-location : Unjudged f → (t : Location) × Locates t (f .location .read) × (leavesUnjudged t ≡ true)
+  by-location (excepted q m name k e) = absurd (n (q, m, inl (name, k, e)))
+  by-location (other-code q m k v) = absurd (n (q, m, inr (k, v)))
+  by-location (located t h e) = (t, h, e)
+
+  pub leaves-by-location : (u : Bool) (t : Location) → Locates t (f .location .read) → u ≡ leavesUnjudged t → Tells u (Unjudged f)
+  leaves-by-location true t d k = located t d (sym k)
+  leaves-by-location false t d k =
+      λ z.
+      let y = by-location z in
+      true≢false (sym (y .2) ∙ ap leavesUnjudged (locates-once (y .0) t (y .1) d) ∙ sym k)
 
 module _ {e : Bool} {verdict : Judgement} where
   pub leaves-excepted : e ≡ true → LeavesOut e verdict true
-  leaves-excepted h = record { says = λ n f t j. let x = tells-true e h t in leaves (x .0) (x .1) (x .2) }
+  leaves-excepted h = record { says = λ n f t j. leaves-by-qualifier f h t }
 
   pub leaves-bad : e ≡ false → verdict ≡ Bad → LeavesOut e verdict false
   leaves-bad h v =
-      record { says = λ n f t j u. let x = by-location (tells-false e h t) u in subst (JudgedText n (f .location .read)) v j (x .0) (x .1) }
+      record { says = λ n f t j u. let x = by-location f (tells-false e h t) u in subst (JudgedText n (f .location .read)) v j (x .0) (x .1) }
 
   pub leaves-located : (x : Facts) → e ≡ false → verdict ≡ Is x → LeavesOut e verdict (x .unjudged)
   leaves-located x h v =
-      record { says = λ n f t j. let y = subst (JudgedText n (f .location .read)) v j in facts f (x .unjudged) (tells-false e h t) (y .0) (y .1) (y .2 .unjudged) }
-    where
-      facts : (f : Feature ℕ) (u : Bool) → ¬ HasExcepted (qualifiersOf f) → (t : Location) → Locates t (f .location .read) → u ≡ leavesUnjudged t → Tells u (Unjudged f)
-      facts f true n t d k = located t d (sym k)
-      facts f false n t d k =
-          λ z.
-          let y = by-location n z in
-          true≢false (sym (y .2) ∙ ap leavesUnjudged (locates-once (y .0) t (y .1) d) ∙ sym k)
+      record {
+        says =
+            λ n f t j.
+            let y = subst (JudgedText n (f .location .read)) v j in
+            leaves-by-location f (tells-false e h t) (x .unjudged) (y .0) (y .1) (y .2 .unjudged);
+      }

@@ -12,6 +12,7 @@ use Rattle.value_vocabulary.proofs.Keyed.{number-is, number-not}
 use Rattle.walk_steps.specs.declared.Maybe.{Maybe}
 use Rattle.judge_faults.proofs.Seen.{count-has, count-lacks}
 use Rattle.judge_qualifiers.specs.Qualifiers.{Shown, StatesStart, StateIs, States, OneStart, NoStart, FrameIs, Frames}
+use Rattle.judge_qualifiers.specs.Starts.{StartsAt}
 use Rattle.judge_qualifiers.specs.declared.Frame.{Frame}
 use Rattle.judge_qualifiers.specs.declared.Frame.the-variants.{Unstated, Stated, Wrong}
 use Rattle.judge_qualifiers.proofs.Lists.{in-last, in-front, in-split, count-last, count-front, none-of}
@@ -80,3 +81,14 @@ start-one f o = stated (o .which) (o .one) (o .member) (o .named) (o .states .wo
 pub start-wrong : (f : Feature ℕ) → FrameIs (qualifiersOf f) Wrong → (n : ℕ) → ¬ CodonStart f n
 start-wrong f h n (absent c) = h .0 c
 start-wrong f h n (stated q c m k w v o i) = h .1 n (record { one = c; which = q; member = m; named = k; states = record { word = w; is = v; small = o; number = i } })
+
+module _ {frame : Frame} where
+  pub starts-first : frame ≡ Unstated → StartsAt frame 1
+  starts-first e = record { says = λ f h k. absent (subst (FrameIs (qualifiersOf f)) e h) }
+
+  pub starts-stated : {n : ℕ} → frame ≡ Stated n → StartsAt frame n
+  starts-stated e = record { says = λ f h k. start-one f (subst (FrameIs (qualifiersOf f)) e h) }
+
+  -- rule 27 is broken
+  pub starts-nowhere : {n : ℕ} → frame ≡ Wrong → StartsAt frame n
+  starts-nowhere e = record { says = λ f h k. absurd (k (start-wrong f (subst (FrameIs (qualifiersOf f)) e h))) }

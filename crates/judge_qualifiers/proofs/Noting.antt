@@ -10,36 +10,30 @@ use lib.ListN.{length, getD}
 use lib.Dec.{eqb}
 use borrow.Author.Tests.{eqb-true, eqb-false}
 use Rattle.paper.specs.Lists.{_∈_, end}
-use Rattle.paper.specs.Tree.{Qualifier, Feature, qualifiersOf}
+use Rattle.paper.specs.Tree.{Qualifier}
 use Rattle.paper.specs.Layout.{child, qualifier}
-use Rattle.paper.specs.Rules.{Named, organismName, molTypeName, CodonStart}
+use Rattle.paper.specs.Rules.{Named, organismName, molTypeName}
 use Rattle.read_steps.specs.Follow.{closing}
 use Rattle.read_steps.specs.Parts.{ShowsBytes}
 use Rattle.value_words.specs.Reading.{Tells}
-use Rattle.value_words.proofs.Tests.{tells-true, tells-false}
 use Rattle.value_vocabulary.specs.Tables.{nameTexts, standingAt}
 use Rattle.value_vocabulary.specs.Lookups.{NameNumber}
 use Rattle.value_vocabulary.proofs.Keyed.{number-is, number-not}
 use Rattle.walk_steps.specs.Stands.{TellsChild}
 use Rattle.walk_items.specs.Items.{MeetsQualifier}
 use Rattle.walk_items.specs.declared.FoundQualifier.{FoundQualifier}
-use Rattle.location_judge.specs.declared.judging.Judgement.{Judgement}
 use Rattle.judge_faults.specs.Counters.{upToTwo}
 use Rattle.judge_faults.specs.declared.Fault.the-variants.{Clean}
 use Rattle.judge_faults.proofs.Bytes.{part-shows}
 use Rattle.judge_faults.proofs.Counters.{capped-none, capped-more}
 use Rattle.judge_faults.proofs.Seen.{seen-none, count-has, count-lacks}
-use Rattle.judge_qualifiers.specs.Qualifiers.{OfName, Shown, Frames, FrameIs, Excepts, IsOrganism, IsMolType, Counted, Untranslated, translationNumber, Meets, WithWord, NotedOf, Notes, LeavesOut}
-use Rattle.judge_qualifiers.specs.Starts.{StartsAt}
+use Rattle.judge_qualifiers.specs.Qualifiers.{OfName, Shown, Frames, Excepts, IsOrganism, IsMolType, Counted, Untranslated, translationNumber, Meets, WithWord, NotedOf, Notes}
 use Rattle.judge_qualifiers.specs.declared.Frame.{Frame}
-use Rattle.judge_qualifiers.specs.declared.Frame.the-variants.{Unstated, Wrong}
+use Rattle.judge_qualifiers.specs.declared.Frame.the-variants.{Unstated}
 use Rattle.judge_qualifiers.specs.declared.Noted.{Noted}
 use Rattle.judge_qualifiers.specs.declared.Worded.{Worded}
-use Rattle.judge_qualifiers.specs.declared.Start.{Start}
-use Rattle.judge_qualifiers.specs.declared.Start.the-variants as start
 use Rattle.judge_qualifiers.proofs.Lists.{in-split}
 use Rattle.judge_qualifiers.proofs.Loops.{SeenSo, one-more, stuck, all-seen}
-use Rattle.judge_qualifiers.proofs.Frames.{start-wrong}
 use Rattle.judge_qualifiers.proofs.Words.{words-none}
 
 -- ---- one qualifier more
@@ -162,24 +156,3 @@ module _ {s : List ℕ} {first at : ℕ} {upper : Bool} {row : ℕ} {t : List �
             let z = w .passed .is l j d fol in
             record { says = y .0; rest = record { front = z .0; back = z .1; is = z .2; none = z .4; stands = z .3 }; next = y .1 };
       }
-
--- ---- where its codons start
-
-module _ {s : List ℕ} {first : ℕ} {upper : Bool} {row : ℕ} {t : List ℕ} {verdict : Judgement} {x : Noted} {u : Bool} (notes : Notes s first upper row t x) (leaves : LeavesOut (x .excepted) verdict u) where
-  pub starts-unjudged : u ≡ true → StartsAt s first verdict start.Unjudged
-  starts-unjudged h =
-      record { says = λ m f stop d fol j k. tells-true u h (leaves .says m f (notes .is (qualifiersOf f) stop d fol .says .left) j) }
-
-  pub starts-at : {n : ℕ} → u ≡ false → ((f : Feature ℕ) → FrameIs (qualifiersOf f) (x .frame) → CodonStart f n) → StartsAt s first verdict (start.At n)
-  starts-at h g =
-      record {
-        says =
-            λ m f stop d fol j k.
-            let y = notes .is (qualifiersOf f) stop d fol .says in
-            (tells-false u h (leaves .says m f (y .left) j), g f (y .framed));
-      }
-
-  -- rule 27 is broken
-  pub starts-nowhere : {r : Start} → x .frame ≡ Wrong → StartsAt s first verdict r
-  starts-nowhere e =
-      record { says = λ m f stop d fol j k. absurd (k (start-wrong f (subst (FrameIs (qualifiersOf f)) e (notes .is (qualifiersOf f) stop d fol .says .framed)))) }

@@ -319,32 +319,14 @@ pub fn is_unjudged(excepted: bool, verdict: Judgement) -> bool
     }
 }
 
-// Where the codons of a region start, if it is judged.
-pub enum Start {
-    Unjudged,
-    At(usize),
-}
-
-// Of a region that keeps rule 27.
-pub fn start_of(s: &[u8], first: usize, verdict: Judgement, vocabulary: &[u8; 3492]) -> Start
-    requires { ⌜ VocabularyTable (now vocabulary) ⌝ }
-    ensures { λ r. ⌜ StartsAt (now (s .entry)) first verdict r ⌝ }
+// With which residue of its spans the codons of a region start that keeps rule 27.
+pub fn start_of(frame: Frame) -> usize
+    ensures { λ r. ⌜ StartsAt frame r ⌝ }
 {
-    let Noted {
-        frame,
-        excepted,
-        organisms: _,
-        moltypes: _,
-        words: _,
-        rest: _,
-        next: _,
-    } = note(s, first, false, 0, vocabulary);
-    if is_unjudged(excepted, verdict) {
-        return Start::Unjudged;
-    }
     match frame {
-        Frame::Unstated => Start::At(1),
-        Frame::Stated(n) => Start::At(n),
-        Frame::Wrong => Start::Unjudged,
+        Frame::Unstated => 1,
+        Frame::Stated(n) => n,
+        // Rule 27 is broken.
+        Frame::Wrong => 1,
     }
 }

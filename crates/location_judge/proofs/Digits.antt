@@ -32,7 +32,7 @@ outside lo hi b h = go (leb lo b) refl (leb b hi) refl
     go true _ false _ = refl
     go true e true f = absurd (h (leb-true lo b e) (leb-true b hi f))
 
-plain-digit : (d : ℕ) → code "0" ≤ d → d ≤ code "9" → spell d ≡ d ∷ []
+pub plain-digit : (d : ℕ) → code "0" ≤ d → d ≤ code "9" → spell d ≡ d ∷ []
 plain-digit d h k =
     rw (ne-eqb d 60 (omega arith), ne-eqb d 62 (omega arith), ne-eqb d 38 (omega arith), ne-eqb d 34 (omega arith), ne-eqb d 39 (omega arith))
 

@@ -8,4 +8,5 @@ pub mod Words
 pub mod Levels
 pub mod Gather
 pub mod Verdicts
+pub mod Signs
 pub mod Listed

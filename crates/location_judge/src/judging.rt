@@ -11,7 +11,7 @@ ghost use mathlib.Core.Bool.{_||_};
 ghost use Prim.Native.Nat.{_<_};
 ghost use Rattle.paper.proofs.Locate.Model;
 ghost use Rattle.location_judge.specs.Readings.{Outs, withMember};
-ghost use Rattle.location_judge.specs.Judging.{Judges, JudgesPart, Leaves, LeavesPart};
+ghost use Rattle.location_judge.specs.Judging.{Judges, JudgesPart, Signed, Leaves, LeavesPart};
 
 // What is asked of a location, for a sequence of L residues.
 pub struct Facts {
@@ -37,6 +37,16 @@ pub enum Judgement {
 enum Out {
     Bad,
     Read(usize, Facts),
+}
+
+// Signs that tell of a location whether it leaves its region unjudged.
+enum Signs {
+    // None of `d`, `^` and `&`: no order, no site, no `<` and no `>`.
+    Plain,
+    // `d` or `^`: an order, or a site.
+    Odd,
+    // `&`, so `<` or `>`, which a range may have too.
+    Open,
 }
 
 // A segment, and where far holds a site.
@@ -189,13 +199,38 @@ pub fn judge_location(s: &[u8], from: usize, to: usize, top: u32) -> Judgement
     judge(read_steps::bytes_of(s, from, to), top)
 }
 
-// Whether the location that the bytes s of a part are written from leaves its region unjudged.
+// The first sign in the bytes s of a part.
+fn first_sign(s: &[u8]) -> Signs
+    ensures { λ r. ⌜ Signed (now (s .entry)) r ⌝ }
+{
+    let mut i: usize = 0;
+    while i < s.len() {
+        let b = s[i];
+        if b == b'd' {
+            return Signs::Odd;
+        }
+        if b == b'^' {
+            return Signs::Odd;
+        }
+        if b == b'&' {
+            return Signs::Open;
+        }
+        i += 1;
+    }
+    Signs::Plain
+}
+
+// Whether the location that the bytes s of a part are written from leaves its region unjudged. Most are told by their signs, unread.
 fn unjudged(s: &[u8], top: u32) -> bool
     ensures { λ r. ⌜ Leaves (now (s .entry)) r ⌝ }
 {
-    match judge(s, top) {
-        Judgement::Bad => false,
-        Judgement::Is(f) => f.unjudged,
+    match first_sign(s) {
+        Signs::Plain => false,
+        Signs::Odd => true,
+        Signs::Open => match judge(s, top) {
+            Judgement::Bad => false,
+            Judgement::Is(f) => f.unjudged,
+        },
     }
 }
 

@@ -95,7 +95,7 @@ same-refused {n = n} {p = p} {m = m} {q = q} e = let x : n ≡ m = cc in let y :
 two-refusals : {A : Type 0} {n p m q : ℕ} → _≡_ {A = Outcome A} (refuse n p) (refuse m q) → (n ≡ m → ⊥) → ⊥
 two-refusals e h = h cc
 
-lines-once : {P : Type 0} {s : Sequence P} {l : List (Feature P)} {x y : List ℕ} → Lines s l x → Lines s l y → x ≡ y
+pub lines-once : {P : Type 0} {s : Sequence P} {l : List (Feature P)} {x y : List ℕ} → Lines s l x → Lines s l y → x ≡ y
 lines-once Lines.end Lines.end = refl
 lines-once (Lines.no-cds a r) (Lines.no-cds b t) = lines-once r t
 lines-once (Lines.no-cds a r) (Lines.unjudged b t) = absurd (two-refusals (translates-once a b) (λ e. omega arith))
