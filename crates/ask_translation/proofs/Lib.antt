@@ -1,3 +1,3 @@
 -- Laws that no one function owns.
-pub mod Planned
+pub mod Planning
 pub mod Ones

@@ -1,93 +1,154 @@
--- One translation into lent bytes.
-use Prim.Native.Nat.{ℕ}
-use mathlib.Core.Path.{_≡_, sym, subst, subst₂}
+-- One translation, measured or written into lent bytes.
+use Prim.Native.Nat.{ℕ, _≤_, _<_}
+use native.Mathlib.Omega.{arith}
+use mathlib.Core.Path.{_≡_, refl, sym, subst, subst₂}
+use mathlib.Core.Bool.{Bool, true, false, cond}
 use mathlib.Core.List.{List}
 use lib.ListN.{length}
-use native.Mathlib.Omega.{arith}
 use Rattle.paper.specs.Tree.{Sequence, Feature}
 use Rattle.paper.specs.Translation.{Code, code1, dropStop}
-use Rattle.paper.specs.Answers.{refuse, give, Translates, Lent}
+use Rattle.paper.specs.Rules.{Judged}
+use Rattle.paper.specs.Answers.{Outcome, refuse, give, Translates, Lent, front}
+use Rattle.lent_room.specs.Room.{Lays}
+use Rattle.lent_room.specs.declared.Pass.{Pass}
+use Rattle.lent_room.proofs.Laws.{sets-front}
 use Rattle.read_steps.specs.Parts.{ShowsBytes}
 use Rattle.walk_items.specs.declared.FoundFeature.{FoundFeature}
 use Rattle.protein_codons.specs.Letters.{lettersOf}
-use Rattle.protein_measure.specs.Measuring.{Measured}
-use Rattle.protein_write.specs.Writing.{afterOf, WritesTranslation}
+use Rattle.protein_measure.specs.Measuring.{Measured, Measures}
 use Rattle.protein_measure.specs.declared.Size.{Size}
 use Rattle.protein_measure.specs.declared.Size.the-variants as size
+use Rattle.protein_write.specs.Writing.{afterOf, WritesTranslation}
+use Rattle.walk_steps.specs.declared.Range.{Range}
 use Rattle.judge_faults.specs.declared.Known.{Known}
 use Rattle.ask_translation.specs.Plans.{PlanIs, Plans}
-use Rattle.ask_translation.specs.Ones.{refusal, TranslatesOne}
+use Rattle.ask_translation.specs.Ones.{refusal, passOf, LentIf, LaysLetters, GivesIf, LaysPlanned, TranslatesOne}
 use Rattle.ask_translation.specs.declared.Written.{Written}
 use Rattle.ask_translation.specs.declared.Plan.{Plan}
-use Rattle.ask_translation.specs.declared.Plan.the-variants.{NoCds, From}
+use Rattle.ask_translation.specs.declared.Plan.the-variants.{NoCds, Given, From}
 use Rattle.ask_translation.specs.declared.Plan.the-variants as plan
-use Rattle.ask_translation.proofs.Planned.{FoundCds, found-cds}
+use Rattle.ask_translation.specs.declared.Planned.{Planned}
+use Rattle.ask_translation.proofs.Planning.{found-cds}
 
--- the refusal that was answered
-pub answered : {s out after : List ℕ} {known : Known} {g : FoundFeature} {x : Written} {n : ℕ} → x ≡ refusal n → TranslatesOne s known g out (refusal n) after
-    → TranslatesOne s known g out x after
-answered {s} {out} {after} {known} {g} e = subst (λ (y : Written). TranslatesOne s known g out y after) (sym e)
+-- ---- measured, or written too
 
-module _ {s out : List ℕ} {known : Known} {g : FoundFeature} {p : Plan} (plans : Plans s known g p) where
-  pub one-none : p ≡ NoCds → TranslatesOne s known g out (refusal 35) out
-  one-none z =
+-- what is left as it was
+lent-same : (on : Bool) {out : List ℕ} {o : Outcome (List ℕ)} {r : Written} → Lent out o (r .number) 0 (r .size) out → LentIf on out o r out
+lent-same true {out} h = record { later = out; lent = h; is = refl }
+lent-same false {out} h = record { later = out; lent = h; is = refl }
+
+-- whatever is said of what was lent, said of it afterwards
+as-was : (on : Bool) {out after : List ℕ} {o : Outcome (List ℕ)} {r : Written} → after ≡ cond on out out → LentIf on out o r out → LentIf on out o r after
+as-was true {out} {o = o} {r} e h = subst (LentIf true out o r) (sym e) h
+as-was false {out} {o = o} {r} e h = subst (LentIf false out o r) (sym e) h
+
+-- a refusal that was answered
+refused-as : {on : Bool} {out : List ℕ} {o : Outcome (List ℕ)} {r : Written} {n : ℕ} → r ≡ refusal n → Lent out o n 0 0 out → LentIf on out o r out
+refused-as {on} {out} {o} e h = subst (λ (r : Written). LentIf on out o r out) (sym e) (lent-same on h)
+
+pub text-laid : {text out given after : List ℕ} (on : Bool) {t : Bool} {end : ℕ} {p : Pass} → p ≡ passOf on → length text ≤ length out → Lays given 0 text out p t end after
+    → LentIf on out (give text) (record { number = 0; size = length text }) after
+text-laid {text} {out} {given} {after} on {t} {end} e k l =
+    record { later = front text out; lent = Lent.written k; is = go on (subst (λ (q : Pass). Lays given 0 text out q t end after) e l) }
+  where
+    go : (on : Bool) {t : Bool} {end : ℕ} {after : List ℕ} → Lays given 0 text out (passOf on) t end after → after ≡ cond on (front text out) out
+    go true (Lays.written h) = sets-front text out k
+    go true (Lays.short h s) = absurd (omega (arith, h, k))
+    go false (Lays.measured h) = refl
+
+pub text-short : {text out : List ℕ} {on : Bool} {r : Written} → length out < length text → r ≡ refusal 34 → LentIf on out (give text) r out
+text-short h e = refused-as e (Lent.short h)
+
+-- ---- the letters of a coding text
+
+module _ {gc : Code} {s loc out : List ℕ} {L start : ℕ} {on : Bool} {r : Size} where
+  pub letters-written : {after : List ℕ} → on ≡ true → WritesTranslation gc s loc L start out r after → LaysLetters gc s loc L start on out r after
+  letters-written {after} e w =
       record {
         says =
-            λ q f e k i keeps.
-            record { outcome = refuse 35 0; translates = Translates.no-cds (subst (PlanIs q f) z (plans .says q f e k i keeps)); lent = Lent.refused };
+            λ t h.
+            let y = w .says t h in
+            (y .0, subst (λ (b : Bool). after ≡ cond b (afterOf (lettersOf gc s start t) out r) out) (sym e) (y .1));
       }
 
-  pub one-unjudged : p ≡ plan.Unjudged → TranslatesOne s known g out (refusal 36) out
-  one-unjudged z =
+  pub letters-measured : on ≡ false → Measures gc s loc L start (length out) r → LaysLetters gc s loc L start on out r out
+  letters-measured e m =
+      record { says = λ t h. (m .says t h, subst (λ (b : Bool). out ≡ cond b (afterOf (lettersOf gc s start t) out r) out) (sym e) refl) }
+
+-- ---- the translation that was planned
+
+module _ {s out : List ℕ} {known : Known} {g : FoundFeature} {p : Plan} {on : Bool} where
+  pub planned-none : {r : Written} → p ≡ NoCds → r ≡ refusal 35 → LaysPlanned s known g p on out r out
+  planned-none z e =
+      record { says = λ q f i k h x. record { outcome = refuse 35 0; translates = Translates.no-cds (subst (PlanIs s q f) z x); laid = refused-as e Lent.refused } }
+
+  pub planned-unjudged : {r : Written} → p ≡ plan.Unjudged → r ≡ refusal 36 → LaysPlanned s known g p on out r out
+  planned-unjudged z e =
       record {
         says =
-            λ q f e k i keeps.
-            let x = subst (PlanIs q f) z (plans .says q f e k i keeps) in
-            record { outcome = refuse 36 0; translates = Translates.unjudged (x .0) (x .1); lent = Lent.refused };
+            λ q f i k h x.
+            let y = subst (PlanIs s q f) z x in
+            record { outcome = refuse 36 0; translates = Translates.unjudged (y .0) (y .1); laid = refused-as e Lent.refused };
       }
 
-  module _ {gc : Code} {r loc after : List ℕ} {start : ℕ} {y : Size} (code : gc ≡ code1) (z : p ≡ From start) (shr : ShowsBytes s (known .residues .from) (known .residues .to) r)
-      (shl : ShowsBytes s (g .location .from) (g .location .to) loc) (w : WritesTranslation gc r loc (known .top) start out y after) where
-    wrote : {x : Size} → y ≡ x → (q : Sequence ℕ) (f : Feature ℕ) (d : FoundCds r loc (known .top) start q f)
-        → Measured (lettersOf code1 r start (d .location)) (length out) x × (after ≡ afterOf (lettersOf code1 r start (d .location)) out x)
-    wrote e q f d = subst₂ (λ (c : Code) (x : Size). WritesTranslation c r loc (known .top) start out x after) code e w .says (d .location) (d .codes)
+  pub planned-given : {v : Range} {w after : List ℕ} {r : Written} → p ≡ Given v → ShowsBytes s (v .from) (v .to) w → LentIf on out (give w) r after → LaysPlanned s known g p on out r after
+  planned-given {w = w} {after} {r} z shown l =
+      record {
+        says =
+            λ q f i k h x.
+            let y = subst (PlanIs s q f) z x in
+            let v = y .right w shown in
+            record {
+              outcome = give (dropStop (y .letters));
+              translates = Translates.translation (y .judged) (v .clear);
+              laid = subst (λ (u : List ℕ). LentIf on out (give u) r after) (v .same) l;
+            };
+      }
 
-    pub one-is : {n : ℕ} → y ≡ size.Is n → TranslatesOne s known g out (record { number = 0; size = n }) after
-    one-is v =
-        record {
-          says =
-              λ q f e k i keeps.
-              let d = found-cds plans z shr shl q f e k i keeps in
-              let m = wrote v q f d in
-              let x = dropStop (lettersOf code1 r start (d .location)) in
-              record {
-                outcome = give x;
-                translates = Translates.translation (d .judged) (m .0 .0);
-                lent = subst₂ (Lent out (give x) 0 0) (sym (m .0 .1)) (sym (m .1)) (Lent.written (omega (arith, m .0 .1, m .0 .2)));
-              };
-        }
+module _ {s out : List ℕ} (known : Known) {g : FoundFeature} {p : Plan} {on : Bool} {gc : Code} {r loc after : List ℕ} {start : ℕ} {y : Size} (code : gc ≡ code1) (z : p ≡ From start)
+    (shr : ShowsBytes s (known .residues .from) (known .residues .to) r) (shl : ShowsBytes s (g .location .from) (g .location .to) loc)
+    (w : LaysLetters gc r loc (known .top) start on out y after) where
+  -- by its letters l
+  planned-by : {v : Written} (x : Size) → y ≡ x
+      → ((q : Sequence ℕ) (f : Feature ℕ) (l : List ℕ) → Judged q f l → Measured l (length out) x → after ≡ cond on (afterOf l out x) out → GivesIf on q f out v after)
+      → LaysPlanned s known g p on out v after
+  planned-by x e by =
+      record {
+        says =
+            λ q f i k h u.
+            let d = found-cds shr shl k h (subst (PlanIs s q f) z u) in
+            let m = subst₂ (λ (c : Code) (x : Size). LaysLetters c r loc (known .top) start on out x after) code e w .says (d .location) (d .codes) in
+            by q f (lettersOf code1 r start (d .location)) (d .judged) (m .0) (m .1);
+      }
 
-    pub one-short : y ≡ size.Short → TranslatesOne s known g out (refusal 34) after
-    one-short v =
-        record {
-          says =
-              λ q f e k i keeps.
-              let d = found-cds plans z shr shl q f e k i keeps in
-              let m = wrote v q f d in
-              let x = dropStop (lettersOf code1 r start (d .location)) in
-              record {
-                outcome = give x;
-                translates = Translates.translation (d .judged) (m .0 .0);
-                lent = subst (Lent out (give x) 34 0 0) (sym (m .1)) (Lent.short (m .0 .1));
-              };
-        }
+  pub planned-is : {n : ℕ} → y ≡ size.Is n → LaysPlanned s known g p on out (record { number = 0; size = n }) after
+  planned-is {n} e =
+      planned-by (size.Is n) e
+      (λ q f l j m a.
+      let x = dropStop l in
+      record {
+        outcome = give x;
+        translates = Translates.translation j (m .0);
+        laid = record { later = front x out; lent = subst (λ (n : ℕ). Lent out (give x) 0 0 n (front x out)) (sym (m .1)) (Lent.written (omega (arith, m .1, m .2))); is = a };
+      })
 
-    pub one-stop : y ≡ size.Stop → TranslatesOne s known g out (refusal 37) after
-    one-stop v =
-        record {
-          says =
-              λ q f e k i keeps.
-              let d = found-cds plans z shr shl q f e k i keeps in
-              let m = wrote v q f d in
-              record { outcome = refuse 37 0; translates = Translates.stop-inside (d .judged) (m .0); lent = subst (Lent out (refuse 37 0) 37 0 0) (sym (m .1)) Lent.refused };
-        }
+  pub planned-short : {v : Written} → y ≡ size.Short → v ≡ refusal 34 → LaysPlanned s known g p on out v after
+  planned-short e z =
+      planned-by size.Short e
+      (λ q f l j m a. record { outcome = give (dropStop l); translates = Translates.translation j (m .0); laid = as-was on a (refused-as z (Lent.short (m .1))) })
+
+  pub planned-stop : {v : Written} → y ≡ size.Stop → v ≡ refusal 37 → LaysPlanned s known g p on out v after
+  planned-stop e z =
+      planned-by size.Stop e (λ q f l j m a. record { outcome = refuse 37 0; translates = Translates.stop-inside j m; laid = as-was on a (refused-as z Lent.refused) })
+
+-- ---- planned, and then written
+
+pub translated : {s out after : List ℕ} {known : Known} {g : FoundFeature} {x : Planned} {r : Written} → Plans s known g x → LaysPlanned s known g (x .plan) true out r after
+    → TranslatesOne s known g out r after
+translated {out = out} {r = r} plans l =
+    record {
+      says =
+          λ q f e k i keeps.
+          let y = l .says q f e k i (plans .says q f e k i keeps) in
+          record { outcome = y .outcome; translates = y .translates; lent = subst (Lent out (y .outcome) (r .number) 0 (r .size)) (sym (y .laid .is)) (y .laid .lent) };
+    }

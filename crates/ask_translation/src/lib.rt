@@ -19,10 +19,11 @@ use walk_steps::Maybe;
 use walk_steps::Range;
 ghost use mathlib.Core.Path.{_≡_};
 ghost use Rattle.paper.specs.Translation.{code1};
+ghost use Rattle.paper.specs.Answers.{give};
 ghost use Rattle.protein_code.specs.Tables.{CodeTable, Coded, codeOf};
 ghost use Rattle.value_vocabulary.specs.Tables.{VocabularyTable};
 ghost use Rattle.ask_translation.specs.Plans.{GivenAt, Plans};
-ghost use Rattle.ask_translation.specs.Ones.{refusal, LaysText, SizesText, LaysPlanned, TranslatesOne};
+ghost use Rattle.ask_translation.specs.Ones.{refusal, passOf, LentIf, LaysLetters, LaysPlanned, TranslatesOne};
 
 // ---- how it is translated
 
@@ -44,11 +45,11 @@ pub struct Planned {
     pub next: usize,
 }
 
-// The value of the translation that stands at a place, where one does before `next`.
-fn given_at(s: &[u8], at: usize, next: usize) -> Maybe
-    ensures { λ r. ⌜ GivenAt (now (s .entry)) at next r ⌝ }
+// The value of the translation that stands at a place, where one does.
+fn given_at(s: &[u8], at: usize) -> Maybe
+    ensures { λ r. ⌜ GivenAt (now (s .entry)) at r ⌝ }
 {
-    if next <= at {
+    if !walk_steps::child_here(s, at) {
         return Maybe::Absent;
     }
     let FoundQualifier {
@@ -95,13 +96,14 @@ pub fn plan_of(s: &[u8], known: Known, feature: FoundFeature, vocabulary: &[u8; 
             next,
         };
     }
-    match given_at(s, rest, next) {
+    let start = start_of(frame);
+    match given_at(s, rest) {
         Maybe::Present(value) => Planned {
             plan: Plan::Given(value),
             next,
         },
         Maybe::Absent => Planned {
-            plan: Plan::From(start_of(frame)),
+            plan: Plan::From(start),
             next,
         },
     }
@@ -122,16 +124,25 @@ pub fn refused(number: usize) -> Written
     Written { number, size: 0 }
 }
 
-// A text at the front of out, if it is to be written; or only whether it fits.
-fn lay_text(text: &[u8], to_write: bool, out: &mut [u8]) -> Written
-    ensures { λ r. ⌜ LaysText (now (text .entry)) to_write (now (out .entry)) r (now (out .exit)) ⌝ }
+// What a pass does that writes, or only measures.
+pub fn pass_of(writing: bool) -> Pass
+    ensures { λ r. ⌜ r ≡ passOf writing ⌝ }
+{
+    if writing {
+        return Pass::Write;
+    }
+    Pass::Measure
+}
+
+// A text at the front of out if it is to be written; else only whether it fits.
+fn lay_text(text: &[u8], writing: bool, out: &mut [u8]) -> Written
+    ensures { λ r. ⌜ LentIf writing (now (out .entry)) (give (now (text .entry))) r (now (out .exit)) ⌝ }
 {
     if out.len() < text.len() {
         return refused(34);
     }
-    if to_write {
-        lay_bytes(Pass::Write, text, 0, b"", out);
-    }
+    let pass = pass_of(writing);
+    lay_bytes(pass, text, 0, b"", out);
     Written {
         number: 0,
         size: text.len(),
@@ -144,14 +155,14 @@ fn lay_letters(
     loc: &[u8],
     top: u32,
     start: usize,
-    to_write: bool,
+    writing: bool,
     code: &[u8; 5128],
     out: &mut [u8],
 ) -> Size
     requires { ⌜ Coded (now code) ⌝ }
-    ensures { λ y. ⌜ SizesText (codeOf (now (code .entry))) (now (r .entry)) (now (loc .entry)) top start to_write (now (out .entry)) y (now (out .exit)) ⌝ }
+    ensures { λ y. ⌜ LaysLetters (codeOf (now (code .entry))) (now (r .entry)) (now (loc .entry)) top start writing (now (out .entry)) y (now (out .exit)) ⌝ }
 {
-    if to_write {
+    if writing {
         return write(r, loc, top, start, code, out);
     }
     measure(r, loc, top, start, out.len(), code)
@@ -163,21 +174,21 @@ pub fn lay_planned(
     known: Known,
     feature: FoundFeature,
     plan: Plan,
-    to_write: bool,
+    writing: bool,
     code: &[u8; 5128],
     out: &mut [u8],
 ) -> Written
     requires { ⌜ CodeTable code1 (now code) ⌝ }
-    ensures { λ r. ⌜ LaysPlanned (now (s .entry)) known feature plan to_write (now (out .entry)) r (now (out .exit)) ⌝ }
+    ensures { λ r. ⌜ LaysPlanned (now (s .entry)) known feature plan writing (now (out .entry)) r (now (out .exit)) ⌝ }
 {
     match plan {
         Plan::NoCds => refused(35),
         Plan::Unjudged => refused(36),
-        Plan::Given(value) => lay_text(bytes_of(s, value.from, value.to), to_write, out),
+        Plan::Given(value) => lay_text(bytes_of(s, value.from, value.to), writing, out),
         Plan::From(start) => {
             let r = bytes_of(s, known.residues.from, known.residues.to);
             let loc = bytes_of(s, feature.location.from, feature.location.to);
-            match lay_letters(r, loc, known.top, start, to_write, code, out) {
+            match lay_letters(r, loc, known.top, start, writing, code, out) {
                 Size::Is(n) => Written { number: 0, size: n },
                 Size::Short => refused(34),
                 Size::Stop => refused(37),
