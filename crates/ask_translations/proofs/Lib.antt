@@ -1,6 +1,5 @@
 -- Laws that no one function owns.
 pub mod Laid
 pub mod Walks
-pub mod Sizes
-pub mod Puts
-pub mod Alls
+pub mod OneLine
+pub mod AllLines

@@ -4,17 +4,21 @@ use mathlib.Core.Path.{_≡_, refl}
 use mathlib.Core.Bool.{Bool, true, false}
 use mathlib.Core.List.{List, [], _∷_, _++_}
 use lib.ListN.{drop}
-use Rattle.paper.specs.Bytes.{bytes}
+use Rattle.paper.specs.Bytes.{bytes, isBlank}
 use Rattle.paper.specs.Form.{each}
 use Rattle.paper.specs.Layout.{child, feature}
 use Rattle.paper.specs.Tree.{Sequence, Feature}
-use Rattle.read_steps.specs.Follow.{Starts, closing}
-use Rattle.walk_steps.specs.Stands.{Stands, TellsChild}
-use Rattle.walk_items.specs.Items.{MeetsFeature, PassesFeature, IsFeature}
+use Rattle.read_steps.specs.Follow.{Not, Starts, closing}
+use Rattle.walk_steps.specs.Stands.{Stands, TellsChild, Ends}
+use Rattle.walk_steps.proofs.Places.{from}
+use Rattle.walk_items.specs.Items.{MeetsFeature, PassesFeature, IsFeature, featureTail}
 use Rattle.walk_items.specs.declared.FoundFeature.{FoundFeature}
 use Rattle.walk_items.proofs.Sequences.{feature-over, feature-leads}
 use Rattle.judge_faults.proofs.Seen.{Seen, seen-none, seen-next, seen-stuck, seen-all}
 use Rattle.judge_qualifiers.proofs.Lists.{in-front}
+use Rattle.judge_faults.specs.declared.Known.{Known}
+use Rattle.ask_translation.specs.Plans.{Plans}
+use Rattle.ask_translation.specs.declared.Planned.{Planned}
 use Rattle.ask_translations.specs.Lines.{KeepAll}
 
 -- R holds of the features from `first` up to `at`
@@ -45,3 +49,8 @@ module _ {s : List ℕ} {first at : ℕ} {t : Bool} (R : List (Feature ℕ) → 
 -- no rule is broken on the features before the last one
 pub keep-front : {q : Sequence ℕ} (l : List (Feature ℕ)) (x : Feature ℕ) → KeepAll q (l ++ (x ∷ [])) → KeepAll q l
 keep-front l x keep f m = keep f (in-front l x f m)
+
+-- past a feature, from where its qualifiers end
+pub planned-passes : {s : List ℕ} {known : Known} {g : FoundFeature} {x : Planned} {n : ℕ} → Plans s known g x → Ends (featureTail (g .long)) (Not isBlank) s (x .next) n
+    → PassesFeature s g n
+planned-passes plans ends = record { is = λ f e i fol. ends .is e (from (plans .ends f e i) (i .ends)) fol }

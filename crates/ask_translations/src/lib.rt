@@ -1,173 +1,136 @@
-// All translations of a sequence of an accepted listing, a line for each feature that is a CDS, into lent bytes.
-// Relies on the translation of one feature, the walk along the features and lent_room.
+// All translations of a sequence of an accepted listing, a line for each feature that is a CDS, into lent bytes. One walk along the
+// features measures the lines, and the same walk writes them. Relies on the translation of one feature, the walk along the features and
+// lent_room.
 use ask_translation::Plan;
+use ask_translation::Planned;
 use ask_translation::Written;
+use ask_translation::lay_planned;
+use ask_translation::pass_of;
 use ask_translation::plan_of;
 use ask_translation::refused;
-use ask_translation::translate;
 use judge_faults::Known;
-use lent_room::Pass;
+use lent_room::Laid;
 use lent_room::lay_bytes;
-use protein_measure::Size;
-use protein_measure::measure;
-use read_steps::bytes_of;
 use walk_items::FoundFeature;
+ghost use Prim.Native.Nat.{_≤_};
+ghost use lib.ListN.{length};
 ghost use Rattle.paper.specs.Translation.{code1};
 ghost use Rattle.protein_code.specs.Tables.{CodeTable};
 ghost use Rattle.value_vocabulary.specs.Tables.{VocabularyTable};
-ghost use Rattle.ask_translations.specs.Lines.{Dashes, MeasuresLine, Adds, MeasuresLines, PutsLine, PutsLines, TranslatesAll};
+ghost use Rattle.ask_translations.specs.Lines.{LaysLine, LaysBehind, LaysRest, LaysAll, TranslatesAll};
 
-// The length of some lines, or that they are longer than the room.
-pub enum Lined {
-    Is(usize),
-    Short,
-}
+// ---- one line
 
-// The length of the line `-`.
-fn dash_size(room: usize) -> Lined
-    ensures { λ r. ⌜ Dashes room r ⌝ }
-{
-    if room < 2 {
-        return Lined::Short;
-    }
-    Lined::Is(2)
-}
-
-// The length of a feature's line.
-fn line_size(
+// The line of a feature at the front of out if it is to be written; else only whether it fits.
+fn lay_line(
     s: &[u8],
     known: Known,
     feature: FoundFeature,
-    room: usize,
+    plan: Plan,
+    writing: bool,
     code: &[u8; 5128],
-    vocabulary: &[u8; 3492],
-) -> Lined
-    requires { ⌜ CodeTable code1 (now code) ⌝ }
-    requires { ⌜ VocabularyTable (now vocabulary) ⌝ }
-    ensures { λ r. ⌜ MeasuresLine (now (s .entry)) known feature room r ⌝ }
-{
-    match plan_of(s, known, feature, vocabulary) {
-        Plan::NoCds => Lined::Is(0),
-        Plan::Unjudged => dash_size(room),
-        Plan::From(start) => {
-            let r = bytes_of(s, known.residues.from, known.residues.to);
-            let loc = bytes_of(s, feature.location.from, feature.location.to);
-            match measure(r, loc, known.top, start, room, code) {
-                Size::Is(n) => {
-                    if n < room {
-                        return Lined::Is(n + 1);
-                    }
-                    Lined::Short
-                }
-                Size::Short => Lined::Short,
-                Size::Stop => dash_size(room),
-            }
-        }
-    }
-}
-
-// The length of two texts, one behind the other.
-fn both(a: Lined, b: Lined, room: usize) -> Lined
-    ensures { λ r. ⌜ Adds a b room r ⌝ }
-{
-    let Lined::Is(n) = a else {
-        return Lined::Short;
-    };
-    let Lined::Is(m) = b else {
-        return Lined::Short;
-    };
-    if room < n {
-        return Lined::Short;
-    }
-    if room - n < m {
-        return Lined::Short;
-    }
-    Lined::Is(n + m)
-}
-
-// The length of the lines of all features that stand from here on.
-fn lines_size(
-    s: &[u8],
-    first: usize,
-    known: Known,
-    room: usize,
-    code: &[u8; 5128],
-    vocabulary: &[u8; 3492],
-) -> Lined
-    requires { ⌜ CodeTable code1 (now code) ⌝ }
-    requires { ⌜ VocabularyTable (now vocabulary) ⌝ }
-    ensures { λ r. ⌜ MeasuresLines (now (s .entry)) first known room r ⌝ }
-{
-    let mut at = first;
-    let mut size = Lined::Is(0);
-    loop {
-        if walk_steps::child_here(s, at) {
-            let feature = walk_items::feature(s, at);
-            let next = walk_items::feature_past(s, feature);
-            if next <= at {
-                return Lined::Short;
-            }
-            let line = line_size(s, known, feature, room, code, vocabulary);
-            size = both(size, line, room);
-            at = next;
-        } else {
-            return size;
-        }
-    }
-}
-
-// A feature's line at the front of out, where it fits: how many bytes.
-fn put_line(
-    s: &[u8],
-    known: Known,
-    feature: FoundFeature,
-    code: &[u8; 5128],
-    vocabulary: &[u8; 3492],
     out: &mut [u8],
-) -> usize
+) -> Laid
     requires { ⌜ CodeTable code1 (now code) ⌝ }
-    requires { ⌜ VocabularyTable (now vocabulary) ⌝ }
-    ensures { λ r. ⌜ PutsLine (now (s .entry)) known feature (now (out .entry)) r (now (out .exit)) ⌝ }
+    ensures { λ r. ⌜ LaysLine (now (s .entry)) known feature plan writing (now (out .entry)) r (now (out .exit)) ⌝ }
 {
-    let text = translate(s, known, feature, code, vocabulary, out);
+    let text = lay_planned(s, known, feature, plan, writing, code, out);
     if text.number == 35 {
-        return 0;
+        return Laid { on: true, at: 0 };
     }
+    if text.number == 34 {
+        return Laid {
+            on: false,
+            at: out.len(),
+        };
+    }
+    let pass = pass_of(writing);
     if text.number != 0 {
-        return lay_bytes(Pass::Write, b"-\n", 0, b"", out).at;
+        return lay_bytes(pass, b"-\n", 0, b"", out);
     }
-    lay_bytes(Pass::Write, b"\n", text.size, b"", out).at
+    lay_bytes(pass, b"\n", text.size, b"", out)
 }
 
-// The lines of all features that stand from here on.
-fn put_lines(
+// The same behind what was laid, if that pass goes on: the rest of out is lent on from there.
+fn lay_behind(
+    s: &[u8],
+    known: Known,
+    feature: FoundFeature,
+    plan: Plan,
+    was: Laid,
+    writing: bool,
+    code: &[u8; 5128],
+    out: &mut [u8],
+) -> Laid
+    requires { ⌜ CodeTable code1 (now code) ⌝ }
+    requires { ⌜ was .at ≤ length (now out) ⌝ }
+    ensures { λ r. ⌜ LaysBehind (now (s .entry)) known feature plan was writing (now (out .entry)) r (now (out .exit)) ⌝ }
+{
+    if !was.on {
+        return was;
+    }
+    let at = was.at;
+    let line = lay_line(s, known, feature, plan, writing, code, &mut out[at..]);
+    Laid {
+        on: line.on,
+        at: at + line.at,
+    }
+}
+
+// ---- all lines
+
+// The lines of all features that stand from here on, behind what was laid.
+fn lay_rest(
     s: &[u8],
     first: usize,
     known: Known,
+    was: Laid,
+    writing: bool,
     code: &[u8; 5128],
     vocabulary: &[u8; 3492],
     out: &mut [u8],
-)
+) -> Laid
     requires { ⌜ CodeTable code1 (now code) ⌝ }
     requires { ⌜ VocabularyTable (now vocabulary) ⌝ }
-    ensures { λ _. ⌜ PutsLines (now (s .entry)) first known (now (out .entry)) (now (out .exit)) ⌝ }
+    requires { ⌜ was .at ≤ length (now out) ⌝ }
+    ensures { λ r. ⌜ LaysRest (now (s .entry)) first known was writing (now (out .entry)) r (now (out .exit)) ⌝ }
 {
     let mut at = first;
-    let mut end: usize = 0;
+    let mut laid = was;
     loop {
         if walk_steps::child_here(s, at) {
             let feature = walk_items::feature(s, at);
-            let next = walk_items::feature_past(s, feature);
+            let Planned { plan, next: end } = plan_of(s, known, feature, vocabulary);
+            let next = walk_items::feature_end(s, end, feature.long);
             if next <= at {
-                return;
+                return laid;
             }
-            let n = put_line(s, known, feature, code, vocabulary, &mut out[end..]);
-            end += n;
+            laid = lay_behind(s, known, feature, plan, laid, writing, code, out);
             at = next;
         } else {
-            return;
+            return laid;
         }
     }
+}
+
+// The lines of all features of a sequence, by its first.
+fn lay_all(
+    s: &[u8],
+    known: Known,
+    first: FoundFeature,
+    writing: bool,
+    code: &[u8; 5128],
+    vocabulary: &[u8; 3492],
+    out: &mut [u8],
+) -> Laid
+    requires { ⌜ CodeTable code1 (now code) ⌝ }
+    requires { ⌜ VocabularyTable (now vocabulary) ⌝ }
+    ensures { λ r. ⌜ LaysAll (now (s .entry)) known first writing (now (out .entry)) r (now (out .exit)) ⌝ }
+{
+    let Planned { plan, next: end } = plan_of(s, known, first, vocabulary);
+    let next = walk_items::feature_end(s, end, first.long);
+    let laid = lay_line(s, known, first, plan, writing, code, out);
+    lay_rest(s, next, known, laid, writing, code, vocabulary, out)
 }
 
 // All translations of a sequence at the front of out, by its first feature; or nothing is written.
@@ -183,16 +146,13 @@ pub fn translate_all(
     requires { ⌜ VocabularyTable (now vocabulary) ⌝ }
     ensures { λ r. ⌜ TranslatesAll (now (s .entry)) known first (now (out .entry)) r (now (out .exit)) ⌝ }
 {
-    let room = out.len();
-    let next = walk_items::feature_past(s, first);
-    let line = line_size(s, known, first, room, code, vocabulary);
-    let others = lines_size(s, next, known, room, code, vocabulary);
-    match both(line, others, room) {
-        Lined::Short => refused(34),
-        Lined::Is(size) => {
-            let n = put_line(s, known, first, code, vocabulary, out);
-            put_lines(s, next, known, code, vocabulary, &mut out[n..]);
-            Written { number: 0, size }
-        }
+    let measured = lay_all(s, known, first, false, code, vocabulary, out);
+    if !measured.on {
+        return refused(34);
+    }
+    let written = lay_all(s, known, first, true, code, vocabulary, out);
+    Written {
+        number: 0,
+        size: written.at,
     }
 }
