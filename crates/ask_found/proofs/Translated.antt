@@ -11,7 +11,6 @@ use Rattle.judge_faults.specs.declared.Known.{Known}
 use Rattle.ask_answers.specs.Stretches.{nothingLent}
 use Rattle.ask_answers.specs.declared.LentAnswer.{LentAnswer}
 use Rattle.ask_translation.specs.Ones.{TranslatesOne}
-use Rattle.ask_translation.specs.declared.Written.{Written}
 use Rattle.ask_translations.specs.Lines.{TranslatesAll}
 use Rattle.ask_found.specs.Answers.{TranslationGiven, TranslationsGiven, AnswersTranslation, AnswersTranslations}
 use Rattle.ask_found.proofs.Accepted.{accepts, keeps-feature, feature-keeps}
@@ -36,9 +35,9 @@ translations-none {q = q} h e =
       lent = Lent.written {x = []} (omega arith);
     }
 
-module _ {w : List ℕ} {known : Known} {g : FoundFeature} {out : List ℕ} {r : Written} {after : List ℕ} where
+module _ {w : List ℕ} {known : Known} {g : FoundFeature} {out : List ℕ} {r : LentAnswer} {after : List ℕ} where
   pub translation-found : TranslatesOne w known g out r after
-      → AnswersTranslation w known g out (record { number = r .number; place = 0; size = r .size }) after
+      → AnswersTranslation w known g out r after
   translation-found t =
       record {
         says =
@@ -48,7 +47,7 @@ module _ {w : List ℕ} {known : Known} {g : FoundFeature} {out : List ℕ} {r :
       }
 
   pub translations-found : TranslatesAll w known g out r after
-      → AnswersTranslations w known g out (record { number = r .number; place = 0; size = r .size }) after
+      → AnswersTranslations w known g out r after
   translations-found t =
       record {
         says =

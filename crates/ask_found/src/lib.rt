@@ -11,7 +11,6 @@ use ask_show::is_present;
 use ask_show::kind_number;
 use ask_show::stretch_of;
 use ask_show::value_stretch;
-use ask_translation::Written;
 use judge_faults::Known;
 use location_spans::room::Answer;
 use value_words::Molecule;
@@ -84,19 +83,7 @@ pub fn translation_answer(
 {
     let code = protein_code::code_table();
     let vocabulary = value_vocabulary::vocabulary_table();
-    let Written { number, size } = ask_translation::translate(
-        listing,
-        known,
-        feature,
-        &code,
-        &vocabulary,
-        out,
-    );
-    LentAnswer {
-        number,
-        place: 0,
-        size,
-    }
+    ask_translation::translate(listing, known, feature, &code, &vocabulary, out)
 }
 
 // All translations of a sequence, by its first feature, each closed by byte 10; or nothing is written.
@@ -110,17 +97,5 @@ pub fn translations_answer(
 {
     let code = protein_code::code_table();
     let vocabulary = value_vocabulary::vocabulary_table();
-    let Written { number, size } = ask_translations::translate_all(
-        listing,
-        known,
-        first,
-        &code,
-        &vocabulary,
-        out,
-    );
-    LentAnswer {
-        number,
-        place: 0,
-        size,
-    }
+    ask_translations::translate_all(listing, known, first, &code, &vocabulary, out)
 }

@@ -22,8 +22,9 @@ use Rattle.protein_write.specs.Writing.{afterOf, WritesTranslation}
 use Rattle.walk_steps.specs.declared.Range.{Range}
 use Rattle.judge_faults.specs.declared.Known.{Known}
 use Rattle.ask_translation.specs.Plans.{PlanIs, Plans}
-use Rattle.ask_translation.specs.Ones.{refusal, passOf, LentIf, LaysLetters, GivesIf, LaysPlanned, TranslatesOne}
-use Rattle.ask_translation.specs.declared.Written.{Written}
+use Rattle.ask_translation.specs.Ones.{passOf, LentIf, LaysLetters, GivesIf, LaysPlanned, TranslatesOne}
+use Rattle.ask_answers.specs.Stretches.{nothingLent}
+use Rattle.ask_answers.specs.declared.LentAnswer.{LentAnswer}
 use Rattle.ask_translation.specs.declared.Plan.{Plan}
 use Rattle.ask_translation.specs.declared.Plan.the-variants.{NoCds, Given, From}
 use Rattle.ask_translation.specs.declared.Plan.the-variants as plan
@@ -33,21 +34,21 @@ use Rattle.ask_translation.proofs.Planning.{found-cds}
 -- ---- measured, or written too
 
 -- what is left as it was
-lent-same : (on : Bool) {out : List ℕ} {o : Outcome (List ℕ)} {r : Written} → Lent out o (r .number) 0 (r .size) out → LentIf on out o r out
+lent-same : (on : Bool) {out : List ℕ} {o : Outcome (List ℕ)} {r : LentAnswer} → Lent out o (r .number) (r .place) (r .size) out → LentIf on out o r out
 lent-same true {out} h = record { later = out; lent = h; is = refl }
 lent-same false {out} h = record { later = out; lent = h; is = refl }
 
 -- whatever is said of what was lent, said of it afterwards
-as-was : (on : Bool) {out after : List ℕ} {o : Outcome (List ℕ)} {r : Written} → after ≡ cond on out out → LentIf on out o r out → LentIf on out o r after
+as-was : (on : Bool) {out after : List ℕ} {o : Outcome (List ℕ)} {r : LentAnswer} → after ≡ cond on out out → LentIf on out o r out → LentIf on out o r after
 as-was true {out} {o = o} {r} e h = subst (LentIf true out o r) (sym e) h
 as-was false {out} {o = o} {r} e h = subst (LentIf false out o r) (sym e) h
 
 -- a refusal that was answered
-refused-as : {on : Bool} {out : List ℕ} {o : Outcome (List ℕ)} {r : Written} {n : ℕ} → r ≡ refusal n → Lent out o n 0 0 out → LentIf on out o r out
-refused-as {on} {out} {o} e h = subst (λ (r : Written). LentIf on out o r out) (sym e) (lent-same on h)
+refused-as : {on : Bool} {out : List ℕ} {o : Outcome (List ℕ)} {r : LentAnswer} {n : ℕ} → r ≡ nothingLent n 0 → Lent out o n 0 0 out → LentIf on out o r out
+refused-as {on} {out} {o} e h = subst (λ (r : LentAnswer). LentIf on out o r out) (sym e) (lent-same on h)
 
 pub text-laid : {text out given after : List ℕ} (on : Bool) {t : Bool} {end : ℕ} {p : Pass} → p ≡ passOf on → length text ≤ length out → Lays given 0 text out p t end after
-    → LentIf on out (give text) (record { number = 0; size = length text }) after
+    → LentIf on out (give text) (record { number = 0; place = 0; size = length text }) after
 text-laid {text} {out} {given} {after} on {t} {end} e k l =
     record { later = front text out; lent = Lent.written k; is = go on (subst (λ (q : Pass). Lays given 0 text out q t end after) e l) }
   where
@@ -56,7 +57,7 @@ text-laid {text} {out} {given} {after} on {t} {end} e k l =
     go true (Lays.short h s) = absurd (omega (arith, h, k))
     go false (Lays.measured h) = refl
 
-pub text-short : {text out : List ℕ} {on : Bool} {r : Written} → length out < length text → r ≡ refusal 34 → LentIf on out (give text) r out
+pub text-short : {text out : List ℕ} {on : Bool} {r : LentAnswer} → length out < length text → r ≡ nothingLent 34 0 → LentIf on out (give text) r out
 text-short h e = refused-as e (Lent.short h)
 
 -- ---- the letters of a coding text
@@ -78,11 +79,11 @@ module _ {gc : Code} {s loc out : List ℕ} {L start : ℕ} {on : Bool} {r : Siz
 -- ---- the translation that was planned
 
 module _ {s out : List ℕ} {known : Known} {g : FoundFeature} {p : Plan} {on : Bool} where
-  pub planned-none : {r : Written} → p ≡ NoCds → r ≡ refusal 35 → LaysPlanned s known g p on out r out
+  pub planned-none : {r : LentAnswer} → p ≡ NoCds → r ≡ nothingLent 35 0 → LaysPlanned s known g p on out r out
   planned-none z e =
       record { says = λ q f i k h x. record { outcome = refuse 35 0; translates = Translates.no-cds (subst (PlanIs s q f) z x); laid = refused-as e Lent.refused } }
 
-  pub planned-unjudged : {r : Written} → p ≡ plan.Unjudged → r ≡ refusal 36 → LaysPlanned s known g p on out r out
+  pub planned-unjudged : {r : LentAnswer} → p ≡ plan.Unjudged → r ≡ nothingLent 36 0 → LaysPlanned s known g p on out r out
   planned-unjudged z e =
       record {
         says =
@@ -91,7 +92,7 @@ module _ {s out : List ℕ} {known : Known} {g : FoundFeature} {p : Plan} {on : 
             record { outcome = refuse 36 0; translates = Translates.unjudged (y .0) (y .1); laid = refused-as e Lent.refused };
       }
 
-  pub planned-given : {v : Range} {w after : List ℕ} {r : Written} → p ≡ Given v → ShowsBytes s (v .from) (v .to) w → LentIf on out (give w) r after → LaysPlanned s known g p on out r after
+  pub planned-given : {v : Range} {w after : List ℕ} {r : LentAnswer} → p ≡ Given v → ShowsBytes s (v .from) (v .to) w → LentIf on out (give w) r after → LaysPlanned s known g p on out r after
   planned-given {w = w} {after} {r} z shown l =
       record {
         says =
@@ -109,7 +110,7 @@ module _ {s out : List ℕ} (known : Known) {g : FoundFeature} {p : Plan} {on : 
     (shr : ShowsBytes s (known .residues .from) (known .residues .to) r) (shl : ShowsBytes s (g .location .from) (g .location .to) loc)
     (w : LaysLetters gc r loc (known .top) start on out y after) where
   -- by its letters l
-  planned-by : {v : Written} (x : Size) → y ≡ x
+  planned-by : {v : LentAnswer} (x : Size) → y ≡ x
       → ((q : Sequence ℕ) (f : Feature ℕ) (l : List ℕ) → Judged q f l → Measured l (length out) x → after ≡ cond on (afterOf l out x) out → GivesIf on q f out v after)
       → LaysPlanned s known g p on out v after
   planned-by x e by =
@@ -121,7 +122,7 @@ module _ {s out : List ℕ} (known : Known) {g : FoundFeature} {p : Plan} {on : 
             by q f (lettersOf code1 r start (d .location)) (d .judged) (m .0) (m .1);
       }
 
-  pub planned-is : {n : ℕ} → y ≡ size.Is n → LaysPlanned s known g p on out (record { number = 0; size = n }) after
+  pub planned-is : {n : ℕ} → y ≡ size.Is n → LaysPlanned s known g p on out (record { number = 0; place = 0; size = n }) after
   planned-is {n} e =
       planned-by (size.Is n) e
       (λ q f l j m a.
@@ -132,23 +133,23 @@ module _ {s out : List ℕ} (known : Known) {g : FoundFeature} {p : Plan} {on : 
         laid = record { later = front x out; lent = subst (λ (n : ℕ). Lent out (give x) 0 0 n (front x out)) (sym (m .1)) (Lent.written (omega (arith, m .1, m .2))); is = a };
       })
 
-  pub planned-short : {v : Written} → y ≡ size.Short → v ≡ refusal 34 → LaysPlanned s known g p on out v after
+  pub planned-short : {v : LentAnswer} → y ≡ size.Short → v ≡ nothingLent 34 0 → LaysPlanned s known g p on out v after
   planned-short e z =
       planned-by size.Short e
       (λ q f l j m a. record { outcome = give (dropStop l); translates = Translates.translation j (m .0); laid = as-was on a (refused-as z (Lent.short (m .1))) })
 
-  pub planned-stop : {v : Written} → y ≡ size.Stop → v ≡ refusal 37 → LaysPlanned s known g p on out v after
+  pub planned-stop : {v : LentAnswer} → y ≡ size.Stop → v ≡ nothingLent 37 0 → LaysPlanned s known g p on out v after
   planned-stop e z =
       planned-by size.Stop e (λ q f l j m a. record { outcome = refuse 37 0; translates = Translates.stop-inside j m; laid = as-was on a (refused-as z Lent.refused) })
 
 -- ---- planned, and then written
 
-pub translated : {s out after : List ℕ} {known : Known} {g : FoundFeature} {x : Planned} {r : Written} → Plans s known g x → LaysPlanned s known g (x .plan) true out r after
+pub translated : {s out after : List ℕ} {known : Known} {g : FoundFeature} {x : Planned} {r : LentAnswer} → Plans s known g x → LaysPlanned s known g (x .plan) true out r after
     → TranslatesOne s known g out r after
 translated {out = out} {r = r} plans l =
     record {
       says =
           λ q f e k i keeps.
           let y = l .says q f e k i (plans .says q f e k i keeps) in
-          record { outcome = y .outcome; translates = y .translates; lent = subst (Lent out (y .outcome) (r .number) 0 (r .size)) (sym (y .laid .is)) (y .laid .lent) };
+          record { outcome = y .outcome; translates = y .translates; lent = subst (Lent out (y .outcome) (r .number) (r .place) (r .size)) (sym (y .laid .is)) (y .laid .lent) };
     }

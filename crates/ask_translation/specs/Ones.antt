@@ -21,11 +21,7 @@ use Rattle.judge_faults.specs.Known.{Knows}
 use Rattle.judge_faults.specs.declared.Known.{Known}
 use Rattle.ask_translation.specs.Plans.{Keeps, PlanIs}
 use Rattle.ask_translation.specs.declared.Plan.{Plan}
-use Rattle.ask_translation.specs.declared.Written.{Written}
-
--- the answer of a refusal
-abbrev pub refusal : ℕ → Written
-refusal n = record { number = n; size = 0 }
+use Rattle.ask_answers.specs.declared.LentAnswer.{LentAnswer}
 
 -- ---- measured, or written too
 
@@ -34,9 +30,9 @@ passOf true = Write
 passOf false = Measure
 
 -- the answer is that of writing; what was lent is left so if it is to be written, and else as it was
-pub record LentIf (on : Bool) (out : List ℕ) (o : Outcome (List ℕ)) (r : Written) (after : List ℕ) : Type 0 where
+pub record LentIf (on : Bool) (out : List ℕ) (o : Outcome (List ℕ)) (r : LentAnswer) (after : List ℕ) : Type 0 where
   pub later : List ℕ
-  pub lent : Lent out o (r .number) 0 (r .size) later
+  pub lent : Lent out o (r .number) (r .place) (r .size) later
   pub is : after ≡ cond on later out
 
 -- of whichever location
@@ -47,19 +43,19 @@ pub record LaysLetters (gc : Code) (s loc : List ℕ) (L start : ℕ) (on : Bool
 -- ---- one feature
 
 -- the outcome for f, and what is then in the lent bytes
-pub record GivesIf (on : Bool) (q : Sequence ℕ) (f : Feature ℕ) (out : List ℕ) (r : Written) (after : List ℕ) : Type 0 where
+pub record GivesIf (on : Bool) (q : Sequence ℕ) (f : Feature ℕ) (out : List ℕ) (r : LentAnswer) (after : List ℕ) : Type 0 where
   pub outcome : Outcome (List ℕ)
   pub translates : Translates q f outcome
   pub laid : LentIf on out outcome r after
 
 -- of whichever feature that is planned so
-pub record LaysPlanned (s : List ℕ) (known : Known) (g : FoundFeature) (p : Plan) (on : Bool) (out : List ℕ) (r : Written) (after : List ℕ) : Type 0 where
+pub record LaysPlanned (s : List ℕ) (known : Known) (g : FoundFeature) (p : Plan) (on : Bool) (out : List ℕ) (r : LentAnswer) (after : List ℕ) : Type 0 where
   pub says : (q : Sequence ℕ) (f : Feature ℕ) (e : ℕ) → Knows s q known → IsFeature s f e g → PlanIs s q f p → GivesIf on q f out r after
 
-pub record Gives (q : Sequence ℕ) (f : Feature ℕ) (out : List ℕ) (r : Written) (after : List ℕ) : Type 0 where
+pub record Gives (q : Sequence ℕ) (f : Feature ℕ) (out : List ℕ) (r : LentAnswer) (after : List ℕ) : Type 0 where
   pub outcome : Outcome (List ℕ)
   pub translates : Translates q f outcome
-  pub lent : Lent out outcome (r .number) 0 (r .size) after
+  pub lent : Lent out outcome (r .number) (r .place) (r .size) after
 
-pub record TranslatesOne (s : List ℕ) (known : Known) (g : FoundFeature) (out : List ℕ) (r : Written) (after : List ℕ) : Type 0 where
+pub record TranslatesOne (s : List ℕ) (known : Known) (g : FoundFeature) (out : List ℕ) (r : LentAnswer) (after : List ℕ) : Type 0 where
   pub says : (q : Sequence ℕ) (f : Feature ℕ) (e : ℕ) → Knows s q known → IsFeature s f e g → Keeps q f → Gives q f out r after

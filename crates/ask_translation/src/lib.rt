@@ -1,5 +1,7 @@
 // The translation of one feature of an accepted listing, into lent bytes. Where the listing gives it, it is copied: rule 28 was judged, so
 // the value is the translation. Relies on what the qualifiers of a coding region say, on its location and on the writing of a translation.
+use ask_answers::LentAnswer;
+use ask_answers::nothing_lent;
 use judge_faults::Known;
 use judge_qualifiers::Noted;
 use judge_qualifiers::is_coding;
@@ -23,7 +25,7 @@ ghost use Rattle.paper.specs.Answers.{give};
 ghost use Rattle.protein_code.specs.Tables.{CodeTable, Coded, codeOf};
 ghost use Rattle.value_vocabulary.specs.Tables.{VocabularyTable};
 ghost use Rattle.ask_translation.specs.Plans.{GivenAt, Plans};
-ghost use Rattle.ask_translation.specs.Ones.{refusal, passOf, LentIf, LaysLetters, LaysPlanned, TranslatesOne};
+ghost use Rattle.ask_translation.specs.Ones.{passOf, LentIf, LaysLetters, LaysPlanned, TranslatesOne};
 
 // ---- how it is translated
 
@@ -111,19 +113,6 @@ pub fn plan_of(s: &[u8], known: Known, feature: FoundFeature, vocabulary: &[u8; 
 
 // ---- measured or written
 
-// The number of a refusal, or 0, and the length of what was written.
-pub struct Written {
-    pub number: usize,
-    pub size: usize,
-}
-
-// The answer of a refusal.
-pub fn refused(number: usize) -> Written
-    ensures { λ r. ⌜ r ≡ refusal number ⌝ }
-{
-    Written { number, size: 0 }
-}
-
 // What a pass does that writes, or only measures.
 pub fn pass_of(writing: bool) -> Pass
     ensures { λ r. ⌜ r ≡ passOf writing ⌝ }
@@ -135,16 +124,17 @@ pub fn pass_of(writing: bool) -> Pass
 }
 
 // A text at the front of out if it is to be written; else only whether it fits.
-fn lay_text(text: &[u8], writing: bool, out: &mut [u8]) -> Written
+fn lay_text(text: &[u8], writing: bool, out: &mut [u8]) -> LentAnswer
     ensures { λ r. ⌜ LentIf writing (now (out .entry)) (give (now (text .entry))) r (now (out .exit)) ⌝ }
 {
     if out.len() < text.len() {
-        return refused(34);
+        return nothing_lent(34, 0);
     }
     let pass = pass_of(writing);
     lay_bytes(pass, text, 0, b"", out);
-    Written {
+    LentAnswer {
         number: 0,
+        place: 0,
         size: text.len(),
     }
 }
@@ -177,21 +167,25 @@ pub fn lay_planned(
     writing: bool,
     code: &[u8; 5128],
     out: &mut [u8],
-) -> Written
+) -> LentAnswer
     requires { ⌜ CodeTable code1 (now code) ⌝ }
     ensures { λ r. ⌜ LaysPlanned (now (s .entry)) known feature plan writing (now (out .entry)) r (now (out .exit)) ⌝ }
 {
     match plan {
-        Plan::NoCds => refused(35),
-        Plan::Unjudged => refused(36),
+        Plan::NoCds => nothing_lent(35, 0),
+        Plan::Unjudged => nothing_lent(36, 0),
         Plan::Given(value) => lay_text(bytes_of(s, value.from, value.to), writing, out),
         Plan::From(start) => {
             let r = bytes_of(s, known.residues.from, known.residues.to);
             let loc = bytes_of(s, feature.location.from, feature.location.to);
             match lay_letters(r, loc, known.top, start, writing, code, out) {
-                Size::Is(n) => Written { number: 0, size: n },
-                Size::Short => refused(34),
-                Size::Stop => refused(37),
+                Size::Is(n) => LentAnswer {
+                    number: 0,
+                    place: 0,
+                    size: n,
+                },
+                Size::Short => nothing_lent(34, 0),
+                Size::Stop => nothing_lent(37, 0),
             }
         }
     }
@@ -205,7 +199,7 @@ pub fn translate(
     code: &[u8; 5128],
     vocabulary: &[u8; 3492],
     out: &mut [u8],
-) -> Written
+) -> LentAnswer
     requires { ⌜ CodeTable code1 (now code) ⌝ }
     requires { ⌜ VocabularyTable (now vocabulary) ⌝ }
     ensures { λ r. ⌜ TranslatesOne (now (s .entry)) known feature (now (out .entry)) r (now (out .exit)) ⌝ }

@@ -20,9 +20,10 @@ use Rattle.judge_faults.specs.Known.{Knows}
 use Rattle.judge_faults.specs.declared.Known.{Known}
 use Rattle.judge_qualifiers.proofs.Lists.{in-last}
 use Rattle.ask_translation.specs.Plans.{Plans}
-use Rattle.ask_translation.specs.Ones.{refusal, passOf}
+use Rattle.ask_translation.specs.Ones.{passOf}
 use Rattle.ask_translation.specs.declared.Planned.{Planned}
-use Rattle.ask_translation.specs.declared.Written.{Written}
+use Rattle.ask_answers.specs.Stretches.{nothingLent}
+use Rattle.ask_answers.specs.declared.LentAnswer.{LentAnswer}
 use Rattle.ask_translations.specs.Lines.{LaysLine, LaysBehind, KeepAll, LinesBehind, LaysRest, LaysAll, TranslatesAll}
 use Rattle.ask_translations.proofs.Laid.{lines-more, lines-first}
 use Rattle.ask_translations.proofs.Walks.{SeenFeatures, none-seen, one-more, stuck, all-seen, keep-front}
@@ -106,9 +107,9 @@ written-by {x} {room} h (Lays.written k) = subst₂ (Lent room (give x) 0 0) (om
 written-by h (Lays.short k l) = absurd (omega (arith, h, k))
 
 module _ {s out mid : List ℕ} {known : Known} {g : FoundFeature} {r : Laid} (m : LaysAll s known g false out r mid) where
-  pub all-short : {v : Written} → r .on ≡ false → v ≡ refusal 34 → TranslatesAll s known g out v mid
+  pub all-short : {v : LentAnswer} → r .on ≡ false → v ≡ nothingLent 34 0 → TranslatesAll s known g out v mid
   all-short e z =
-      subst (λ (v : Written). TranslatesAll s known g out v mid) (sym z)
+      subst (λ (v : LentAnswer). TranslatesAll s known g out v mid) (sym z)
       record {
         says =
             λ q k f keep.
@@ -117,7 +118,7 @@ module _ {s out mid : List ℕ} {known : Known} {g : FoundFeature} {r : Laid} (m
             record { lines = a .lines; are = a .are; lent = subst (Lent out (give (a .lines)) 34 0 0) (sym (b .0)) (short-by (b .1) e) };
       }
 
-  pub all-written : {v : Laid} {after : List ℕ} → r .on ≡ true → LaysAll s known g true mid v after → TranslatesAll s known g out (record { number = 0; size = v .at }) after
+  pub all-written : {v : Laid} {after : List ℕ} → r .on ≡ true → LaysAll s known g true mid v after → TranslatesAll s known g out (record { number = 0; place = 0; size = v .at }) after
   all-written {v} {after} e w =
       record {
         says =

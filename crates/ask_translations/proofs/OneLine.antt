@@ -25,7 +25,7 @@ use Rattle.ask_translation.specs.Ones.{passOf, LentIf, LaysPlanned}
 use Rattle.ask_translation.specs.declared.Plan.{Plan}
 use Rattle.ask_translation.specs.declared.Plan.the-variants.{NoCds, Given, From}
 use Rattle.ask_translation.specs.declared.Plan.the-variants as plan
-use Rattle.ask_translation.specs.declared.Written.{Written}
+use Rattle.ask_answers.specs.declared.LentAnswer.{LentAnswer}
 use Rattle.ask_translations.specs.Lines.{Line, LineLaid, LaysLine, LaysBehind}
 
 -- ---- passes
@@ -75,7 +75,7 @@ data Told (q : Sequence ℕ) (f : Feature ℕ) (on : Bool) (out : List ℕ) : (n
   short : (y : List ℕ) → Line q f (y ++ bytes "\n") → length out < length y → Told q f on out 34 0 out
   text : (y : List ℕ) → Line q f (y ++ bytes "\n") → length y ≤ length out → Told q f on out 0 (length y) (cond on (front y out) out)
 
-told : {q : Sequence ℕ} {f : Feature ℕ} {o : Outcome (List ℕ)} (on : Bool) {out mid : List ℕ} {r : Written} → Translates q f o → LentIf on out o r mid
+told : {q : Sequence ℕ} {f : Feature ℕ} {o : Outcome (List ℕ)} (on : Bool) {out mid : List ℕ} {r : LentAnswer} → Translates q f o → LentIf on out o r mid
     → Told q f on out (r .number) (r .size) mid
 told {q} {f} {o} on {out} {mid} {r} t l = subst (Told q f on out (r .number) (r .size)) (sym (l .is)) (go t (l .lent))
   where
@@ -86,7 +86,7 @@ told {q} {f} {o} on {out} {mid} {r} t l = subst (Told q f on out (r .number) (r 
         either true = refl
         either false = refl
 
-    go : {o : Outcome (List ℕ)} {n m : ℕ} {later : List ℕ} → Translates q f o → Lent out o n 0 m later → Told q f on out n m (cond on later out)
+    go : {o : Outcome (List ℕ)} {n p m : ℕ} {later : List ℕ} → Translates q f o → Lent out o n p m later → Told q f on out n m (cond on later out)
     go (Translates.no-cds c) Lent.refused = same (Told.none (Line.no-cds (Translates.no-cds c)))
     go (Translates.unjudged c u) Lent.refused = same (Told.dash (omega arith) (Line.unjudged (Translates.unjudged c u)))
     go (Translates.stop-inside j e) Lent.refused = same (Told.dash (omega arith) (Line.stop-inside (Translates.stop-inside j e)))
@@ -124,7 +124,7 @@ module _ {q : Sequence ℕ} {f : Feature ℕ} (on : Bool) {out : List ℕ} where
       first true = subst₂ (Lays [] 0 y out (passOf true) true) (omega arith) (sets-front y out h) (Lays.written (omega (arith, h)))
       first false = subst (λ (e : ℕ). Lays [] 0 y out (passOf false) true e out) (omega arith) (Lays.measured (fits (omega (arith, h))))
 
-module _ {s out mid : List ℕ} {known : Known} {g : FoundFeature} {p : Plan} (on : Bool) {r : Written} (t : LaysPlanned s known g p on out r mid) (kept : length mid ≡ length out) where
+module _ {s out mid : List ℕ} {known : Known} {g : FoundFeature} {p : Plan} (on : Bool) {r : LentAnswer} (t : LaysPlanned s known g p on out r mid) (kept : length mid ≡ length out) where
   told-of : {q : Sequence ℕ} {f : Feature ℕ} {e : ℕ} → Knows s q known → IsFeature s f e g → PlanIs s q f p → Told q f on out (r .number) (r .size) mid
   told-of {q} {f} {e} k i x = let y = t .says q f e k i x in told on (y .translates) (y .laid)
 

@@ -22,7 +22,7 @@ use Rattle.judge_faults.specs.declared.Known.{Known}
 use Rattle.ask_translation.specs.Plans.{Keeps, PlanIs}
 use Rattle.ask_translation.specs.Ones.{passOf}
 use Rattle.ask_translation.specs.declared.Plan.{Plan}
-use Rattle.ask_translation.specs.declared.Written.{Written}
+use Rattle.ask_answers.specs.declared.LentAnswer.{LentAnswer}
 
 -- ---- one line
 
@@ -84,10 +84,10 @@ pub record LaysAll (s : List ℕ) (known : Known) (g : FoundFeature) (on : Bool)
 
 -- ---- all translations of a sequence
 
-pub record GivesAll (q : Sequence ℕ) (out : List ℕ) (r : Written) (after : List ℕ) : Type 0 where
+pub record GivesAll (q : Sequence ℕ) (out : List ℕ) (r : LentAnswer) (after : List ℕ) : Type 0 where
   pub lines : List ℕ
   pub are : paper.Lines q (featuresOf q) lines
-  pub lent : Lent out (give lines) (r .number) 0 (r .size) after
+  pub lent : Lent out (give lines) (r .number) (r .place) (r .size) after
 
-pub record TranslatesAll (s : List ℕ) (known : Known) (g : FoundFeature) (out : List ℕ) (r : Written) (after : List ℕ) : Type 0 where
+pub record TranslatesAll (s : List ℕ) (known : Known) (g : FoundFeature) (out : List ℕ) (r : LentAnswer) (after : List ℕ) : Type 0 where
   pub says : (q : Sequence ℕ) → Knows s q known → FirstFeature s q g → KeepAll q (featuresOf q) → GivesAll q out r after

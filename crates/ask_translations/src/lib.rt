@@ -1,13 +1,13 @@
 // All translations of a sequence of an accepted listing, a line for each feature that is a CDS, into lent bytes. One walk along the
 // features measures the lines, and the same walk writes them. Relies on the translation of one feature, the walk along the features and
 // lent_room.
+use ask_answers::LentAnswer;
+use ask_answers::nothing_lent;
 use ask_translation::Plan;
 use ask_translation::Planned;
-use ask_translation::Written;
 use ask_translation::lay_planned;
 use ask_translation::pass_of;
 use ask_translation::plan_of;
-use ask_translation::refused;
 use judge_faults::Known;
 use lent_room::Laid;
 use lent_room::lay_bytes;
@@ -141,18 +141,19 @@ pub fn translate_all(
     code: &[u8; 5128],
     vocabulary: &[u8; 3492],
     out: &mut [u8],
-) -> Written
+) -> LentAnswer
     requires { ⌜ CodeTable code1 (now code) ⌝ }
     requires { ⌜ VocabularyTable (now vocabulary) ⌝ }
     ensures { λ r. ⌜ TranslatesAll (now (s .entry)) known first (now (out .entry)) r (now (out .exit)) ⌝ }
 {
     let measured = lay_all(s, known, first, false, code, vocabulary, out);
     if !measured.on {
-        return refused(34);
+        return nothing_lent(34, 0);
     }
     let written = lay_all(s, known, first, true, code, vocabulary, out);
-    Written {
+    LentAnswer {
         number: 0,
+        place: 0,
         size: written.at,
     }
 }

@@ -8,14 +8,14 @@ use Rattle.ask_translation.proofs.lay_planned.Tie as tie
 enum-told : tie.Need-enum-told
 enum-told c = search needs
 
-refused-requires : tie.Need-refused-requires
-refused-requires c κs = search needs
+nothing-lent-requires : tie.Need-nothing-lent-requires
+nothing-lent-requires c κs = search needs
 
 enum-told-2 : tie.Need-enum-told-2
 enum-told-2 c = search needs
 
-refused-requires-2 : tie.Need-refused-requires-2
-refused-requires-2 c κs = search needs
+nothing-lent-requires-2 : tie.Need-nothing-lent-requires-2
+nothing-lent-requires-2 c κs = search needs
 
 enum-known-plan : tie.Need-enum-known-plan
 enum-known-plan c = search needs
@@ -46,20 +46,20 @@ enum-known-n c = search needs
 enum-told-3 : tie.Need-enum-told-3
 enum-told-3 c = search needs
 
-refused-requires-3 : tie.Need-refused-requires-3
-refused-requires-3 c κs = search needs
+nothing-lent-requires-3 : tie.Need-nothing-lent-requires-3
+nothing-lent-requires-3 c κs = search needs
 
 enum-told-4 : tie.Need-enum-told-4
 enum-told-4 c = search needs
 
-refused-requires-4 : tie.Need-refused-requires-4
-refused-requires-4 c κs = search needs
+nothing-lent-requires-4 : tie.Need-nothing-lent-requires-4
+nothing-lent-requires-4 c κs = search needs
 
 returns : tie.Need-returns
-returns c = planned-none (c .before .enum-told .given .1) (c .refused .ensures)
+returns c = planned-none (c .before .enum-told .given .1) (c .nothing-lent .ensures)
 
 returns-2 : tie.Need-returns-2
-returns-2 c = planned-unjudged (c .before .enum-told2 .given .1) (c .refused2 .ensures)
+returns-2 c = planned-unjudged (c .before .enum-told2 .given .1) (c .nothing-lent2 .ensures)
 
 same-length : tie.Need-same-length
 same-length c = search needs
@@ -95,7 +95,7 @@ returns-5 c =
     let bytes-of3 = c .before .before .before .before .before .before .before .bytes-of3 in
     let lay-letters = c .before .before .before .before .before .lay-letters in
     planned-short (args .known) (code-1 (pre')) (plan2 .given .1) (bytes-of2 .ensures) (bytes-of3 .ensures) (lay-letters .ensures)
-    (c .before .enum-told3 .given .1) (c .refused3 .ensures)
+    (c .before .enum-told3 .given .1) (c .nothing-lent3 .ensures)
 
 same-length-4 : tie.Need-same-length-4
 same-length-4 c = search needs
@@ -109,16 +109,16 @@ returns-6 c =
     let bytes-of3 = c .before .before .before .before .before .before .before .bytes-of3 in
     let lay-letters = c .before .before .before .before .before .lay-letters in
     planned-stop (args .known) (code-1 (pre')) (plan2 .given .1) (bytes-of2 .ensures) (bytes-of3 .ensures) (lay-letters .ensures)
-    (c .before .enum-told4 .given .1) (c .refused4 .ensures)
+    (c .before .enum-told4 .given .1) (c .nothing-lent4 .ensures)
 
 pub lay-planned-spec : {M : Type 1} → statement M
 lay-planned-spec =
     tie.close
     (tie.spec
     enum-told
-    refused-requires
+    nothing-lent-requires
     enum-told-2
-    refused-requires-2
+    nothing-lent-requires-2
     enum-known-plan
     bytes-of-requires
     lay-text-requires
@@ -128,9 +128,9 @@ lay-planned-spec =
     lay-letters-requires
     enum-known-n
     enum-told-3
-    refused-requires-3
+    nothing-lent-requires-3
     enum-told-4
-    refused-requires-4
+    nothing-lent-requires-4
     returns
     returns-2
     same-length

@@ -4,11 +4,11 @@ use borrow.Author.Needs.{needs}
 use Rattle.ask_translation.proofs.lay_text.Statement.{statement}
 use Rattle.ask_translation.proofs.lay_text.Tie as tie
 
-refused-requires : tie.Need-refused-requires
-refused-requires c κs = search needs
+nothing-lent-requires : tie.Need-nothing-lent-requires
+nothing-lent-requires c κs = search needs
 
 returns : tie.Need-returns
-returns c = text-short (c .before .if1 .taken) (c .refused .ensures)
+returns c = text-short (c .before .if1 .taken) (c .nothing-lent .ensures)
 
 pass-of-requires : tie.Need-pass-of-requires
 pass-of-requires c κs = search needs
@@ -33,7 +33,7 @@ pub lay-text-spec : {M : Type 1} → statement M
 lay-text-spec =
     tie.close
     (tie.spec
-    refused-requires
+    nothing-lent-requires
     returns
     pass-of-requires
     slice-aggregate-lay-bytes

@@ -8,8 +8,8 @@ use Rattle.ask_translations.proofs.translate_all.Tie as tie
 lay-all-requires : tie.Need-lay-all-requires
 lay-all-requires c κs = search needs
 
-refused-requires : tie.Need-refused-requires
-refused-requires c κs = search needs
+nothing-lent-requires : tie.Need-nothing-lent-requires
+nothing-lent-requires c κs = search needs
 
 same-length : tie.Need-same-length
 same-length c = search needs
@@ -17,7 +17,7 @@ same-length c = search needs
 returns : tie.Need-returns
 returns c =
     let lay-all = c .before .before .before .before .before .lay-all in
-    all-short (lay-all .ensures) (not-true (lay-all .result .on) (c .before .if1 .taken)) (c .refused .ensures)
+    all-short (lay-all .ensures) (not-true (lay-all .result .on) (c .before .if1 .taken)) (c .nothing-lent .ensures)
 
 lay-all-requires-2 : tie.Need-lay-all-requires-2
 lay-all-requires-2 c κs = search needs
@@ -36,7 +36,7 @@ translate-all-spec =
     tie.close
     (tie.spec
     lay-all-requires
-    refused-requires
+    nothing-lent-requires
     same-length
     returns
     lay-all-requires-2
