@@ -22,7 +22,7 @@ use Rattle.protein_write.specs.Writing.{afterOf, WritesTranslation}
 use Rattle.walk_steps.specs.declared.Range.{Range}
 use Rattle.judge_faults.specs.declared.Known.{Known}
 use Rattle.ask_translation.specs.Plans.{PlanIs, Plans}
-use Rattle.ask_translation.specs.Ones.{passOf, LentIf, LaysLetters, GivesIf, LaysPlanned, TranslatesOne}
+use Rattle.ask_translation.specs.Ones.{passOf, LentIf, LaysTranslation, GivesIf, LaysPlanned, TranslatesOne}
 use Rattle.ask_answers.specs.Stretches.{nothingLent}
 use Rattle.ask_answers.specs.declared.LentAnswer.{LentAnswer}
 use Rattle.ask_translation.specs.declared.Plan.{Plan}
@@ -63,8 +63,8 @@ text-short h e = refused-as e (Lent.short h)
 -- ---- the letters of a coding text
 
 module _ {gc : Code} {s loc out : List ℕ} {L start : ℕ} {on : Bool} {r : Size} where
-  pub letters-written : {after : List ℕ} → on ≡ true → WritesTranslation gc s loc L start out r after → LaysLetters gc s loc L start on out r after
-  letters-written {after} e w =
+  pub translation-written : {after : List ℕ} → on ≡ true → WritesTranslation gc s loc L start out r after → LaysTranslation gc s loc L start on out r after
+  translation-written {after} e w =
       record {
         says =
             λ t h.
@@ -72,8 +72,8 @@ module _ {gc : Code} {s loc out : List ℕ} {L start : ℕ} {on : Bool} {r : Siz
             (y .0, subst (λ (b : Bool). after ≡ cond b (afterOf (lettersOf gc s start t) out r) out) (sym e) (y .1));
       }
 
-  pub letters-measured : on ≡ false → Measures gc s loc L start (length out) r → LaysLetters gc s loc L start on out r out
-  letters-measured e m =
+  pub translation-measured : on ≡ false → Measures gc s loc L start (length out) r → LaysTranslation gc s loc L start on out r out
+  translation-measured e m =
       record { says = λ t h. (m .says t h, subst (λ (b : Bool). out ≡ cond b (afterOf (lettersOf gc s start t) out r) out) (sym e) refl) }
 
 -- ---- the translation that was planned
@@ -108,7 +108,7 @@ module _ {s out : List ℕ} {known : Known} {g : FoundFeature} {p : Plan} {on : 
 
 module _ {s out : List ℕ} (known : Known) {g : FoundFeature} {p : Plan} {on : Bool} {gc : Code} {r loc after : List ℕ} {start : ℕ} {y : Size} (code : gc ≡ code1) (z : p ≡ From start)
     (shr : ShowsBytes s (known .residues .from) (known .residues .to) r) (shl : ShowsBytes s (g .location .from) (g .location .to) loc)
-    (w : LaysLetters gc r loc (known .top) start on out y after) where
+    (w : LaysTranslation gc r loc (known .top) start on out y after) where
   -- by its letters l
   planned-by : {v : LentAnswer} (x : Size) → y ≡ x
       → ((q : Sequence ℕ) (f : Feature ℕ) (l : List ℕ) → Judged q f l → Measured l (length out) x → after ≡ cond on (afterOf l out x) out → GivesIf on q f out v after)
@@ -118,7 +118,7 @@ module _ {s out : List ℕ} (known : Known) {g : FoundFeature} {p : Plan} {on : 
         says =
             λ q f i k h u.
             let d = found-cds shr shl k h (subst (PlanIs s q f) z u) in
-            let m = subst₂ (λ (c : Code) (x : Size). LaysLetters c r loc (known .top) start on out x after) code e w .says (d .location) (d .codes) in
+            let m = subst₂ (λ (c : Code) (x : Size). LaysTranslation c r loc (known .top) start on out x after) code e w .says (d .location) (d .codes) in
             by q f (lettersOf code1 r start (d .location)) (d .judged) (m .0) (m .1);
       }
 

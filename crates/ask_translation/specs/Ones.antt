@@ -36,7 +36,7 @@ pub record LentIf (on : Bool) (out : List ℕ) (o : Outcome (List ℕ)) (r : Len
   pub is : after ≡ cond on later out
 
 -- of whichever location
-pub record LaysLetters (gc : Code) (s loc : List ℕ) (L start : ℕ) (on : Bool) (out : List ℕ) (r : Size) (after : List ℕ) : Type 0 where
+pub record LaysTranslation (gc : Code) (s loc : List ℕ) (L start : ℕ) (on : Bool) (out : List ℕ) (r : Size) (after : List ℕ) : Type 0 where
   pub says : (t : Location) → Codes s loc L t
       → Measured (lettersOf gc s start t) (length out) r × (after ≡ cond on (afterOf (lettersOf gc s start t) out r) out)
 

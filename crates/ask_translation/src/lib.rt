@@ -25,7 +25,7 @@ ghost use Rattle.paper.specs.Answers.{give};
 ghost use Rattle.protein_code.specs.Tables.{CodeTable, Coded, codeOf};
 ghost use Rattle.value_vocabulary.specs.Tables.{VocabularyTable};
 ghost use Rattle.ask_translation.specs.Plans.{GivenAt, Plans};
-ghost use Rattle.ask_translation.specs.Ones.{passOf, LentIf, LaysLetters, LaysPlanned, TranslatesOne};
+ghost use Rattle.ask_translation.specs.Ones.{passOf, LentIf, LaysTranslation, LaysPlanned, TranslatesOne};
 
 // ---- how it is translated
 
@@ -37,7 +37,7 @@ pub enum Plan {
     Unjudged,
     // It is a judged CDS, and the listing gives its translation here.
     Given(Range),
-    // It is a judged CDS, and its codons start with this residue of its spans.
+    // It is a judged CDS, and the listing gives none; its codons start with this residue of its spans.
     From(usize),
 }
 
@@ -140,7 +140,7 @@ fn lay_text(text: &[u8], writing: bool, out: &mut [u8]) -> LentAnswer
 }
 
 // The same of the translation of a coding text.
-fn lay_letters(
+fn lay_translation(
     r: &[u8],
     loc: &[u8],
     top: u32,
@@ -150,7 +150,7 @@ fn lay_letters(
     out: &mut [u8],
 ) -> Size
     requires { ⌜ Coded (now code) ⌝ }
-    ensures { λ y. ⌜ LaysLetters (codeOf (now (code .entry))) (now (r .entry)) (now (loc .entry)) top start writing (now (out .entry)) y (now (out .exit)) ⌝ }
+    ensures { λ y. ⌜ LaysTranslation (codeOf (now (code .entry))) (now (r .entry)) (now (loc .entry)) top start writing (now (out .entry)) y (now (out .exit)) ⌝ }
 {
     if writing {
         return write(r, loc, top, start, code, out);
@@ -178,7 +178,7 @@ pub fn lay_planned(
         Plan::From(start) => {
             let r = bytes_of(s, known.residues.from, known.residues.to);
             let loc = bytes_of(s, feature.location.from, feature.location.to);
-            match lay_letters(r, loc, known.top, start, writing, code, out) {
+            match lay_translation(r, loc, known.top, start, writing, code, out) {
                 Size::Is(n) => LentAnswer {
                     number: 0,
                     place: 0,

@@ -31,12 +31,12 @@ use Rattle.ask_translations.proofs.Walks.{SeenFeatures, none-seen, one-
 -- ---- the loop
 
 -- the lines of the features passed are laid
-pub record Laying (s : List ℕ) (first at : ℕ) (known : Known) (was : Laid) (on : Bool) (before : List ℕ) (r : Laid) (out : List ℕ) : Type 0 where
+pub record LayingLines (s : List ℕ) (first at : ℕ) (known : Known) (was : Laid) (on : Bool) (before : List ℕ) (r : Laid) (out : List ℕ) : Type 0 where
   pub kept : length out ≡ length before
   pub within : r .at ≤ length out
   pub seen : (q : Sequence ℕ) → Knows s q known → SeenFeatures s first at (λ (l : List (Feature ℕ)). KeepAll q l → LinesBehind q l was on before r out)
 
-pub laying-none : {s : List ℕ} {first : ℕ} {known : Known} {was : Laid} {on : Bool} (out : List ℕ) → was .at ≤ length out → Laying s first first known was on out was out
+pub laying-none : {s : List ℕ} {first : ℕ} {known : Known} {was : Laid} {on : Bool} (out : List ℕ) → was .at ≤ length out → LayingLines s first first known was on out was out
 laying-none {first = first} {was = was} {on} out h =
     record {
       kept = refl;
@@ -44,9 +44,9 @@ laying-none {first = first} {was = was} {on} out h =
       seen = λ q k. none-seen first (λ (l : List (Feature ℕ)). KeepAll q l → LinesBehind q l was on out was out) (λ keep. record { lines = []; are = Lines.end; laid = more-none });
     }
 
-module _ {s before out : List ℕ} {first at : ℕ} {known : Known} {was r : Laid} {on t : Bool} (here : TellsChild s at t) (w : Laying s first at known was on before r out) where
+module _ {s before out : List ℕ} {first at : ℕ} {known : Known} {was r : Laid} {on t : Bool} (here : TellsChild s at t) (w : LayingLines s first at known was on before r out) where
   module _ {n : ℕ} {g : FoundFeature} (h : t ≡ true) (f : MeetsFeature s at g) (p : PassesFeature s g n) where
-    pub laying-more : {x : Planned} {v : Laid} {after : List ℕ} → Plans s known g x → LaysBehind s known g (x .plan) r on out v after → Laying s first n known was on before v after
+    pub laying-more : {x : Planned} {v : Laid} {after : List ℕ} → Plans s known g x → LaysBehind s known g (x .plan) r on out v after → LayingLines s first n known was on before v after
     laying-more {v = v} {after} plans b =
         record {
           kept = b .kept ∙ w .kept;

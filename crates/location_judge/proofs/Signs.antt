@@ -15,7 +15,7 @@ use Rattle.paper.specs.Locations.{Piece, point, before, after, range, site, Mem
 use Rattle.paper.specs.Locations.{number, sign, pieceText, complement, memberText, membersText, locationText}
 use Rattle.paper.proofs.Texts.{raw-append}
 use Rattle.paper.proofs.Decimal.{digit-bounds}
-use Rattle.location_judge.specs.Judging.{isOddSign, isSign, Signed, Leaves}
+use Rattle.location_judge.specs.Judging.{isOddSign, isSign, Signed, LeavesRegion}
 use Rattle.location_judge.specs.declared.judging.Signs.{Signs}
 use Rattle.location_judge.specs.declared.judging.Signs.the-variants.{Plain, Odd}
 use Rattle.location_judge.proofs.Stand.{suffix}
@@ -42,33 +42,33 @@ has-both false true u v h k = rw (any-raw isSign u v, k) (or-true (any isSign (r
 has-both false false u v h k = rw (any-raw isOddSign u v, h, k)
 
 -- whatever is of the form F does
-record Told (F : Form) (b : Bool) : Type 0 where
+record Signals (F : Form) (b : Bool) : Type 0 where
   is : (at : ℕ) (w : List ℕ) → F at w → Has b w
 
 infixl 60 _⊗_
-_⊗_ : {F G : Form} {a b : Bool} → Told F a → Told G b → Told (F · G) (a || b)
+_⊗_ : {F G : Form} {a b : Bool} → Signals F a → Signals G b → Signals (F · G) (a || b)
 _⊗_ {a = a} {b} f g =
     record {
       is = λ at w (u, v, e, x, y). subst (Has (a || b)) (sym e) (has-both a b u v (f .is at u x) (g .is (at + length u) v y));
     }
 
-word : (x : String) (b : Bool) → Has b (bytes x) → Told (lit x) b
+word : (x : String) (b : Bool) → Has b (bytes x) → Signals (lit x) b
 word x b h = record { is = λ at w e. subst (Has b) (sym e) h }
 
-alone : {F : Form} {b : Bool} → Told F b → Told F (b || false)
-alone {F} {b} f = subst (Told F) (sym (or-false b)) f
+alone : {F : Form} {b : Bool} → Signals F b → Signals F (b || false)
+alone {F} {b} f = subst (Signals F) (sym (or-false b)) f
 
 -- a word with no odd sign changes nothing
-behind : {F : Form} {b : Bool} → Told F b → (x : String) → Has false (bytes x) → Told (F · lit x) b
-behind {F} {b} f x h = subst (Told (F · lit x)) (or-false b) (f ⊗ word x false h)
+behind : {F : Form} {b : Bool} → Signals F b → (x : String) → Has false (bytes x) → Signals (F · lit x) b
+behind {F} {b} f x h = subst (Signals (F · lit x)) (or-false b) (f ⊗ word x false h)
 
-where-so : {A : Type 0} {F : Form} {b : Bool} → Told F b → Told (given A F) b
+where-so : {A : Type 0} {F : Form} {b : Bool} → Signals F b → Signals (given A F) b
 where-so f = record { is = λ at w x. f .is at w (x .1) }
 
 -- ---- locations
 
-told-number : (n : ℕ) → Told (number n) false
-told-number n = record { is = λ at w x. go w (x .digits) }
+signals-number : (n : ℕ) → Signals (number n) false
+signals-number n = record { is = λ at w x. go w (x .digits) }
   where
     go : (w : List ℕ) → all isDigit w → Has false w
     go [] h = refl
@@ -77,33 +77,33 @@ told-number n = record { is = λ at w x. go w (x .digits) }
         rw (plain-digit b (k .0) (k .1), ne-eqb b (code "d") (omega arith), ne-eqb b (code "^") (omega arith), go w (h .1))
 
 -- a sign of a range, which is no odd one
-told-sign : (b : Bool) (x : String) → Has false (bytes x) → Told (sign b x) false
-told-sign true x h = word x false h
-told-sign false x h = word "" false refl
+signals-sign : (b : Bool) (x : String) → Has false (bytes x) → Signals (sign b x) false
+signals-sign true x h = word x false h
+signals-sign false x h = word "" false refl
 
-told-piece : (p : Piece) → Told (pieceText p) (isOdd p)
-told-piece (point x) = told-number x
-told-piece (before x) = word "<" true refl ⊗ told-number x
-told-piece (after x) = word ">" true refl ⊗ told-number x
-told-piece (range less x more y) = told-sign less "<" refl ⊗ told-number x ⊗ word ".." false refl ⊗ told-sign more ">" refl ⊗ told-number y
-told-piece (site x y) = told-number x ⊗ word "^" true refl ⊗ told-number y
+signals-piece : (p : Piece) → Signals (pieceText p) (isOdd p)
+signals-piece (point x) = signals-number x
+signals-piece (before x) = word "<" true refl ⊗ signals-number x
+signals-piece (after x) = word ">" true refl ⊗ signals-number x
+signals-piece (range less x more y) = signals-sign less "<" refl ⊗ signals-number x ⊗ word ".." false refl ⊗ signals-sign more ">" refl ⊗ signals-number y
+signals-piece (site x y) = signals-number x ⊗ word "^" true refl ⊗ signals-number y
 
-told-complement : (c : Bool) {F : Form} {b : Bool} → Told F b → Told (complement c F) b
-told-complement true f = behind (word "complement(" false refl ⊗ f) ")" refl
-told-complement false f = f
+signals-complement : (c : Bool) {F : Form} {b : Bool} → Signals F b → Signals (complement c F) b
+signals-complement true f = behind (word "complement(" false refl ⊗ f) ")" refl
+signals-complement false f = f
 
-told-member : (m : Member) → Told (memberText m) (isOdd (m .piece))
-told-member m = told-complement (m .complemented) (told-piece (m .piece))
+signals-member : (m : Member) → Signals (memberText m) (isOdd (m .piece))
+signals-member m = signals-complement (m .complemented) (signals-piece (m .piece))
 
-told-members : (c : Bool) (l : List Member) → Told (membersText c l) (any (λ (m : Member). isOdd (m .piece)) l)
-told-members c [] = word "" false refl
-told-members c (m ∷ []) = alone (where-so (told-member m))
-told-members c (m ∷ n ∷ l) = behind (where-so (told-member m)) "," refl ⊗ told-members c (n ∷ l)
+signals-members : (c : Bool) (l : List Member) → Signals (membersText c l) (any (λ (m : Member). isOdd (m .piece)) l)
+signals-members c [] = word "" false refl
+signals-members c (m ∷ []) = alone (where-so (signals-member m))
+signals-members c (m ∷ n ∷ l) = behind (where-so (signals-member m)) "," refl ⊗ signals-members c (n ∷ l)
 
-told : (t : Location) → Told (locationText t) (leavesUnjudged t)
-told (one m) = alone (told-member m)
-told (many c join l) = told-complement c (behind (word "join(" false refl ⊗ where-so (told-members c l)) ")" refl)
-told (many c order l) = told-complement c (behind (word "order(" true refl ⊗ where-so (told-members c l)) ")" refl)
+signals : (t : Location) → Signals (locationText t) (leavesUnjudged t)
+signals (one m) = alone (signals-member m)
+signals (many c join l) = signals-complement c (behind (word "join(" false refl ⊗ where-so (signals-members c l)) ")" refl)
+signals (many c order l) = signals-complement c (behind (word "order(" true refl ⊗ where-so (signals-members c l)) ")" refl)
 
 -- ---- the verdict by the signs
 
@@ -118,9 +118,9 @@ tell true false s h k = sym h ∙ k
 tell false true s h k = sym h ∙ k
 tell false false s h k = refl
 
-pub by-signs : {s : List ℕ} (v : Signs) → Signed s v → (a : Bool) → v ≡ signsFor a → Leaves s a
+pub by-signs : {s : List ℕ} (v : Signs) → Signed s v → (a : Bool) → v ≡ signsFor a → LeavesRegion s a
 by-signs {s} v j a e =
-    record { says = λ t x. tell a (leavesUnjudged t) s (subst (Signed s) e j) (rw (x .written) (told t .is 0 (x .text) (x .located .is))) }
+    record { says = λ t x. tell a (leavesUnjudged t) s (subst (Signed s) e j) (rw (x .written) (signals t .is 0 (x .text) (x .located .is))) }
 
 -- ---- the bytes one after another
 
@@ -131,14 +131,14 @@ any-at f (b ∷ s) zero h e = rw e
 any-at f (b ∷ s) (suc i) h e = rw (any-at f s i (omega arith) e) (or-true (f b))
 
 -- no byte before i is a sign
-pub record Passed (s : List ℕ) (i : ℕ) : Type 0 where
+pub record Unsigned (s : List ℕ) (i : ℕ) : Type 0 where
   pub left : any isSign s ≡ any isSign (drop i s)
 
-module _ {s : List ℕ} {i : ℕ} (p : Passed s i) where
-  pub passed-next : i < length s → ¬ (getD s i 0 ≡ code "d") → ¬ (getD s i 0 ≡ code "^") → ¬ (getD s i 0 ≡ code "&") → Passed s (i + 1)
-  passed-next h d c a =
+module _ {s : List ℕ} {i : ℕ} (p : Unsigned s i) where
+  pub unsigned-next : i < length s → ¬ (getD s i 0 ≡ code "d") → ¬ (getD s i 0 ≡ code "^") → ¬ (getD s i 0 ≡ code "&") → Unsigned s (i + 1)
+  unsigned-next h d c a =
       let b = getD s i 0 in
       record { left = p .left ∙ ap (any isSign) (suffix s i b h refl) ∙ rw (ne-eqb b (code "d") d, ne-eqb b (code "^") c, ne-eqb b (code "&") a) }
 
-  pub passed-all : length s ≤ i → any isSign s ≡ false
-  passed-all h = p .left ∙ ap (any isSign) (drop-of-length-le s h)
+  pub unsigned-all : length s ≤ i → any isSign s ≡ false
+  unsigned-all h = p .left ∙ ap (any isSign) (drop-of-length-le s h)

@@ -12,7 +12,7 @@ use Rattle.paper.proofs.Texts.{raw-once}
 use Rattle.paper.proofs.Locate.{locate-sound, locate-complete, locates-once}
 use Rattle.paper.proofs.Locate.Model.{read, wholly, locate}
 use Rattle.location_judge.specs.Places.{RestIs}
-use Rattle.location_judge.specs.Judging.{AreFacts, JudgedText, Spells, Judges, Leaves}
+use Rattle.location_judge.specs.Judging.{AreFacts, JudgedText, Spells, Judges, LeavesRegion}
 use Rattle.location_judge.specs.Readings.{Outs}
 use Rattle.location_judge.specs.declared.judging.Facts.{Facts}
 use Rattle.location_judge.specs.declared.judging.Out.the-variants as out-is
@@ -58,10 +58,10 @@ spells-once {t = t} {u} x y = locates-once t u (x .located) (read-as y (x .text)
 
 -- by the verdict: bytes that are no location, and those that are one
 module _ {s : List ℕ} (L : ℕ) (v : Judgement) (j : Judges s L v) where
-  pub leaves-none : {r : Bool} → v ≡ Bad → Leaves s r
+  pub leaves-none : {r : Bool} → v ≡ Bad → LeavesRegion s r
   leaves-none e = record { says = λ t x. absurd (subst (Judges s L) e j t x) }
 
-  pub leaves-is : {f : Facts} → v ≡ Is f → Leaves s (f .unjudged)
+  pub leaves-is : {f : Facts} → v ≡ Is f → LeavesRegion s (f .unjudged)
   leaves-is e = record { says = λ t x. let k = subst (Judges s L) e j in k .2 .unjudged ∙ ap leavesUnjudged (spells-once (k .1) x) }
 
 -- the verdict on the text as read

@@ -58,8 +58,8 @@ Signed s Odd = any isOddSign s ≡ true
 Signed s Open = Unit {0}
 
 -- of whichever location the bytes are
-pub record Leaves (s : List ℕ) (r : Bool) : Type 0 where
+pub record LeavesRegion (s : List ℕ) (r : Bool) : Type 0 where
   pub says : (t : Location) → Spells s t → r ≡ leavesUnjudged t
 
 pub record LeavesPart (s : List ℕ) (from to : ℕ) (r : Bool) : Type 0 where
-  pub is : (w : List ℕ) → ShowsBytes s from to w → Leaves w r
+  pub is : (w : List ℕ) → ShowsBytes s from to w → LeavesRegion w r

@@ -11,7 +11,7 @@ ghost use mathlib.Core.Bool.{_||_};
 ghost use Prim.Native.Nat.{_<_};
 ghost use Rattle.paper.proofs.Locate.Model;
 ghost use Rattle.location_judge.specs.Readings.{Outs, withMember};
-ghost use Rattle.location_judge.specs.Judging.{Judges, JudgesPart, Signed, Leaves, LeavesPart};
+ghost use Rattle.location_judge.specs.Judging.{Judges, JudgesPart, Signed, LeavesRegion, LeavesPart};
 
 // What is asked of a location, for a sequence of L residues.
 pub struct Facts {
@@ -222,7 +222,7 @@ fn first_sign(s: &[u8]) -> Signs
 
 // Whether the location that the bytes s of a part are written from leaves its region unjudged. Most are told by their signs, unread.
 fn unjudged(s: &[u8], top: u32) -> bool
-    ensures { λ r. ⌜ Leaves (now (s .entry)) r ⌝ }
+    ensures { λ r. ⌜ LeavesRegion (now (s .entry)) r ⌝ }
 {
     match first_sign(s) {
         Signs::Plain => false,

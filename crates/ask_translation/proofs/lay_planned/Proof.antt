@@ -35,8 +35,8 @@ bytes-of-requires-2 c κs = search needs
 bytes-of-requires-3 : tie.Need-bytes-of-requires-3
 bytes-of-requires-3 c κs = search needs
 
-lay-letters-requires : tie.Need-lay-letters-requires
-lay-letters-requires c κs =
+lay-translation-requires : tie.Need-lay-translation-requires
+lay-translation-requires c κs =
     let pre' = c .before .before .before .before .before .before .before .before .pre in
     coded-1 (pre')
 
@@ -79,8 +79,8 @@ returns-4 c =
     let plan2 = c .before .before .before .before .before .before .before .before .before .before .plan2 in
     let bytes-of2 = c .before .before .before .before .before .before .before .before .bytes-of2 in
     let bytes-of3 = c .before .before .before .before .before .before .before .bytes-of3 in
-    let lay-letters = c .before .before .before .before .before .lay-letters in
-    planned-is (args .known) (code-1 (pre')) (plan2 .given .1) (bytes-of2 .ensures) (bytes-of3 .ensures) (lay-letters .ensures)
+    let lay-translation = c .before .before .before .before .before .lay-letters in
+    planned-is (args .known) (code-1 (pre')) (plan2 .given .1) (bytes-of2 .ensures) (bytes-of3 .ensures) (lay-translation .ensures)
     (c .before .n .given .1)
 
 same-length-3 : tie.Need-same-length-3
@@ -93,8 +93,8 @@ returns-5 c =
     let plan2 = c .before .before .before .before .before .before .before .before .before .before .plan2 in
     let bytes-of2 = c .before .before .before .before .before .before .before .before .bytes-of2 in
     let bytes-of3 = c .before .before .before .before .before .before .before .bytes-of3 in
-    let lay-letters = c .before .before .before .before .before .lay-letters in
-    planned-short (args .known) (code-1 (pre')) (plan2 .given .1) (bytes-of2 .ensures) (bytes-of3 .ensures) (lay-letters .ensures)
+    let lay-translation = c .before .before .before .before .before .lay-letters in
+    planned-short (args .known) (code-1 (pre')) (plan2 .given .1) (bytes-of2 .ensures) (bytes-of3 .ensures) (lay-translation .ensures)
     (c .before .enum-told3 .given .1) (c .nothing-lent3 .ensures)
 
 same-length-4 : tie.Need-same-length-4
@@ -107,8 +107,8 @@ returns-6 c =
     let plan2 = c .before .before .before .before .before .before .before .before .before .before .plan2 in
     let bytes-of2 = c .before .before .before .before .before .before .before .before .bytes-of2 in
     let bytes-of3 = c .before .before .before .before .before .before .before .bytes-of3 in
-    let lay-letters = c .before .before .before .before .before .lay-letters in
-    planned-stop (args .known) (code-1 (pre')) (plan2 .given .1) (bytes-of2 .ensures) (bytes-of3 .ensures) (lay-letters .ensures)
+    let lay-translation = c .before .before .before .before .before .lay-letters in
+    planned-stop (args .known) (code-1 (pre')) (plan2 .given .1) (bytes-of2 .ensures) (bytes-of3 .ensures) (lay-translation .ensures)
     (c .before .enum-told4 .given .1) (c .nothing-lent4 .ensures)
 
 pub lay-planned-spec : {M : Type 1} → statement M
@@ -125,7 +125,7 @@ lay-planned-spec =
     enum-known-plan-2
     bytes-of-requires-2
     bytes-of-requires-3
-    lay-letters-requires
+    lay-translation-requires
     enum-known-n
     enum-told-3
     nothing-lent-requires-3

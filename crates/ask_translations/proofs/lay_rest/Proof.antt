@@ -3,13 +3,13 @@ use Prim.Native.Nat.{_-_}
 use native.Mathlib.Omega.{arith}
 use lib.ListN.{length}
 use Rattle.ask_translations.proofs.Walks.{planned-passes}
-use Rattle.ask_translations.proofs.AllLines.{Laying, laying-none, laying-more, laying-stuck, laying-done}
+use Rattle.ask_translations.proofs.AllLines.{LayingLines, laying-none, laying-more, laying-stuck, laying-done}
 use borrow.Author.Needs.{needs}
 use Rattle.ask_translations.proofs.lay_rest.Statement.{statement}
 use Rattle.ask_translations.proofs.lay_rest.Tie as tie
 
 abbrev Inv-loop : tie.InvT-loop
-Inv-loop s first known writing code vocabulary out₀ at₀ laid₀ out at laid = Laying s first at known laid₀ writing out₀ laid out
+Inv-loop s first known writing code vocabulary out₀ at₀ laid₀ out at laid = LayingLines s first at known laid₀ writing out₀ laid out
 
 abbrev μ-loop : tie.MeasureT-loop
 μ-loop s first known writing code vocabulary out₀ at₀ laid₀ out at laid = length s - at

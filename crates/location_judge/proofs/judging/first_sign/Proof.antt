@@ -3,13 +3,13 @@ use Prim.Native.Nat.{_-_}
 use lib.ListN.{length}
 use mathlib.Core.Path.{ap}
 use Rattle.location_judge.specs.Judging.{isOddSign}
-use Rattle.location_judge.proofs.Signs.{Passed, any-at, passed-next, passed-all}
+use Rattle.location_judge.proofs.Signs.{Unsigned, any-at, unsigned-next, unsigned-all}
 use borrow.Author.Needs.{needs}
 use Rattle.location_judge.proofs.judging.first_sign.Statement.{statement}
 use Rattle.location_judge.proofs.judging.first_sign.Tie as tie
 
 abbrev Inv-loop : tie.InvT-loop
-Inv-loop s i₀ i = Passed s i
+Inv-loop s i₀ i = Unsigned s i
 
 abbrev μ-loop : tie.MeasureT-loop
 μ-loop s i₀ i = length s - i
@@ -43,11 +43,11 @@ loop-less c = search needs
 loop-again : tie.Need-loop-again Inv-loop μ-loop
 loop-again c =
     let loop' = c .before .before .before .before .before .loop in
-    passed-next (loop' .inv) (c .before .before .before .before .loop-test .taken) (c .before .before .if1 .left) (c .before .if2 .left)
+    unsigned-next (loop' .inv) (c .before .before .before .before .loop-test .taken) (c .before .before .if1 .left) (c .before .if2 .left)
     (c .if3 .left)
 
 returns-4 : tie.Need-returns-4 Inv-loop μ-loop
-returns-4 c = passed-all (c .before .loop .inv) (c .loop-test .left)
+returns-4 c = unsigned-all (c .before .loop .inv) (c .loop-test .left)
 
 pub first-sign-spec : {M : Type 1} → statement M
 first-sign-spec =
