@@ -79,7 +79,7 @@ returns-4 c =
     let plan2 = c .before .before .before .before .before .before .before .before .before .before .plan2 in
     let bytes-of2 = c .before .before .before .before .before .before .before .before .bytes-of2 in
     let bytes-of3 = c .before .before .before .before .before .before .before .bytes-of3 in
-    let lay-translation = c .before .before .before .before .before .lay-letters in
+    let lay-translation = c .before .before .before .before .before .lay-translation in
     planned-is (args .known) (code-1 (pre')) (plan2 .given .1) (bytes-of2 .ensures) (bytes-of3 .ensures) (lay-translation .ensures)
     (c .before .n .given .1)
 
@@ -93,7 +93,7 @@ returns-5 c =
     let plan2 = c .before .before .before .before .before .before .before .before .before .before .plan2 in
     let bytes-of2 = c .before .before .before .before .before .before .before .before .bytes-of2 in
     let bytes-of3 = c .before .before .before .before .before .before .before .bytes-of3 in
-    let lay-translation = c .before .before .before .before .before .lay-letters in
+    let lay-translation = c .before .before .before .before .before .lay-translation in
     planned-short (args .known) (code-1 (pre')) (plan2 .given .1) (bytes-of2 .ensures) (bytes-of3 .ensures) (lay-translation .ensures)
     (c .before .enum-told3 .given .1) (c .nothing-lent3 .ensures)
 
@@ -107,7 +107,7 @@ returns-6 c =
     let plan2 = c .before .before .before .before .before .before .before .before .before .before .plan2 in
     let bytes-of2 = c .before .before .before .before .before .before .before .before .bytes-of2 in
     let bytes-of3 = c .before .before .before .before .before .before .before .bytes-of3 in
-    let lay-translation = c .before .before .before .before .before .lay-letters in
+    let lay-translation = c .before .before .before .before .before .lay-translation in
     planned-stop (args .known) (code-1 (pre')) (plan2 .given .1) (bytes-of2 .ensures) (bytes-of3 .ensures) (lay-translation .ensures)
     (c .before .enum-told4 .given .1) (c .nothing-lent4 .ensures)
 
