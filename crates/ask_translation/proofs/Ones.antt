@@ -92,7 +92,8 @@ module _ {s out : List ℕ} {known : Known} {g : FoundFeature} {p : Plan} {on : 
             record { outcome = refuse 36 0; translates = Translates.unjudged (y .0) (y .1); laid = refused-as e Lent.refused };
       }
 
-  pub planned-given : {v : Range} {w after : List ℕ} {r : LentAnswer} → p ≡ Given v → ShowsBytes s (v .from) (v .to) w → LentIf on out (give w) r after → LaysPlanned s known g p on out r after
+  pub planned-given : {v : Range} {w after : List ℕ} {r : LentAnswer} → p ≡ Given v → ShowsBytes s (v .from) (v .to) w → LentIf on out (give w) r after
+      → LaysPlanned s known g p on out r after
   planned-given {w = w} {after} {r} z shown l =
       record {
         says =

@@ -9,6 +9,7 @@ use mathlib.Core.Option.{Option, none, some, Option·none-ne-some}
 use lib.ListN.{drop}
 use Rattle.paper.specs.Bytes.{bytes, raw, all}
 use Rattle.paper.specs.Lists.{_∈_}
+use Rattle.paper.specs.Form.{each}
 use Rattle.paper.specs.Layout.{child, qualifier}
 use Rattle.paper.specs.Tree.{Text, Sequence, Feature, Qualifier, opt, qualifiersOf}
 use Rattle.paper.specs.Translation.{code1, codingText, dropStop, hasStopInside}
@@ -18,11 +19,11 @@ use Rattle.paper.proofs.Leading.{all?}
 use Rattle.paper.proofs.Texts.{raw-once}
 use Rattle.paper.proofs.Locate.{locate-sound, locate-complete}
 use Rattle.paper.proofs.Locate.Model.{locate}
-use Rattle.read_steps.specs.Follow.{closing}
+use Rattle.read_steps.specs.Follow.{Starts, closing}
 use Rattle.read_steps.specs.Parts.{ShowsBytes}
 use Rattle.value_words.specs.Reading.{Tells}
 use Rattle.value_words.proofs.Tests.{tells-true, tells-false}
-use Rattle.walk_steps.specs.Stands.{MaybeIs, TellsChild}
+use Rattle.walk_steps.specs.Stands.{MaybeIs, TellsChild, Over}
 use Rattle.walk_steps.proofs.Loops.{left-some}
 use Rattle.walk_items.proofs.Features.{qualifier-leads}
 use Rattle.walk_steps.specs.declared.Range.{Range}
@@ -124,16 +125,19 @@ module _ {s t : List ℕ} {g : FoundFeature} {x : Noted} (notes : Notes s (g .qu
       leaves-by-location f (tells-false (x .excepted) z (noted i .says .left)) u (t .0) (t .1)
       (part .is (raw (f .location .read)) (text-shown (i .location)) .says (t .0) spelt)
 
-module _ {s wk t : List ℕ} {known : Known} {g : FoundFeature} {x : Noted} {named : Bool} (notes : Notes s (g .quals) false 0 t x)
-    (sk : ShowsBytes s (g .key .from) (g .key .to) wk) (nc : NamesCoding wk (known .kind) named) where
-  plans : {p : Plan} → ((q : Sequence ℕ) (f : Feature ℕ) (e : ℕ) → Knows s q known → IsFeature s f e g → Keeps q f → PlanIs s q f p)
-      → Plans s known g (record { plan = p; next = x .next })
-  plans h = record { says = h; ends = λ f e i. noted notes i .next }
+module _ {s wk : List ℕ} {known : Known} {g : FoundFeature} {named : Bool} (sk : ShowsBytes s (g .key .from) (g .key .to) wk) (nc : NamesCoding wk (known .kind) named) where
+  pub plan-none : {n : ℕ} → named ≡ false → Over (each (child qualifier)) (Starts closing) s (g .quals) n → Plans s known g (record { plan = NoCds; next = n })
+  plan-none h over =
+      record {
+        says = λ q f e k i keeps. tells-false named h (nc .says q f (k .kind) (part-shows (i .key) sk));
+        ends = λ f e i. over .is (qualifiersOf f) (i .stop) (i .quals) (i .closes);
+      }
 
-  pub plan-none : named ≡ false → Plans s known g (record { plan = NoCds; next = x .next })
-  plan-none h = plans (λ q f e k i keeps. tells-false named h (nc .says q f (k .kind) (part-shows (i .key) sk)))
+  module _ {t : List ℕ} {x : Noted} (h : named ≡ true) (notes : Notes s (g .quals) false 0 t x) where
+    plans : {p : Plan} → ((q : Sequence ℕ) (f : Feature ℕ) (e : ℕ) → Knows s q known → IsFeature s f e g → Keeps q f → PlanIs s q f p)
+        → Plans s known g (record { plan = p; next = x .next })
+    plans by = record { says = by; ends = λ f e i. noted notes i .next }
 
-  module _ (h : named ≡ true) where
     coding : {q : Sequence ℕ} {f : Feature ℕ} {e : ℕ} → Knows s q known → IsFeature s f e g → Coding q f
     coding {q} {f} k i = tells-true named h (nc .says q f (k .kind) (part-shows (i .key) sk))
 

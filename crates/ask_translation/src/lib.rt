@@ -69,6 +69,14 @@ pub fn plan_of(s: &[u8], known: Known, feature: FoundFeature, vocabulary: &[u8; 
     requires { ⌜ VocabularyTable (now vocabulary) ⌝ }
     ensures { λ r. ⌜ Plans (now (s .entry)) known feature r ⌝ }
 {
+    let name = bytes_of(s, feature.key.from, feature.key.to);
+    let kind = known.kind;
+    if !is_coding(name, kind) {
+        return Planned {
+            plan: Plan::NoCds,
+            next: walk_items::qualifiers_over(s, feature.quals),
+        };
+    }
     let Noted {
         frame,
         excepted,
@@ -78,21 +86,13 @@ pub fn plan_of(s: &[u8], known: Known, feature: FoundFeature, vocabulary: &[u8; 
         rest,
         next,
     } = note(s, feature.quals, false, 0, vocabulary);
-    let name = bytes_of(s, feature.key.from, feature.key.to);
-    let kind = known.kind;
-    if !is_coding(name, kind) {
-        return Planned {
-            plan: Plan::NoCds,
-            next,
-        };
-    }
     if excepted {
         return Planned {
             plan: Plan::Unjudged,
             next,
         };
     }
-    if leaves_unjudged(s, feature.location.from, feature.location.to, known.top) {
+    if leaves_unjudged(s, feature.location.from, feature.location.to) {
         return Planned {
             plan: Plan::Unjudged,
             next,

@@ -58,7 +58,8 @@ pass-lent true out at h {y} (Lays.written k) =
     let p = puts-lent out at h {y = y} (record { ends = refl; is = refl }) in
     subst₂ (Lays [] at y out (passOf true) true) (sym (p .ends)) (sym (p .is)) (Lays.written (omega (arith, k, length-lent out at h)))
 pass-lent true out at h {y} {ys} (Lays.short k l) =
-    subst (λ (e : ℕ). Lays [] at y out (passOf true) false e (back out at ys)) (omega (arith, length-lent out at h)) (Lays.short (omega (arith, k, length-lent out at h)) (length-back out at h ys l))
+    subst (λ (e : ℕ). Lays [] at y out (passOf true) false e (back out at ys)) (omega (arith, length-lent out at h))
+    (Lays.short (omega (arith, k, length-lent out at h)) (length-back out at h ys l))
 pass-lent false out at h {y} (Lays.measured k) =
     subst (Lays [] at y out (passOf false) _ _) (sym (puts-lent out at h puts-none .is)) (Lays.measured (inside k))
   where

@@ -30,7 +30,7 @@ or-assoc : (a b c : Bool) → ((a || b) || c) ≡ (a || (b || c))
 or-assoc true b c = refl
 or-assoc false b c = refl
 
-pub any-append : {A : Type 0} (f : A → Bool) (l k : List A) → (any f l || any f k) ≡ any f (l ++ k)
+any-append : {A : Type 0} (f : A → Bool) (l k : List A) → (any f l || any f k) ≡ any f (l ++ k)
 any-append f [] k = refl
 any-append f (a ∷ l) k = or-assoc (f a) (any f l) (any f k) ∙ ap (λ (b : Bool). f a || b) (any-append f l k)
 

@@ -2,17 +2,17 @@
 use Prim.Native.Nat.{ℕ, _≤_, _<_}
 use native.Mathlib.Omega.{arith}
 use mathlib.Core.Path.{_≡_, refl, sym, ap, _∙_, subst}
-use mathlib.Core.Bool.{Bool, true}
+use mathlib.Core.Bool.{true}
 use mathlib.Core.Option.{none, some, Option·none-ne-some}
 use mathlib.Core.List.{List, [], _∷_, _++_, append-nil}
 use lib.ListN.{length, length-drop, drop-of-length-le}
 use Rattle.paper.specs.Bytes.{raw}
-use Rattle.paper.specs.Locations.{Location, Locates, leavesUnjudged}
+use Rattle.paper.specs.Locations.{Location, Locates}
 use Rattle.paper.proofs.Texts.{raw-once}
 use Rattle.paper.proofs.Locate.{locate-sound, locate-complete, locates-once}
 use Rattle.paper.proofs.Locate.Model.{read, wholly, locate}
 use Rattle.location_judge.specs.Places.{RestIs}
-use Rattle.location_judge.specs.Judging.{AreFacts, JudgedText, Spells, Judges, LeavesRegion}
+use Rattle.location_judge.specs.Judging.{AreFacts, JudgedText, Spells, Judges}
 use Rattle.location_judge.specs.Readings.{Outs}
 use Rattle.location_judge.specs.declared.judging.Facts.{Facts}
 use Rattle.location_judge.specs.declared.judging.Out.the-variants as out-is
@@ -55,14 +55,6 @@ read-as {t = t} x w e = subst (Locates t) (raw-once (x .text) w (sym (x .written
 
 pub spells-once : {s : List ℕ} {t u : Location} → Spells s t → Spells s u → t ≡ u
 spells-once {t = t} {u} x y = locates-once t u (x .located) (read-as y (x .text) (x .written))
-
--- by the verdict: bytes that are no location, and those that are one
-module _ {s : List ℕ} (L : ℕ) (v : Judgement) (j : Judges s L v) where
-  pub leaves-none : {r : Bool} → v ≡ Bad → LeavesRegion s r
-  leaves-none e = record { says = λ t x. absurd (subst (Judges s L) e j t x) }
-
-  pub leaves-is : {f : Facts} → v ≡ Is f → LeavesRegion s (f .unjudged)
-  leaves-is e = record { says = λ t x. let k = subst (Judges s L) e j in k .2 .unjudged ∙ ap leavesUnjudged (spells-once (k .1) x) }
 
 -- the verdict on the text as read
 pub judged-by : {s : List ℕ} (L : ℕ) (r : Judgement) → Judges s L r → (w : List ℕ) → s ≡ raw w → JudgedText L w r

@@ -1,17 +1,15 @@
 -- What is promised of the judgement of a location.
 use Prim.Native.Nat.{ℕ}
 use mathlib.Core.Path.{_≡_}
-use mathlib.Core.Bool.{Bool, true, false}
+use mathlib.Core.Bool.{Bool}
 use mathlib.Core.List.{List}
 use lib.ListN.{length}
-use Rattle.paper.specs.Bytes.{bytes, among, raw}
-use Rattle.paper.specs.Locations.{Location, Locates, spans, operatorNumber, any, breaks25, hasComplement, leavesUnjudged}
+use Rattle.paper.specs.Bytes.{raw}
+use Rattle.paper.specs.Locations.{Location, Locates, spans, operatorNumber, breaks25, hasComplement, leavesUnjudged}
 use Rattle.read_steps.specs.Parts.{ShowsBytes}
 use Rattle.location_judge.specs.declared.judging.Facts.{Facts}
 use Rattle.location_judge.specs.declared.judging.Judgement.{Judgement}
 use Rattle.location_judge.specs.declared.judging.Judgement.the-variants.{Bad, Is}
-use Rattle.location_judge.specs.declared.judging.Signs.{Signs}
-use Rattle.location_judge.specs.declared.judging.Signs.the-variants.{Plain, Odd, Open}
 
 -- the facts of the location t, for a sequence of L residues
 pub record AreFacts (L : ℕ) (t : Location) (f : Facts) : Type 0 where
@@ -42,20 +40,6 @@ pub record JudgesPart (s : List ℕ) (from to L : ℕ) (r : Judgement) : Type 0 
   pub is : (w : List ℕ) → ShowsBytes s from to w → Judges w L r
 
 -- ---- whether a location leaves its region unjudged
-
--- `order(` and a site have one of these bytes, and nothing else in a location has
-abbrev pub isOddSign : ℕ → Bool
-isOddSign = among (bytes "d^")
-
--- as they are written, `<` and `>` have one of these too
-abbrev pub isSign : ℕ → Bool
-isSign = among (bytes "d^&")
-
--- the bytes have no sign; they have an odd one; or nothing is said of them
-abbrev pub Signed : List ℕ → Signs → Type 0
-Signed s Plain = any isSign s ≡ false
-Signed s Odd = any isOddSign s ≡ true
-Signed s Open = Unit {0}
 
 -- of whichever location the bytes are
 pub record LeavesRegion (s : List ℕ) (r : Bool) : Type 0 where

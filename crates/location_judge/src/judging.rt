@@ -7,11 +7,11 @@ use crate::pieces::is_wrong;
 use crate::pieces::piece;
 use read_bytes::begins;
 ghost use mathlib.Core.Path.{_≡_};
-ghost use mathlib.Core.Bool.{_||_};
+ghost use mathlib.Core.Bool.{_&&_, _||_, not};
 ghost use Prim.Native.Nat.{_<_};
 ghost use Rattle.paper.proofs.Locate.Model;
 ghost use Rattle.location_judge.specs.Readings.{Outs, withMember};
-ghost use Rattle.location_judge.specs.Judging.{Judges, JudgesPart, Signed, LeavesRegion, LeavesPart};
+ghost use Rattle.location_judge.specs.Judging.{Judges, JudgesPart, LeavesRegion, LeavesPart};
 
 // What is asked of a location, for a sequence of L residues.
 pub struct Facts {
@@ -37,16 +37,6 @@ pub enum Judgement {
 enum Out {
     Bad,
     Read(usize, Facts),
-}
-
-// Signs that tell of a location whether it leaves its region unjudged.
-enum Signs {
-    // None of `d`, `^` and `&`: no order, no site, no `<` and no `>`.
-    Plain,
-    // `d` or `^`: an order, or a site.
-    Odd,
-    // `&`, so `<` or `>`, which a range may have too.
-    Open,
 }
 
 // A segment, and where far holds a site.
@@ -199,44 +189,51 @@ pub fn judge_location(s: &[u8], from: usize, to: usize, top: u32) -> Judgement
     judge(read_steps::bytes_of(s, from, to), top)
 }
 
-// The first sign in the bytes s of a part.
-fn first_sign(s: &[u8]) -> Signs
-    ensures { λ r. ⌜ Signed (now (s .entry)) r ⌝ }
+// Bytes between two commas are a lone `<x` or `>x`: `&` stands in them, as `<` and `>` are written, and `.` doesn't.
+fn is_lone(signed: bool, ranged: bool) -> bool
+    ensures { λ r. ⌜ r ≡ not ranged && signed ⌝ }
+{
+    if ranged {
+        return false;
+    }
+    signed
+}
+
+// Whether the location that the bytes s of a part are written from leaves its region unjudged. It isn't read again: `d` stands only in an
+// order, `^` only in a site; and between two commas `&` without `.` is a lone `<x` or `>x`.
+fn unjudged(s: &[u8]) -> bool
+    ensures { λ r. ⌜ LeavesRegion (now (s .entry)) r ⌝ }
 {
     let mut i: usize = 0;
+    // `&` and `.` since the last comma.
+    let mut signed = false;
+    let mut ranged = false;
     while i < s.len() {
         let b = s[i];
         if b == b'd' {
-            return Signs::Odd;
+            return true;
         }
         if b == b'^' {
-            return Signs::Odd;
+            return true;
         }
-        if b == b'&' {
-            return Signs::Open;
+        if b == b',' {
+            if is_lone(signed, ranged) {
+                return true;
+            }
+            signed = false;
+            ranged = false;
+        } else {
+            signed = either(b == b'&', signed);
+            ranged = either(b == b'.', ranged);
         }
         i += 1;
     }
-    Signs::Plain
-}
-
-// Whether the location that the bytes s of a part are written from leaves its region unjudged. Most are told by their signs, unread.
-fn unjudged(s: &[u8], top: u32) -> bool
-    ensures { λ r. ⌜ LeavesRegion (now (s .entry)) r ⌝ }
-{
-    match first_sign(s) {
-        Signs::Plain => false,
-        Signs::Odd => true,
-        Signs::Open => match judge(s, top) {
-            Judgement::Bad => false,
-            Judgement::Is(f) => f.unjudged,
-        },
-    }
+    is_lone(signed, ranged)
 }
 
 // The same of the location that stands in the listing s from `from` to before `to`.
-pub fn leaves_unjudged(s: &[u8], from: usize, to: usize, top: u32) -> bool
+pub fn leaves_unjudged(s: &[u8], from: usize, to: usize) -> bool
     ensures { λ r. ⌜ LeavesPart (now (s .entry)) from to r ⌝ }
 {
-    unjudged(read_steps::bytes_of(s, from, to), top)
+    unjudged(read_steps::bytes_of(s, from, to))
 }

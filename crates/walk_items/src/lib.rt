@@ -99,7 +99,7 @@ pub fn feature_end(s: &[u8], at: usize, long: bool) -> usize
 }
 
 // Past the qualifiers that stand here.
-fn qualifiers_over(s: &[u8], first: usize) -> usize
+pub fn qualifiers_over(s: &[u8], first: usize) -> usize
     ensures { λ r. ⌜ Over (each (Form.child Form.qualifier)) (Starts closing) (now (s .entry)) first r ⌝ }
 {
     let mut at = first;
