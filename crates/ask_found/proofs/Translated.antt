@@ -43,7 +43,11 @@ module _ {w : List ℕ} {known : Known} {g : FoundFeature} {out : List ℕ} {r :
         says =
             λ k j q f e finds knows is.
             let y = t .says q f e knows is (feature-keeps finds) in
-            record { outcome = y .outcome; finds = paper.feature finds (y .translates); lent = y .lent };
+            record {
+              outcome = y .outcome;
+              finds = paper.feature finds (y .translates);
+              lent = subst (Lent out (y .outcome) (r .number) (r .place) (r .size)) (sym (y .laid .is)) (y .laid .lent);
+            };
       }
 
   pub translations-found : TranslatesAll w known g out r after

@@ -1,7 +1,7 @@
 -- One translation, measured or written into lent bytes.
 use Prim.Native.Nat.{ℕ, _≤_, _<_}
 use native.Mathlib.Omega.{arith}
-use mathlib.Core.Path.{_≡_, refl, sym, subst, subst₂}
+use mathlib.Core.Path.{_≡_, refl, sym, _∙_, subst, subst₂}
 use mathlib.Core.Bool.{Bool, true, false, cond}
 use mathlib.Core.List.{List}
 use lib.ListN.{length}
@@ -33,19 +33,18 @@ use Rattle.ask_translation.proofs.Planning.{found-cds}
 
 -- ---- measured, or written too
 
--- what is left as it was
-lent-same : (on : Bool) {out : List ℕ} {o : Outcome (List ℕ)} {r : LentAnswer} → Lent out o (r .number) (r .place) (r .size) out → LentIf on out o r out
-lent-same true {out} h = record { later = out; lent = h; is = refl }
-lent-same false {out} h = record { later = out; lent = h; is = refl }
-
--- whatever is said of what was lent, said of it afterwards
-as-was : (on : Bool) {out after : List ℕ} {o : Outcome (List ℕ)} {r : LentAnswer} → after ≡ cond on out out → LentIf on out o r out → LentIf on out o r after
-as-was true {out} {o = o} {r} e h = subst (LentIf true out o r) (sym e) h
-as-was false {out} {o = o} {r} e h = subst (LentIf false out o r) (sym e) h
+-- what a refusal leaves, whether it was to be written or not
+pub either-way : (on : Bool) (out : List ℕ) → out ≡ cond on out out
+either-way true out = refl
+either-way false out = refl
 
 -- a refusal that was answered
 refused-as : {on : Bool} {out : List ℕ} {o : Outcome (List ℕ)} {r : LentAnswer} {n : ℕ} → r ≡ nothingLent n 0 → Lent out o n 0 0 out → LentIf on out o r out
-refused-as {on} {out} {o} e h = subst (λ (r : LentAnswer). LentIf on out o r out) (sym e) (lent-same on h)
+refused-as {on} {out} {o} e h = subst (λ (r : LentAnswer). LentIf on out o r out) (sym e) (record { later = out; lent = h; is = either-way on out })
+
+-- said of what is there afterwards
+as-was : (on : Bool) {out after : List ℕ} {o : Outcome (List ℕ)} {r : LentAnswer} → after ≡ cond on out out → LentIf on out o r out → LentIf on out o r after
+as-was on {out} {o = o} {r} e h = subst (LentIf on out o r) (either-way on out ∙ sym e) h
 
 pub text-laid : {text out given after : List ℕ} (on : Bool) {t : Bool} {end : ℕ} {p : Pass} → p ≡ passOf on → length text ≤ length out → Lays given 0 text out p t end after
     → LentIf on out (give text) (record { number = 0; place = 0; size = length text }) after
@@ -147,10 +146,4 @@ module _ {s out : List ℕ} (known : Known) {g : FoundFeature} {p : Plan} {on : 
 
 pub translated : {s out after : List ℕ} {known : Known} {g : FoundFeature} {x : Planned} {r : LentAnswer} → Plans s known g x → LaysPlanned s known g (x .plan) true out r after
     → TranslatesOne s known g out r after
-translated {out = out} {r = r} plans l =
-    record {
-      says =
-          λ q f e k i keeps.
-          let y = l .says q f e k i (plans .says q f e k i keeps) in
-          record { outcome = y .outcome; translates = y .translates; lent = subst (Lent out (y .outcome) (r .number) (r .place) (r .size)) (sym (y .laid .is)) (y .laid .lent) };
-    }
+translated plans l = record { says = λ q f e k i keeps. l .says q f e k i (plans .says q f e k i keeps) }

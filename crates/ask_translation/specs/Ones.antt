@@ -52,10 +52,5 @@ pub record GivesIf (on : Bool) (q : Sequence ℕ) (f : Feature ℕ) (out : List 
 pub record LaysPlanned (s : List ℕ) (known : Known) (g : FoundFeature) (p : Plan) (on : Bool) (out : List ℕ) (r : LentAnswer) (after : List ℕ) : Type 0 where
   pub says : (q : Sequence ℕ) (f : Feature ℕ) (e : ℕ) → Knows s q known → IsFeature s f e g → PlanIs s q f p → GivesIf on q f out r after
 
-pub record Gives (q : Sequence ℕ) (f : Feature ℕ) (out : List ℕ) (r : LentAnswer) (after : List ℕ) : Type 0 where
-  pub outcome : Outcome (List ℕ)
-  pub translates : Translates q f outcome
-  pub lent : Lent out outcome (r .number) (r .place) (r .size) after
-
 pub record TranslatesOne (s : List ℕ) (known : Known) (g : FoundFeature) (out : List ℕ) (r : LentAnswer) (after : List ℕ) : Type 0 where
-  pub says : (q : Sequence ℕ) (f : Feature ℕ) (e : ℕ) → Knows s q known → IsFeature s f e g → Keeps q f → Gives q f out r after
+  pub says : (q : Sequence ℕ) (f : Feature ℕ) (e : ℕ) → Knows s q known → IsFeature s f e g → Keeps q f → GivesIf true q f out r after

@@ -11,7 +11,7 @@ use Rattle.paper.proofs.Once.{lines-once}
 use Rattle.lent_room.specs.Room.{InRoom, fits, Lays}
 use Rattle.lent_room.specs.declared.Laid.{Laid}
 use Rattle.lent_room.proofs.Laws.{sets-front}
-use Rattle.lent_room.proofs.Passes.{more-none, more-then}
+use Rattle.lent_room.proofs.Passes.{lays-written, more-none, more-then, fits-inside}
 use Rattle.walk_steps.specs.Stands.{TellsChild}
 use Rattle.walk_steps.proofs.Places.{from}
 use Rattle.walk_items.specs.Items.{MeetsFeature, PassesFeature}
@@ -98,13 +98,10 @@ short-by : {x room : List ℕ} {t : Bool} {end : ℕ} → InRoom (length x) 0 (l
 short-by (fits h) e = absurd (true≢false e)
 short-by {x} (InRoom.short h) e = Lent.short {x = x} (omega (arith, h))
 
-fits-by : {n m end : ℕ} {t : Bool} → InRoom n 0 m t end → t ≡ true → n ≤ m
-fits-by (fits h) e = omega (arith, h)
-fits-by (InRoom.short h) e = absurd (true≢false (sym e))
-
 written-by : {x room after : List ℕ} {t : Bool} {end : ℕ} → length x ≤ length room → Lays [] 0 x room (passOf true) t end after → Lent room (give x) 0 0 end after
-written-by {x} {room} h (Lays.written k) = subst₂ (Lent room (give x) 0 0) (omega arith) (sym (sets-front x room h)) (Lent.written h)
-written-by h (Lays.short k l) = absurd (omega (arith, h, k))
+written-by {x} {room} h l =
+    let p = lays-written l (omega (arith, h)) in
+    subst₂ (Lent room (give x) 0 0) (omega (arith, p .ends)) (sym (p .is ∙ sets-front x room h)) (Lent.written h)
 
 module _ {s out mid : List ℕ} {known : Known} {g : FoundFeature} {r : Laid} (m : LaysAll s known g false out r mid) where
   pub all-short : {v : LentAnswer} → r .on ≡ false → v ≡ nothingLent 34 0 → TranslatesAll s known g out v mid
@@ -126,10 +123,11 @@ module _ {s out mid : List ℕ} {known : Known} {g : FoundFeature} {r : Laid} (m
             let a = m .says q k f keep in
             let b = measured-as (a .laid) in
             let c = w .says q k f keep in
-            let fit : length (c .lines) ≤ length out = subst (λ (x : List ℕ). length x ≤ length out) (lines-once (a .are) (c .are)) (fits-by (b .1) e) in
+            let measured : length (a .lines) ≤ length out = omega (arith, fits-inside (b .1) e) in
+            let written : length (c .lines) ≤ length out = subst (λ (x : List ℕ). length x ≤ length out) (lines-once (a .are) (c .are)) measured in
             record {
               lines = c .lines;
               are = c .are;
-              lent = written-by fit (subst (λ (y : List ℕ). Lays [] 0 (c .lines) y (passOf true) (v .on) (v .at) after) (b .0) (c .laid));
+              lent = written-by written (subst (λ (y : List ℕ). Lays [] 0 (c .lines) y (passOf true) (v .on) (v .at) after) (b .0) (c .laid));
             };
       }

@@ -26,6 +26,7 @@ use Rattle.ask_translation.specs.declared.Plan.{Plan}
 use Rattle.ask_translation.specs.declared.Plan.the-variants.{NoCds, Given, From}
 use Rattle.ask_translation.specs.declared.Plan.the-variants as plan
 use Rattle.ask_answers.specs.declared.LentAnswer.{LentAnswer}
+use Rattle.ask_translation.proofs.Ones.{either-way}
 use Rattle.ask_translations.specs.Lines.{Line, LineLaid, LaysLine, LaysBehind}
 
 -- ---- passes
@@ -81,11 +82,7 @@ told : {q : Sequence ℕ} {f : Feature ℕ} {o : Outcome (List ℕ)} (on : Bool)
 told {q} {f} {o} on {out} {mid} {r} t l = subst (Told q f on out (r .number) (r .size)) (sym (l .is)) (go t (l .lent))
   where
     same : {n m : ℕ} → Told q f on out n m out → Told q f on out n m (cond on out out)
-    same {n} {m} h = subst (Told q f on out n m) (either on) h
-      where
-        either : (b : Bool) → out ≡ cond b out out
-        either true = refl
-        either false = refl
+    same {n} {m} h = subst (Told q f on out n m) (either-way on out) h
 
     go : {o : Outcome (List ℕ)} {n p m : ℕ} {later : List ℕ} → Translates q f o → Lent out o n p m later → Told q f on out n m (cond on later out)
     go (Translates.no-cds c) Lent.refused = same (Told.none (Line.no-cds (Translates.no-cds c)))

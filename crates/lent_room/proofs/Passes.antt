@@ -34,11 +34,6 @@ pub agrees-end : {given x : List ℕ} {at end : ℕ} {on : Bool} → Agrees x at
 agrees-end (same h) e = refl
 agrees-end (differs h) e = absurd (true≢false (sym e))
 
--- a pass that writes something ends in the room
-pub lays-within : {given room x after : List ℕ} {at end : ℕ} {on : Bool} → Lays given at x room Write on end after → 1 ≤ length x → end ≤ length room
-lays-within (Lays.written h) k = omega (arith, h, k)
-lays-within (Lays.short h l) k = omega arith
-
 -- the same content
 pub lays-as : {given room x y after : List ℕ} {at end : ℕ} {p : Pass} {on : Bool} → Lays given at x room p on end after → x ≡ y → Lays given at y room p on end after
 lays-as {given} {room} {after = after} {at} {end} {p} {on} f e = subst (λ (z : List ℕ). Lays given at z room p on end after) e f
