@@ -1,5 +1,6 @@
 /* Measures what each call of the library costs, for a page of many figures: page ROUNDS FOLDER
-   FOLDER has what bench/run makes: MIX-SIZE.xml. Asked of are the last sequence that isn't skipped and its first feature.
+   FOLDER has what bench/run makes: MIX-SIZE.xml. Asked of are the last sequence that isn't skipped and its first feature,
+   which is answered with its spans.
    Status 1: a call with the index, or the one that makes it, takes too much beside the check. */
 #include "../hosts/include/dreichnook.h"
 #include "table.h"
@@ -62,8 +63,9 @@ static uint32_t sequence(const struct asked *it)
 
 static uint32_t feature(const struct asked *it)
 {
-    uint64_t n[5];
-    return ASK(feature, it->sequence, 1, &n[0], &n[1], &n[2], &n[3], &n[4]);
+    uint64_t n[6];
+    uint8_t operator_;
+    return ASK(feature, it->sequence, 1, numbers, ROOM, &n[0], &n[1], &n[2], &n[3], &n[4], &operator_, &n[5]);
 }
 
 static uint32_t qualifier(const struct asked *it)
@@ -71,13 +73,6 @@ static uint32_t qualifier(const struct asked *it)
     uint64_t n[5];
     uint8_t present;
     return ASK(qualifier, it->sequence, 1, 1, &n[0], &n[1], &n[2], &present, &n[3], &n[4]);
-}
-
-static uint32_t spans(const struct asked *it)
-{
-    uint64_t n[2];
-    uint8_t operator_;
-    return ASK(spans, it->sequence, 1, numbers, ROOM, &n[0], &operator_, &n[1]);
 }
 
 static uint32_t translations(const struct asked *it)
@@ -98,7 +93,7 @@ static const struct column {
     call *ask;
 } columns[] = {
     {"check", check}, {"sequence", sequence}, {"feature", feature},
-    {"qualifier", qualifier}, {"spans", spans}, {"translations", translations},
+    {"qualifier", qualifier}, {"translations", translations},
 };
 
 /* ---- the times */

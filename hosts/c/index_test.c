@@ -37,18 +37,19 @@ static uint8_t *room_for(size_t size)
 
 /* ---- the lookups */
 
-enum lookup { SEQUENCE, FEATURE, QUALIFIER, SPANS, TRANSLATION, TRANSLATIONS, LOOKUPS };
+enum lookup { SEQUENCE, FEATURE, QUALIFIER, TRANSLATION, TRANSLATIONS, LOOKUPS };
 
 /* All that a lookup may set; the place is the first of the numbers. Two answers are compared byte for byte. */
 struct answer {
-    uint64_t numbers[5];
+    uint64_t numbers[6];
     uint8_t byte;
     uint32_t refusal;
     uint32_t out[ROOM];
 };
 
-/* With an index, or with NULL alone. */
-static void ask(struct answer *answer, const struct lent *index, enum lookup lookup, uint64_t k, uint64_t j, uint64_t i)
+/* With an index, or with NULL alone; `room` counts numbers of 32 bits. */
+static void ask_in(size_t room, struct answer *answer, const struct lent *index, enum lookup lookup, uint64_t k,
+                   uint64_t j, uint64_t i)
 {
 #define ASK(name, ...)                                                                                     \
     (index == NULL ? dreichnook_##name(listing.at, listing.length, __VA_ARGS__)                            \
@@ -62,22 +63,46 @@ static void ask(struct answer *answer, const struct lent *index, enum lookup loo
         answer->refusal = ASK(sequence, k, &n[0], byte, &n[1], &n[2]);
         break;
     case FEATURE:
-        answer->refusal = ASK(feature, k, j, &n[0], &n[1], &n[2], &n[3], &n[4]);
+        answer->refusal = ASK(feature, k, j, answer->out, room, &n[0], &n[1], &n[2], &n[3], &n[4], byte, &n[5]);
         break;
     case QUALIFIER:
         answer->refusal = ASK(qualifier, k, j, i, &n[0], &n[1], &n[2], byte, &n[3], &n[4]);
         break;
-    case SPANS:
-        answer->refusal = ASK(spans, k, j, answer->out, ROOM, &n[0], byte, &n[1]);
-        break;
     case TRANSLATION:
-        answer->refusal = ASK(translation, k, j, letters, sizeof answer->out, &n[0], &n[1]);
+        answer->refusal = ASK(translation, k, j, letters, 4 * room, &n[0], &n[1]);
         break;
     default:
-        answer->refusal = ASK(translations, k, letters, sizeof answer->out, &n[0], &n[1]);
+        answer->refusal = ASK(translations, k, letters, 4 * room, &n[0], &n[1]);
         break;
     }
 #undef ASK
+}
+
+static void ask(struct answer *answer, const struct lent *index, enum lookup lookup, uint64_t k, uint64_t j, uint64_t i)
+{
+    ask_in(ROOM, answer, index, lookup, k, j, i);
+}
+
+static void nothing_written(const struct answer *answer)
+{
+    for (size_t at = 0; at < ROOM; at++)
+        REQUIRE(answer->out[at] == UNTOUCHED * UINT32_C(0x01010101));
+}
+
+/* Whether a feature of so many spans is refused in short room, and nothing of it is shown: no part either. */
+static void short_room(const struct lent *index, uint64_t k, uint64_t j, uint64_t count)
+{
+    struct answer answer;
+    const size_t rooms[] = {0, 3 * (size_t)count - 1};
+    for (size_t n = 0; n < 2; n++) {
+        ask_in(rooms[n], &answer, index, FEATURE, k, j, 0);
+        REQUIRE(answer.refusal == DREICHNOOK_NO_ROOM && answer.byte == 0);
+        for (size_t at = 0; at < 6; at++)
+            REQUIRE(answer.numbers[at] == 0);
+        nothing_written(&answer);
+    }
+    ask_in(3 * (size_t)count, &answer, index, FEATURE, k, j, 0);
+    REQUIRE(answer.refusal == 0 && answer.numbers[5] == count);
 }
 
 /* Whether every lookup answers with the index as without it, of a sequence's first features and qualifiers. */
@@ -91,6 +116,10 @@ static void same_answers(const struct lent *index, uint64_t k)
             ask(&alone, NULL, lookup, k, n / qualifiers, n % qualifiers);
             ask(&indexed, index, lookup, k, n / qualifiers, n % qualifiers);
             REQUIRE(memcmp(&alone, &indexed, sizeof alone) == 0);
+            if (lookup == FEATURE && alone.refusal == 0) {
+                short_room(NULL, k, n, alone.numbers[5]);
+                short_room(index, k, n, alone.numbers[5]);
+            }
         }
     }
 }
@@ -103,8 +132,7 @@ static void all_refused(const struct lent *index, uint32_t refusal, uint64_t pla
         for (uint64_t k = 0; k < 2; k++) {
             ask(&answer, index, lookup, k, 1, 1);
             REQUIRE(answer.refusal == refusal && answer.numbers[0] == place && answer.numbers[1] == 0);
-            for (size_t at = 0; at < ROOM; at++)
-                REQUIRE(answer.out[at] == UNTOUCHED * UINT32_C(0x01010101));
+            nothing_written(&answer);
         }
     }
 }

@@ -1,8 +1,8 @@
 /*
  * Dreichnook: a proved reader of WIPO ST.26 sequence listings, edition 1.2.
  *
- * Fifteen functions of libdreichnook.a. Each reads one listing from lent bytes, checks it whole, and answers one
- * question. Seven ask of the listing alone; two make an index of it and check one; six look up with an index beside it.
+ * Thirteen functions of libdreichnook.a. Each reads one listing from lent bytes, checks it whole, and answers one
+ * question. Six ask of the listing alone; two make an index of it and check one; five look up with an index beside it.
  * No call keeps a pointer, allocates memory, reads a file or has a state: calls from several threads are independent.
  *
  * What is common to all of them
@@ -135,12 +135,22 @@ uint32_t dreichnook_sequence(const uint8_t *listing, size_t length, uint64_t seq
                              uint64_t *start, uint64_t *size);
 
 /*
- * The key and the location of a feature, as parts.
+ * A feature: its key and its location as parts; the location's operator, how many spans it has, and for each three
+ * numbers at the front of `out`: first, last, marks. The spans stand in reading order from the feature's 5' end; first
+ * and last are the numbers written. A lone x has first = last = x; a site x^y has x and y.
  *
- * Refusals: the check's, 30, 31, 32.
+ * `room` counts numbers, not spans: the answer takes 3 * count. A location of n bytes has at most n / 2 + 1 spans, so
+ * room for 3 * (n / 2 + 1) numbers always suffices. An index has n, the length of the location. Without one, ask with
+ * some room, and after 34 again with more; n is less than `length`.
+ *
+ * Short room refuses the whole call. 34 does as every refusal does: both parts are empty (start 0, size 0), operator and
+ * count are 0, and nothing is written.
+ *
+ * Refusals: the check's, 30, 31, 32, 34.
  */
-uint32_t dreichnook_feature(const uint8_t *listing, size_t length, uint64_t sequence, uint64_t feature, uint64_t *place,
-                            uint64_t *key_start, uint64_t *key_size, uint64_t *location_start, uint64_t *location_size);
+uint32_t dreichnook_feature(const uint8_t *listing, size_t length, uint64_t sequence, uint64_t feature, uint32_t *out,
+                            size_t room, uint64_t *place, uint64_t *key_start, uint64_t *key_size,
+                            uint64_t *location_start, uint64_t *location_size, uint8_t *operator_, uint64_t *count);
 
 /*
  * The name of a qualifier as a part, whether it has a value (1, else 0), and the value as a part. Without a value
@@ -151,19 +161,6 @@ uint32_t dreichnook_feature(const uint8_t *listing, size_t length, uint64_t sequ
 uint32_t dreichnook_qualifier(const uint8_t *listing, size_t length, uint64_t sequence, uint64_t feature,
                               uint64_t qualifier, uint64_t *place, uint64_t *name_start, uint64_t *name_size,
                               uint8_t *present, uint64_t *value_start, uint64_t *value_size);
-
-/*
- * The spans of a feature's location: its operator, how many spans there are, and for each three numbers at the front of
- * `out`: first, last, marks. They stand in reading order from the feature's 5' end; first and last are the numbers
- * written. A lone x has first = last = x; a site x^y has x and y.
- *
- * `room` counts numbers, not spans: the answer takes 3 * count. A location of n bytes has at most n / 2 + 1 spans, so
- * room for 3 * (n / 2 + 1) numbers always suffices.
- *
- * Refusals: the check's, 30, 31, 32, 34.
- */
-uint32_t dreichnook_spans(const uint8_t *listing, size_t length, uint64_t sequence, uint64_t feature, uint32_t *out,
-                          size_t room, uint64_t *place, uint8_t *operator_, uint64_t *count);
 
 /*
  * The translation of a judged CDS of DNA or RNA, at the front of `out`, and its size in bytes. A stop at the end is
@@ -211,17 +208,14 @@ uint32_t dreichnook_indexed_sequence(const uint8_t *listing, size_t length, cons
                                      uint64_t sequence, uint64_t *place, uint8_t *kind, uint64_t *start, uint64_t *size);
 
 uint32_t dreichnook_indexed_feature(const uint8_t *listing, size_t length, const uint8_t *index, size_t index_length,
-                                    uint64_t sequence, uint64_t feature, uint64_t *place, uint64_t *key_start,
-                                    uint64_t *key_size, uint64_t *location_start, uint64_t *location_size);
+                                    uint64_t sequence, uint64_t feature, uint32_t *out, size_t room, uint64_t *place,
+                                    uint64_t *key_start, uint64_t *key_size, uint64_t *location_start,
+                                    uint64_t *location_size, uint8_t *operator_, uint64_t *count);
 
 uint32_t dreichnook_indexed_qualifier(const uint8_t *listing, size_t length, const uint8_t *index, size_t index_length,
                                       uint64_t sequence, uint64_t feature, uint64_t qualifier, uint64_t *place,
                                       uint64_t *name_start, uint64_t *name_size, uint8_t *present,
                                       uint64_t *value_start, uint64_t *value_size);
-
-uint32_t dreichnook_indexed_spans(const uint8_t *listing, size_t length, const uint8_t *index, size_t index_length,
-                                  uint64_t sequence, uint64_t feature, uint32_t *out, size_t room, uint64_t *place,
-                                  uint8_t *operator_, uint64_t *count);
 
 uint32_t dreichnook_indexed_translation(const uint8_t *listing, size_t length, const uint8_t *index, size_t index_length,
                                         uint64_t sequence, uint64_t feature, uint8_t *out, size_t room, uint64_t *place,

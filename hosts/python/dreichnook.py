@@ -21,7 +21,7 @@ import pathlib
 import re
 import struct
 from ctypes import POINTER, byref, c_char_p, c_size_t, c_uint8, c_uint32, c_uint64, c_void_p
-from typing import Iterator, List, NamedTuple, Optional, Tuple
+from typing import Iterator, List, NamedTuple, Optional
 
 LIMIT = 16_777_216
 """The longest listing, in bytes."""
@@ -87,7 +87,24 @@ class Sequence(NamedTuple):
     residues: Part
 
 
+class Span(NamedTuple):
+    first: int
+    last: int
+    marks: int
+
+
 class Feature(NamedTuple):
+    """A feature, with the operator and the spans of its location, in reading order from the feature's 5' end."""
+
+    key: Part
+    location: Part
+    operator: str
+    spans: List[Span]
+
+
+class FeatureParts(NamedTuple):
+    """The two parts of a feature, which is all that an Index has of it."""
+
     key: Part
     location: Part
 
@@ -95,12 +112,6 @@ class Feature(NamedTuple):
 class Qualifier(NamedTuple):
     name: Part
     value: Optional[Part]
-
-
-class Span(NamedTuple):
-    first: int
-    last: int
-    marks: int
 
 
 class _Triple(ctypes.Structure):
@@ -121,18 +132,15 @@ class Lookups:
         return Sequence(KINDS[kind], self._part(start, size))
 
     def feature(self, sequence: int, feature: int) -> Feature:
-        said = self._ask("feature", (sequence, feature), [c_uint64] * 4)
-        return Feature(self._part(*said[:2]), self._part(*said[2:]))
+        cells = [c_uint64] * 4 + [c_uint8, c_uint64]
+        out, (*parts, said, count) = self._lend("feature", (sequence, feature), _Triple, 3, cells)
+        spans = [Span(span.first, span.last, span.marks) for span in out[:count]]
+        return Feature(self._part(*parts[:2]), self._part(*parts[2:]), OPERATORS[said], spans)
 
     def qualifier(self, sequence: int, feature: int, qualifier: int) -> Qualifier:
         cells = [c_uint64, c_uint64, c_uint8, c_uint64, c_uint64]
         said = self._ask("qualifier", (sequence, feature, qualifier), cells)
         return Qualifier(self._part(*said[:2]), self._part(*said[3:]) if said[2] else None)
-
-    def spans(self, sequence: int, feature: int) -> Tuple[str, List[Span]]:
-        """The operator and the spans, in reading order from the feature's 5' end."""
-        out, (said, count) = self._lend("spans", (sequence, feature), _Triple, 3, [c_uint8, c_uint64])
-        return OPERATORS[said], [Span(span.first, span.last, span.marks) for span in out[:count]]
 
     def translation(self, sequence: int, feature: int) -> bytes:
         """The translation of a judged CDS; one of more than LIMIT letters is refused with 34."""
@@ -160,7 +168,7 @@ class Lookups:
         return [cell.value for cell in cells]
 
     def _lend(self, name, numbers, element, width, cells):
-        # Each question costs a whole check, so the room grows in few steps.
+        # Each question costs a whole check, so the room starts with enough for most, and grows in few steps.
         room = 4096
         while True:
             out = (element * room)()
@@ -215,7 +223,8 @@ _WIDTH = 4
 
 class Index:
     """The index of a listing, with the listing: Listing.index makes it. The proved maker wrote its numbers from those very
-    bytes. So what is read off it, without a call, is what Lookups would answer.
+    bytes. So what is read off it, without a call, is what Lookups would answer; of features these are the two parts,
+    without operator and spans.
     """
 
     def __init__(self, listing: bytes, made: bytes):
@@ -232,7 +241,7 @@ class Index:
         body = self._shown(sequence)
         return Sequence(KINDS[self._numbers[body.start]], self._part(body.start + 1))
 
-    def feature(self, sequence: int, feature: int) -> Feature:
+    def feature(self, sequence: int, feature: int) -> FeatureParts:
         features = self._features(self._shown(sequence))
         if not 1 <= _number(feature) <= len(features):
             raise Refusal(NO_FEATURE, 0)
@@ -244,8 +253,8 @@ class Index:
             skipped = self._numbers[self._body(sequence).start] == 0
             yield None if skipped else self.sequence(sequence)
 
-    def features(self, sequence: int) -> List[Feature]:
-        """The features of a sequence in their order."""
+    def features(self, sequence: int) -> List[FeatureParts]:
+        """The two parts of each feature of a sequence, in their order."""
         return [self._feature(at) for at in self._features(self._shown(sequence))]
 
     def _shown(self, sequence):
@@ -268,7 +277,7 @@ class Index:
         return body[len(_BODY) :: len(_FEATURE)]
 
     def _feature(self, at):
-        return Feature(self._part(at), self._part(at + 2))
+        return FeatureParts(self._part(at), self._part(at + 2))
 
     def _part(self, at):
         start, size = self._numbers[at : at + 2]
@@ -321,9 +330,8 @@ def _library():
     index = listing
     lookups = {
         "sequence": numbers + number + byte + number * 2,
-        "feature": numbers * 2 + number * 5,
+        "feature": numbers * 2 + lent + number * 5 + byte + number,
         "qualifier": numbers * 3 + number * 3 + byte + number * 2,
-        "spans": numbers * 2 + lent + number + byte + number,
         "translation": numbers * 2 + lent + number * 2,
         "translations": numbers + lent + number * 2,
     }

@@ -1,10 +1,12 @@
 """python3 test_dreichnook.py: the answers on the published specimens, and on some edits of them."""
 
 import pathlib
+import re
 import struct
 import subprocess
 import sys
 import unittest
+from ctypes import byref, c_uint8, c_uint32, c_uint64
 
 import dreichnook
 from dreichnook import AFTER, BEFORE, COMPLEMENT, LIMIT, SITE, Listing, Part, Refusal, Span
@@ -59,7 +61,8 @@ class Answers(unittest.TestCase):
     def test_parts(self):
         listing = Listing(specimen("annex-iii.xml"))
         self.assertEqual(listing.sequence(4), ("AA", Part(6028, LETTERS)))
-        self.assertEqual(listing.feature(3, 2), (Part(4442, b"CDS"), Part(4496, b"3..62")))
+        feature = (Part(4442, b"CDS"), Part(4496, b"3..62"), "none", [Span(3, 62, 0)])
+        self.assertEqual(listing.feature(3, 2), feature)
         self.assertEqual(listing.qualifier(3, 2, 1), (Part(4617, b"translation"), Part(4685, LETTERS)))
 
     def test_a_value_may_be_absent_or_empty(self):
@@ -69,11 +72,39 @@ class Answers(unittest.TestCase):
         listing = listing.replace(name, name + b"<INSDQualifier_value></INSDQualifier_value>", 1)
         self.assertEqual(Listing(listing).qualifier(1, 5, 1).value.text, b"")
 
-    def test_spans(self):
+    def test_operator_and_spans_come_with_the_parts(self):
         listing = Listing(specimen("002-p66-location-syntax.xml"))
+        key, location, *said = listing.feature(1, 21)
+        self.assertEqual(key.text, b"misc_feature")
+        self.assertEqual(location.text, b"order(complement(134..&gt;202),complement(&lt;12..78))")
         spans = [Span(134, 202, COMPLEMENT + AFTER), Span(12, 78, COMPLEMENT + BEFORE)]
-        self.assertEqual(listing.spans(1, 21), ("order", spans))
-        self.assertEqual(listing.spans(1, 11), ("none", [Span(1000, 1, SITE)]))
+        self.assertEqual(said, ["order", spans])
+        self.assertEqual(listing.feature(1, 11)[2:], ("none", [Span(1000, 1, SITE)]))
+
+    def test_the_spans_are_those_of_the_feature_asked(self):
+        listing = Listing(specimen("002-p66-location-syntax.xml"))
+        features = [listing.feature(1, j) for j in range(1, 22)]
+        self.assertEqual(len({feature.location.text for feature in features}), 21)
+        for feature in features:
+            written = {int(digits) for digits in re.findall(rb"\d+", feature.location.text)}
+            given = {number for span in feature.spans for number in span[:2]}
+            self.assertEqual(given, written, feature)
+
+    def test_short_room_shows_nothing_of_a_feature(self):
+        # Of the functions themselves: a Refusal shows nothing anyway, and the wrapper lends more room.
+        listing = specimen("002-p66-location-syntax.xml")
+        index = Listing(listing).index().bytes
+        for name, beside in (("feature", ()), ("indexed_feature", (index, len(index)))):
+            function = getattr(dreichnook._library(), "dreichnook_" + name)
+            for room in (0, 20, 21):
+                out = (c_uint32 * 21)(*[7] * 21)
+                cells = [cell(7) for cell in [c_uint64] * 5 + [c_uint8, c_uint64]]
+                number = function(listing, len(listing), *beside, 1, 12, out, room, *map(byref, cells))
+                said = [cell.value for cell in cells]
+                if room < 21:
+                    self.assertEqual((number, said, list(out)), (34, [0] * 7, [7] * 21))
+                else:
+                    self.assertEqual((number, said[5:], out[0]), (0, [1, 7], 1))
 
     def test_translations(self):
         listing = Listing(specimen("annex-iii.xml"))
@@ -85,7 +116,7 @@ class Answers(unittest.TestCase):
     def test_more_room_than_the_first(self):
         listing = Listing(with_cds(b"join(" + b",".join([b"3..59"] * 5_000) + b")"))
         self.assertEqual(listing.translation(3, 2), LETTERS * 5_000)
-        self.assertEqual(len(listing.spans(3, 2)[1]), 5_000)
+        self.assertEqual(len(listing.feature(3, 2).spans), 5_000)
 
     def test_refusals_of_a_question(self):
         listing = Listing(specimen("annex-iii.xml"))
@@ -108,7 +139,7 @@ class Answers(unittest.TestCase):
         for some in (b"", bytearray(b"<?xml"), memoryview(b"\0" * 9)):
             place = 5 if bytes(some) == b"<?xml" else 0
             self.refused(2, place, Listing(some).check)
-            self.refused(2, place, Listing(some).spans, 1, 1)
+            self.refused(2, place, Listing(some).feature, 1, 1)
             self.refused(2, place, Listing(some).translations, 1)
         self.refused(2, 0, Listing(bytes(LIMIT)).check)
         self.refused(1, 0, Listing(bytes(LIMIT + 1)).check)
@@ -202,7 +233,7 @@ class Indexes(unittest.TestCase):
                     if isinstance(sequence, dreichnook.Sequence):
                         parts = [sequence.residues]
                         while isinstance(feature := answer(Listing(listing).feature, k, len(parts) // 2 + 1), dreichnook.Feature):
-                            parts += feature
+                            parts += feature[:2]
                         kind = dreichnook.KINDS.index(sequence.kind)
                     else:
                         parts = [Part(index._numbers[start // 4 + 1], b"000")]
@@ -223,12 +254,13 @@ class Indexes(unittest.TestCase):
                 for k in range(index.total + 2):
                     self.assertEqual(answer(index.sequence, k), answer(alone.sequence, k))
                     for j in range(4):
-                        self.assertEqual(answer(index.feature, k, j), answer(alone.feature, k, j))
+                        # Of a feature the parts; a refusal is two numbers.
+                        self.assertEqual(answer(index.feature, k, j), answer(alone.feature, k, j)[:2])
                 for k, sequence in enumerate(each, 1):
                     self.assertEqual(sequence or (31, 0), answer(alone.sequence, k))
                     features = index.features(k) if sequence else []
                     for j, feature in enumerate(features, 1):
-                        self.assertEqual(feature, alone.feature(k, j))
+                        self.assertEqual(feature, alone.feature(k, j)[:2])
                     self.assertEqual(answer(alone.feature, k, len(features) + 1), (32 if sequence else 31, 0))
         for number in (-1, 1 << 64):
             self.assertRaises(ValueError, index.sequence, number)
@@ -238,7 +270,7 @@ class Indexes(unittest.TestCase):
     def answers(self, lookups, k):
         said = [answer(lookups.sequence, k), answer(lookups.translations, k)]
         for j in range(4):
-            said += [answer(ask, k, j) for ask in (lookups.feature, lookups.spans, lookups.translation)]
+            said += [answer(ask, k, j) for ask in (lookups.feature, lookups.translation)]
             said += [answer(lookups.qualifier, k, j, i) for i in range(4)]
         return said
 

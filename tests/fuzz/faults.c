@@ -42,17 +42,32 @@ uint32_t __wrap_dreichnook_sequence(const uint8_t *listing, size_t length, uint6
     return refusal;
 }
 
-uint32_t __real_dreichnook_feature(const uint8_t *, size_t, uint64_t, uint64_t, uint64_t *, uint64_t *, uint64_t *, uint64_t *,
-                                   uint64_t *);
-uint32_t __wrap_dreichnook_feature(const uint8_t *listing, size_t length, uint64_t sequence, uint64_t feature, uint64_t *place,
-                                   uint64_t *key_start, uint64_t *key_size, uint64_t *location_start, uint64_t *location_size)
+uint32_t __real_dreichnook_feature(const uint8_t *, size_t, uint64_t, uint64_t, uint32_t *, size_t, uint64_t *, uint64_t *,
+                                   uint64_t *, uint64_t *, uint64_t *, uint8_t *, uint64_t *);
+uint32_t __wrap_dreichnook_feature(const uint8_t *listing, size_t length, uint64_t sequence, uint64_t feature, uint32_t *out,
+                                   size_t room, uint64_t *place, uint64_t *key_start, uint64_t *key_size,
+                                   uint64_t *location_start, uint64_t *location_size, uint8_t *operator_, uint64_t *count)
 {
-    uint32_t refusal = __real_dreichnook_feature(listing, length, sequence, feature, place, key_start, key_size, location_start,
-                                                 location_size);
+    uint64_t parts[4];
+    uint32_t refusal = __real_dreichnook_feature(listing, length, sequence, feature, out, room, place, key_start, key_size,
+                                                 location_start, location_size, operator_, count);
+    if (FAULT == 12 && refusal != 0 && room > 0) /* writes beside a refusal */
+        WRITE(out);
+    if (FAULT == 13 && refusal == 0 && room > 3 * *count) /* writes behind the answer */
+        WRITE(out + 3 * *count);
+    if (FAULT == 14 && refusal == 0) /* writes behind the room */
+        WRITE(out + room);
+    if (FAULT == 15 && refusal == 0) /* a span outside the sequence */
+        out[0] = 0;
     if (FAULT == 21 && refusal == 0) /* a location with its end tag */
         *location_size += 2;
     if (FAULT == 22 && refusal == DREICHNOOK_NO_FEATURE) /* a key beside a refusal */
         *key_size = 1;
+    if (FAULT == 46 && refusal == DREICHNOOK_NO_ROOM) /* a location beside a refusal for room */
+        *location_size = 1;
+    if (FAULT == 47 && refusal == 0 && feature > 1) /* the spans of another feature */
+        refusal = __real_dreichnook_feature(listing, length, sequence, feature - 1, out, room, place, &parts[0], &parts[1],
+                                            &parts[2], &parts[3], operator_, count);
     return refusal;
 }
 
@@ -68,22 +83,6 @@ uint32_t __wrap_dreichnook_qualifier(const uint8_t *listing, size_t length, uint
         *present = 0;
     if (FAULT == 11 && refusal == 0) /* a part with a tag in it */
         --*name_start;
-    return refusal;
-}
-
-uint32_t __real_dreichnook_spans(const uint8_t *, size_t, uint64_t, uint64_t, uint32_t *, size_t, uint64_t *, uint8_t *, uint64_t *);
-uint32_t __wrap_dreichnook_spans(const uint8_t *listing, size_t length, uint64_t sequence, uint64_t feature, uint32_t *out,
-                                 size_t room, uint64_t *place, uint8_t *operator_, uint64_t *count)
-{
-    uint32_t refusal = __real_dreichnook_spans(listing, length, sequence, feature, out, room, place, operator_, count);
-    if (FAULT == 12 && refusal != 0 && room > 0) /* writes beside a refusal */
-        WRITE(out);
-    if (FAULT == 13 && refusal == 0 && room > 3 * *count) /* writes behind the answer */
-        WRITE(out + 3 * *count);
-    if (FAULT == 14 && refusal == 0) /* writes behind the room */
-        WRITE(out + room);
-    if (FAULT == 15 && refusal == 0) /* a span outside the sequence */
-        out[0] = 0;
     return refusal;
 }
 
@@ -163,19 +162,24 @@ uint32_t __wrap_dreichnook_indexed_sequence(const uint8_t *listing, size_t lengt
     return refusal;
 }
 
-uint32_t __real_dreichnook_indexed_feature(const uint8_t *, size_t, const uint8_t *, size_t, uint64_t, uint64_t, uint64_t *,
-                                           uint64_t *, uint64_t *, uint64_t *, uint64_t *);
+uint32_t __real_dreichnook_indexed_feature(const uint8_t *, size_t, const uint8_t *, size_t, uint64_t, uint64_t, uint32_t *, size_t,
+                                           uint64_t *, uint64_t *, uint64_t *, uint64_t *, uint64_t *, uint8_t *, uint64_t *);
 uint32_t __wrap_dreichnook_indexed_feature(const uint8_t *listing, size_t length, const uint8_t *index, size_t index_length,
-                                           uint64_t sequence, uint64_t feature, uint64_t *place, uint64_t *key_start,
-                                           uint64_t *key_size, uint64_t *location_start, uint64_t *location_size)
+                                           uint64_t sequence, uint64_t feature, uint32_t *out, size_t room, uint64_t *place,
+                                           uint64_t *key_start, uint64_t *key_size, uint64_t *location_start,
+                                           uint64_t *location_size, uint8_t *operator_, uint64_t *count)
 {
-    uint32_t refusal = __real_dreichnook_indexed_feature(listing, length, index, index_length, sequence, feature, place, key_start,
-                                                         key_size, location_start, location_size);
+    uint32_t refusal = __real_dreichnook_indexed_feature(listing, length, index, index_length, sequence, feature, out, room, place,
+                                                         key_start, key_size, location_start, location_size, operator_, count);
     if (FAULT == 36 && refusal == 0) /* the location for the key */
         *key_start = *location_start, *key_size = *location_size;
     if (FAULT == 37 && refusal == 50) /* answers without looking at the index */
-        refusal = __real_dreichnook_feature(listing, length, sequence, feature, place, key_start, key_size, location_start,
-                                            location_size);
+        refusal = __real_dreichnook_feature(listing, length, sequence, feature, out, room, place, key_start, key_size,
+                                            location_start, location_size, operator_, count);
+    if (FAULT == 40 && refusal == 50 && room > 0) /* writes beside a refusal */
+        WRITE(out);
+    if (FAULT == 41 && refusal == 0) /* another mark than without an index */
+        out[2] ^= DREICHNOOK_COMPLEMENT;
     return refusal;
 }
 
@@ -192,21 +196,6 @@ uint32_t __wrap_dreichnook_indexed_qualifier(const uint8_t *listing, size_t leng
         *present = 1, *value_start = *name_start, *value_size = *name_size;
     if (FAULT == 39) /* reads before the index */
         TOUCH(index - 1);
-    return refusal;
-}
-
-uint32_t __real_dreichnook_indexed_spans(const uint8_t *, size_t, const uint8_t *, size_t, uint64_t, uint64_t, uint32_t *, size_t,
-                                         uint64_t *, uint8_t *, uint64_t *);
-uint32_t __wrap_dreichnook_indexed_spans(const uint8_t *listing, size_t length, const uint8_t *index, size_t index_length,
-                                         uint64_t sequence, uint64_t feature, uint32_t *out, size_t room, uint64_t *place,
-                                         uint8_t *operator_, uint64_t *count)
-{
-    uint32_t refusal = __real_dreichnook_indexed_spans(listing, length, index, index_length, sequence, feature, out, room, place,
-                                                       operator_, count);
-    if (FAULT == 40 && refusal == 50 && room > 0) /* writes beside a refusal */
-        WRITE(out);
-    if (FAULT == 41 && refusal == 0) /* another mark than without an index */
-        out[2] ^= DREICHNOOK_COMPLEMENT;
     return refusal;
 }
 

@@ -165,23 +165,47 @@ static uint32_t ask_qualifier(uint64_t k, uint64_t j, uint64_t i)
     return refusal;
 }
 
-/* With room for so many numbers; gives how many the answer takes. */
-static uint64_t ask_spans(uint64_t k, uint64_t j, size_t room, uint32_t *refusal)
+/* Whether a number, not 0, is written in this part. */
+static int is_written(uint64_t number, uint64_t start, uint64_t size)
 {
-    uint64_t place = ~0u, count = ~0u;
+    uint64_t value = 0;
+    for (uint64_t at = start; at <= start + size; at++) { /* behind a part stands its end tag */
+        if (listing[at] >= '0' && listing[at] <= '9')
+            value = value * 10 + listing[at] - '0';
+        else if (value == number)
+            return 1;
+        else
+            value = 0;
+    }
+    return 0;
+}
+
+/* A feature, with room for so many numbers; gives how many the answer takes. A refusal for room shows no part either. */
+static uint64_t ask_feature(uint64_t k, uint64_t j, size_t room, uint32_t *refusal)
+{
+    uint64_t place = ~0u, key = ~0u, key_size = ~0u, location = ~0u, location_size = ~0u, count = ~0u;
     uint8_t operator_ = UNTOUCHED;
     uint32_t *out = (uint32_t *)(void *)lend(room * sizeof *out);
-    *refusal = LOOK_UP(spans, k, j, out, room, &place, &operator_, &count);
+    *refusal = LOOK_UP(feature, k, j, out, room, &place, &key, &key_size, &location, &location_size, &operator_, &count);
     refusal_fits(*refusal, place, DREICHNOOK_NO_SEQUENCE, DREICHNOOK_NO_ROOM);
     REQUIRE(*refusal != DREICHNOOK_NO_QUALIFIER);
+    part_fits(*refusal, key, key_size);
+    part_fits(*refusal, location, location_size);
+    REQUIRE(*refusal != 0 || (key_size > 0 && location_size > 0));
+    tell_part(key, key_size);
+    tell_part(location, location_size);
     tell(operator_);
+    if (*refusal == 0)
+        body_says(k, 4 * j - 1, (uint64_t[]){key, key_size, location, location_size}, 4);
     REQUIRE(operator_ <= DREICHNOOK_ORDER && (*refusal == 0) == (count > 0) && (*refusal == 0 || operator_ == 0));
     REQUIRE((count > 1) == (operator_ != DREICHNOOK_OPERATOR_NONE) && count <= room / 3);
+    REQUIRE(*refusal != 0 || count <= location_size / 2 + 1);
     only_written((uint8_t *)out, (size_t)count * 3 * sizeof *out);
     for (uint64_t n = 0; n < count; n++) {
         const uint32_t first = out[3 * n], last = out[3 * n + 1], marks = out[3 * n + 2];
         REQUIRE(marks < 16 && first > 0 && last > 0 && first <= length && last <= length);
         REQUIRE(first <= last || (marks & DREICHNOOK_SITE && last == 1));
+        REQUIRE(is_written(first, location, location_size) && is_written(last, location, location_size));
         saw(41, marks + 16 * operator_ + 64 * (n > 0));
     }
     return count * 3;
@@ -211,41 +235,33 @@ static uint64_t ask_translation(uint64_t k, uint64_t j, size_t room, uint32_t *r
     return size;
 }
 
-/* The same answer into room that just suffices, and none into one element less. */
-static void ask_in_tight_room(uint64_t (*ask)(uint64_t, uint64_t, size_t, uint32_t *), uint64_t k, uint64_t j)
+/* The same answer into room that just suffices, and none into one element less. Gives the refusal in large room. */
+static uint32_t ask_in_tight_room(uint64_t (*ask)(uint64_t, uint64_t, size_t, uint32_t *), uint64_t k, uint64_t j)
 {
     static uint8_t before[ROOM * sizeof(uint32_t)];
     uint32_t refusal;
     const size_t size = (size_t)ask(k, j, ROOM, &refusal);
     if (refusal != 0)
-        return;
-    const size_t width = ask == ask_spans ? sizeof(uint32_t) : 1;
+        return refusal;
+    const size_t width = ask == ask_feature ? sizeof(uint32_t) : 1;
     memcpy(before, lent + LENT - ROOM * width, size * width);
     REQUIRE(ask(k, j, size, &refusal) == size && refusal == 0);
     REQUIRE(memcmp(before, lent + LENT - size * width, size * width) == 0);
     if (size > 0)
         REQUIRE(ask(k, j, size - 1, &refusal) == 0 && refusal == DREICHNOOK_NO_ROOM);
+    return 0;
 }
 
-static uint32_t ask_feature(uint64_t k, uint64_t j)
+/* A feature with its translation and its qualifiers; gives whether there is one. */
+static int ask_of_feature(uint64_t k, uint64_t j)
 {
-    uint64_t place = ~0u, key = ~0u, key_size = ~0u, location = ~0u, location_size = ~0u;
-    uint32_t refusal = LOOK_UP(feature, k, j, &place, &key, &key_size, &location, &location_size);
-    refusal_fits(refusal, place, DREICHNOOK_NO_SEQUENCE, DREICHNOOK_NO_FEATURE);
-    part_fits(refusal, key, key_size);
-    part_fits(refusal, location, location_size);
-    REQUIRE(refusal != 0 || (key_size > 0 && location_size > 0));
-    tell_part(key, key_size);
-    tell_part(location, location_size);
-    if (refusal == 0)
-        body_says(k, 4 * j - 1, (uint64_t[]){key, key_size, location, location_size}, 4);
-    ask_in_tight_room(ask_spans, k, j);
+    const uint32_t refusal = ask_in_tight_room(ask_feature, k, j);
     if (j != 0)
         ask_in_tight_room(ask_translation, k, j);
     for (uint64_t i = 1; i <= SOME && ask_qualifier(k, j, i) == 0; i++)
         ;
     ask_qualifier(k, j, 0);
-    return refusal;
+    return refusal == 0 || refusal == DREICHNOOK_NO_ROOM;
 }
 
 static void ask_sequence(uint64_t k)
@@ -262,10 +278,10 @@ static void ask_sequence(uint64_t k)
     if (refusal == 0)
         body_says(k, 0, (uint64_t[]){kind, start, size}, 3);
     ask_in_tight_room(ask_translation, k, 0);
-    for (uint64_t j = 1; j <= SOME && ask_feature(k, j) == 0; j++)
+    for (uint64_t j = 1; j <= SOME && ask_of_feature(k, j); j++)
         ;
-    ask_feature(k, 0);
-    ask_feature(k, UINT64_MAX);
+    ask_of_feature(k, 0);
+    ask_of_feature(k, UINT64_MAX);
 }
 
 static void ask_check(void)

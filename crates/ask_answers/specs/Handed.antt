@@ -7,7 +7,6 @@ use Rattle.paper.specs.declared.Verdict.the-variants.{Accepted, Refused}
 use Rattle.ask_answers.specs.declared.SequenceAnswer.{SequenceAnswer}
 use Rattle.ask_answers.specs.declared.FeatureAnswer.{FeatureAnswer}
 use Rattle.ask_answers.specs.declared.QualifierAnswer.{QualifierAnswer}
-use Rattle.ask_answers.specs.declared.SpansAnswer.{SpansAnswer}
 use Rattle.ask_answers.specs.declared.LentAnswer.{LentAnswer}
 use Rattle.ask_answers.specs.declared.IndexVerdict.{IndexVerdict}
 
@@ -27,15 +26,13 @@ pub data HandsVerdict : (v : Verdict) (number place total skipped features judge
 pub data HandsSequence (a : SequenceAnswer) : (number place kind start size : ℕ) → Type 0 where
   sequence : {r : ℕ} → Narrow (a .number) r → HandsSequence a r (a .place) (a .kind) (a .residues .start) (a .residues .size)
 
-pub data HandsFeature (a : FeatureAnswer) : (number place keystart keysize locationstart locationsize : ℕ) → Type 0 where
-  feature : {r : ℕ} → Narrow (a .number) r → HandsFeature a r (a .place) (a .key .start) (a .key .size) (a .location .start) (a .location .size)
+pub data HandsFeature (a : FeatureAnswer) : (number place keystart keysize locationstart locationsize operator count : ℕ) → Type 0 where
+  feature : {r o : ℕ} → Narrow (a .number) r → Narrow (a .operator) o
+      → HandsFeature a r (a .place) (a .key .start) (a .key .size) (a .location .start) (a .location .size) o (a .count)
 
 pub data HandsQualifier (a : QualifierAnswer) : (number place namestart namesize present valuestart valuesize : ℕ) → Type 0 where
   qualifier : {r f : ℕ} → Narrow (a .number) r → f ≡ flagOf (a .present)
       → HandsQualifier a r (a .place) (a .name .start) (a .name .size) f (a .value .start) (a .value .size)
-
-pub data HandsSpans (a : SpansAnswer) : (number place operator count : ℕ) → Type 0 where
-  spans : {r o : ℕ} → Narrow (a .number) r → Narrow (a .operator) o → HandsSpans a r (a .place) o (a .count)
 
 pub data HandsLent (a : LentAnswer) : (number place size : ℕ) → Type 0 where
   lent : {r : ℕ} → Narrow (a .number) r → HandsLent a r (a .place) (a .size)

@@ -8,7 +8,6 @@ use Rattle.ask_answers.specs.declared.Stretch.{Stretch}
 use Rattle.ask_answers.specs.declared.SequenceAnswer.{SequenceAnswer}
 use Rattle.ask_answers.specs.declared.FeatureAnswer.{FeatureAnswer}
 use Rattle.ask_answers.specs.declared.QualifierAnswer.{QualifierAnswer}
-use Rattle.ask_answers.specs.declared.SpansAnswer.{SpansAnswer}
 use Rattle.ask_answers.specs.declared.LentAnswer.{LentAnswer}
 
 abbrev pub noStretch : Stretch
@@ -17,6 +16,10 @@ noStretch = record { start = 0; size = 0 }
 -- a stretch as the paper's part
 abbrev pub partIs : Stretch → paper.Part
 partIs x = record { start = x .start; size = x .size }
+
+-- what an answer shows of a feature, as the paper says it
+abbrev pub shownIn : FeatureAnswer → paper.FeatureShown
+shownIn a = record { key = partIs (a .key); location = partIs (a .location); operator = a .operator; count = a .count }
 
 -- it lies within the listing
 abbrev pub Lies : List ℕ → Stretch → Type 0
@@ -28,13 +31,10 @@ abbrev pub noSequence : ℕ → ℕ → SequenceAnswer
 noSequence n p = record { number = n; place = p; kind = 0; residues = noStretch }
 
 abbrev pub noFeature : ℕ → ℕ → FeatureAnswer
-noFeature n p = record { number = n; place = p; key = noStretch; location = noStretch }
+noFeature n p = record { number = n; place = p; key = noStretch; location = noStretch; operator = 0; count = 0 }
 
 abbrev pub noQualifier : ℕ → ℕ → QualifierAnswer
 noQualifier n p = record { number = n; place = p; name = noStretch; present = false; value = noStretch }
-
-abbrev pub noSpans : ℕ → ℕ → SpansAnswer
-noSpans n p = record { number = n; place = p; operator = 0; count = 0 }
 
 abbrev pub nothingLent : ℕ → ℕ → LentAnswer
 nothingLent n p = record { number = n; place = p; size = 0 }

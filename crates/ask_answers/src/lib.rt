@@ -2,8 +2,8 @@
 // Any answer may be given. Relies on the paper alone.
 use paper::Verdict;
 ghost use mathlib.Core.Path.{_≡_};
-ghost use Rattle.ask_answers.specs.Handed.{Narrow, flagOf, HandsVerdict, HandsSequence, HandsFeature, HandsQualifier, HandsSpans, HandsLent, HandsIndexVerdict};
-ghost use Rattle.ask_answers.specs.Stretches.{noStretch, noSequence, noFeature, noQualifier, noSpans, nothingLent};
+ghost use Rattle.ask_answers.specs.Handed.{Narrow, flagOf, HandsVerdict, HandsSequence, HandsFeature, HandsQualifier, HandsLent, HandsIndexVerdict};
+ghost use Rattle.ask_answers.specs.Stretches.{noStretch, noSequence, noFeature, noQualifier, nothingLent};
 
 // A stretch of the listing.
 pub struct Stretch {
@@ -40,12 +40,15 @@ pub fn no_sequence(number: usize, place: usize) -> SequenceAnswer
 
 // ---- a feature
 
-// Where its key and its location stand; or the number of a refusal and its place.
+// Where its key and its location stand, the operator (0 none, 1 join, 2 order) and the number of spans; or the number of a refusal and its
+// place.
 pub struct FeatureAnswer {
     pub number: usize,
     pub place: usize,
     pub key: Stretch,
     pub location: Stretch,
+    pub operator: u32,
+    pub count: usize,
 }
 
 pub fn no_feature(number: usize, place: usize) -> FeatureAnswer
@@ -56,6 +59,8 @@ pub fn no_feature(number: usize, place: usize) -> FeatureAnswer
         place,
         key: no_stretch(),
         location: no_stretch(),
+        operator: 0,
+        count: 0,
     }
 }
 
@@ -79,27 +84,6 @@ pub fn no_qualifier(number: usize, place: usize) -> QualifierAnswer
         name: no_stretch(),
         present: false,
         value: no_stretch(),
-    }
-}
-
-// ---- spans
-
-// The operator (0 none, 1 join, 2 order) and the number of spans; or the number of a refusal and its place.
-pub struct SpansAnswer {
-    pub number: usize,
-    pub place: usize,
-    pub operator: u32,
-    pub count: usize,
-}
-
-pub fn no_spans(number: usize, place: usize) -> SpansAnswer
-    ensures { λ r. ⌜ r ≡ noSpans number place ⌝ }
-{
-    SpansAnswer {
-        number,
-        place,
-        operator: 0,
-        count: 0,
     }
 }
 
@@ -229,20 +213,26 @@ pub fn hand_feature(
     keysize: &mut usize,
     locationstart: &mut usize,
     locationsize: &mut usize,
+    operator: &mut u8,
+    count: &mut usize,
 ) -> u32
-    ensures { λ r. ⌜ HandsFeature answer r (now (place .exit)) (now (keystart .exit)) (now (keysize .exit)) (now (locationstart .exit)) (now (locationsize .exit)) ⌝ }
+    ensures { λ r. ⌜ HandsFeature answer r (now (place .exit)) (now (keystart .exit)) (now (keysize .exit)) (now (locationstart .exit)) (now (locationsize .exit)) (now (operator .exit)) (now (count .exit)) ⌝ }
 {
     let FeatureAnswer {
         number,
         place: p,
         key,
         location,
+        operator: o,
+        count: n,
     } = answer;
     *place = p;
     *keystart = key.start;
     *keysize = key.size;
     *locationstart = location.start;
     *locationsize = location.size;
+    *operator = operator_byte(o);
+    *count = n;
     narrow(number)
 }
 
@@ -270,26 +260,6 @@ pub fn hand_qualifier(
     *present = flag(has);
     *valuestart = value.start;
     *valuesize = value.size;
-    narrow(number)
-}
-
-pub fn hand_spans(
-    answer: SpansAnswer,
-    place: &mut usize,
-    operator: &mut u8,
-    count: &mut usize,
-) -> u32
-    ensures { λ r. ⌜ HandsSpans answer r (now (place .exit)) (now (operator .exit)) (now (count .exit)) ⌝ }
-{
-    let SpansAnswer {
-        number,
-        place: p,
-        operator: o,
-        count: n,
-    } = answer;
-    *place = p;
-    *operator = operator_byte(o);
-    *count = n;
     narrow(number)
 }
 

@@ -1,8 +1,10 @@
 -- A sequence that is found is one of an accepted listing: no rule is broken on its texts or on its features.
 use Prim.Native.Nat.{ℕ, _≤_}
+use native.Mathlib.Decide.{ℕ-discrete}
 use mathlib.Core.Path.{_≡_, refl}
-use mathlib.Core.List.{List}
+use mathlib.Core.List.{List, List-discrete}
 use lib.ListN.{length}
+use Rattle.paper.specs.Bytes.{bytes}
 use Rattle.paper.specs.Lists.{_∈_}
 use Rattle.paper.specs.Tree.{Sequence, Feature, featuresOf}
 use Rattle.paper.specs.Rules.{dna, rna, aa, IsKind, InTexts, InFeature}
@@ -34,7 +36,25 @@ keeps-feature a f m = record { texts = a .texts; feature = a .features f m }
 pub feature-keeps : {w : List ℕ} {k j : ℕ} {q : Sequence ℕ} {f : Feature ℕ} → FindsFeature w k j (give (q, f)) → Keeps q f
 feature-keeps {f = f} (paper.feature s n) = keeps-feature (accepts s) f (n .0, n .2)
 
--- the kind that its moltype names (rule 16)
+-- rule 16 isn't broken
+pub named : {w : List ℕ} {q : Sequence ℕ} → Accepts w q → (d : Rules.Kind) × IsKind d q
+named {q = q} a = by (is? dna) (is? rna) (is? aa)
+  where
+    is? : (d : Rules.Kind) → Dec (IsKind d q)
+    is? d = List-discrete ℕ-discrete (q .moltype .read) (bytes (Rules.kindName d))
+
+    none-of : ¬ IsKind dna q → ¬ IsKind rna q → ¬ IsKind aa q → (d : Rules.Kind) → ¬ IsKind d q
+    none-of x y z dna = x
+    none-of x y z rna = y
+    none-of x y z aa = z
+
+    by : Dec (IsKind dna q) → Dec (IsKind rna q) → Dec (IsKind aa q) → (d : Rules.Kind) × IsKind d q
+    by (yes h) y z = (dna, h)
+    by (no x) (yes h) z = (rna, h)
+    by (no x) (no y) (yes h) = (aa, h)
+    by (no x) (no y) (no z) = absurd (a .texts 16 (q .moltype .place) (Rules.rule-16 (none-of x y z)))
+
+-- the kind that its moltype names
 pub record KindOf (q : Sequence ℕ) (c : Molecule) : Type 0 where
   pub kind : Rules.Kind
   pub is : IsKind kind q

@@ -3,19 +3,18 @@ use Prim.Native.Nat.{ℕ}
 use mathlib.Core.Path.{_≡_, sym, _∙_, subst, subst₂}
 use mathlib.Core.Bool.{Bool}
 use mathlib.Core.List.{List}
-use Rattle.paper.specs.Answers.{refuse, isPresent, FindsSequence, FindsFeature, FindsQualifier, SequenceSays, FeatureSays, QualifierSays}
+use Rattle.paper.specs.Answers.{refuse, isPresent, FindsSequence, FindsQualifier, SequenceSays, QualifierSays}
 use Rattle.paper.specs.Answers as paper
 use Rattle.value_words.specs.declared.Molecule.{Molecule}
 use Rattle.walk_steps.specs.declared.Range.{Range}
 use Rattle.walk_items.specs.declared.FoundQualifier.{FoundQualifier}
-use Rattle.ask_answers.specs.Stretches.{partIs, noSequence, noFeature, noQualifier}
+use Rattle.ask_answers.specs.Stretches.{partIs, noSequence, noQualifier}
 use Rattle.ask_answers.specs.declared.Stretch.{Stretch}
 use Rattle.ask_answers.specs.declared.SequenceAnswer.{SequenceAnswer}
-use Rattle.ask_answers.specs.declared.FeatureAnswer.{FeatureAnswer}
 use Rattle.ask_answers.specs.declared.QualifierAnswer.{QualifierAnswer}
 use Rattle.ask_show.specs.Shown.{StretchOf, IsPresent, ValueOf, kindIs}
 use Rattle.ask_show.proofs.Parts.{lies-none}
-use Rattle.ask_found.specs.Answers.{SequenceGiven, FeatureGiven, QualifierGiven, AnswersSequence, AnswersFeature, AnswersQualifier}
+use Rattle.ask_found.specs.Answers.{SequenceGiven, QualifierGiven, AnswersSequence, AnswersQualifier}
 use Rattle.ask_found.proofs.Accepted.{accepts, kind-found}
 
 -- ---- a sequence
@@ -32,21 +31,6 @@ sequence-located {c} e s =
           let g = kind-found c (accepts finds) is in
           let z = s .says w (q .residues) i in
           (subst₂ (SequenceSays w k 0 0) (sym (e ∙ g .number)) (sym (z .0)) (paper.found (g .kind) finds (g .is)), z .1);
-    }
-
--- ---- a feature
-
-pub feature-refused : {w : List ℕ} {k j n p : ℕ} {r : FeatureAnswer} → FindsFeature w k j (refuse n p) → r ≡ noFeature n p → FeatureGiven w k j r
-feature-refused {w} {k} {j} h e = subst (FeatureGiven w k j) (sym e) (paper.refused h, (lies-none w, lies-none w))
-
-pub feature-located : {p o : Range} {x y : Stretch} → StretchOf p x → StretchOf o y → AnswersFeature p o (record { number = 0; place = 0; key = x; location = y })
-feature-located a b =
-    record {
-      says =
-          λ w k j q f finds ik il.
-          let u = a .says w (f .key) ik in
-          let v = b .says w (f .location) il in
-          (subst₂ (FeatureSays w k j 0 0) (sym (u .0)) (sym (v .0)) (paper.found finds), (u .1, v .1));
     }
 
 -- ---- a qualifier

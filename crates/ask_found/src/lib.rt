@@ -5,8 +5,7 @@ use ask_answers::FeatureAnswer;
 use ask_answers::LentAnswer;
 use ask_answers::QualifierAnswer;
 use ask_answers::SequenceAnswer;
-use ask_answers::SpansAnswer;
-use ask_answers::no_spans;
+use ask_answers::no_feature;
 use ask_show::is_present;
 use ask_show::kind_number;
 use ask_show::stretch_of;
@@ -17,7 +16,26 @@ use value_words::Molecule;
 use walk_items::FoundFeature;
 use walk_items::FoundQualifier;
 use walk_steps::Range;
-ghost use Rattle.ask_found.specs.Answers.{AnswersSequence, AnswersFeature, AnswersQualifier, AnswersSpans, AnswersTranslation, AnswersTranslations};
+ghost use Rattle.ask_found.specs.Answers.{TopOf, KnowsFound, AnswersSequence, AnswersFeature, AnswersQualifier, AnswersTranslation, AnswersTranslations};
+
+// L of a sequence: each of its residues is a symbol, so none need be read.
+fn top_of(residues: Range) -> u32
+    ensures { λ r. ⌜ TopOf residues r ⌝ }
+{
+    (stretch_of(residues).size % 4_294_967_296) as u32
+}
+
+// What is known of a sequence, by its kind and its residues.
+pub fn known_of(kind: Molecule, residues: Range) -> Known
+    ensures { λ r. ⌜ KnowsFound kind residues r ⌝ }
+{
+    Known {
+        kind,
+        top: top_of(residues),
+        foreign: residues.to,
+        residues,
+    }
+}
 
 pub fn sequence_answer(kind: Molecule, residues: Range) -> SequenceAnswer
     ensures { λ r. ⌜ AnswersSequence kind residues r ⌝ }
@@ -30,14 +48,27 @@ pub fn sequence_answer(kind: Molecule, residues: Range) -> SequenceAnswer
     }
 }
 
-pub fn feature_answer(key: Range, location: Range) -> FeatureAnswer
-    ensures { λ r. ⌜ AnswersFeature key location r ⌝ }
+// Its key and its location, and the spans of that, three numbers of each at the front of out; or nothing is shown or written.
+pub fn feature_answer(
+    listing: &[u8],
+    residues: Range,
+    key: Range,
+    location: Range,
+    out: &mut [u32],
+) -> FeatureAnswer
+    ensures { λ r. ⌜ AnswersFeature (now (listing .entry)) residues key location (now (out .entry)) r (now (out .exit)) ⌝ }
 {
-    FeatureAnswer {
-        number: 0,
-        place: 0,
-        key: stretch_of(key),
-        location: stretch_of(location),
+    let top = top_of(residues);
+    match location_spans::room::spans(listing, location.from, location.to, top, out) {
+        Answer::Short => no_feature(34, 0),
+        Answer::Are(operator, count) => FeatureAnswer {
+            number: 0,
+            place: 0,
+            key: stretch_of(key),
+            location: stretch_of(location),
+            operator,
+            count,
+        },
     }
 }
 
@@ -51,24 +82,6 @@ pub fn qualifier_answer(found: FoundQualifier) -> QualifierAnswer
         name: stretch_of(found.name),
         present: is_present(value),
         value: value_stretch(value),
-    }
-}
-
-// The spans of a location, three numbers of each at the front of out; or nothing is written.
-pub fn spans_answer(listing: &[u8], top: u32, location: Range, out: &mut [u32]) -> SpansAnswer
-    ensures { λ r. ⌜ AnswersSpans (now (listing .entry)) top location (now (out .entry)) r (now (out .exit)) ⌝ }
-{
-    match location_spans::room::spans(listing, location.from, location.to, top, out) {
-        Answer::Are(operator, count) => SpansAnswer {
-            number: 0,
-            place: 0,
-            operator,
-            count,
-        },
-        Answer::Short => no_spans(34, 0),
-        // An accepted listing has neither.
-        Answer::Bad => no_spans(24, 0),
-        Answer::Wrong => no_spans(25, 0),
     }
 }
 

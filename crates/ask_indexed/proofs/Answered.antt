@@ -7,7 +7,7 @@ use Rattle.paper.specs.Lists.{Numbered}
 use Rattle.paper.specs.Tree.{Feature, featuresOf}
 use Rattle.paper.specs.Answers.{refuse, give}
 use Rattle.paper.specs.Answers as paper
-use Rattle.paper.specs.Index.{ChecksIndex, WithIndex, IndexedSequenceSays, IndexedFeatureSays, IndexedQualifierSays, IndexedSpansSays, IndexedTranslationSays, IndexedTranslationsSays}
+use Rattle.paper.specs.Index.{ChecksIndex, WithIndex, IndexedSequenceSays, IndexedFeatureSays, IndexedQualifierSays, IndexedTranslationSays, IndexedTranslationsSays}
 use Rattle.walk_items.specs.Items.{FeatureFrom}
 use Rattle.walk_items.specs.declared.FoundFeature.{FoundFeature}
 use Rattle.walk_items.specs.declared.FoundQualifier.{FoundQualifier}
@@ -21,17 +21,16 @@ use Rattle.index_find.specs.declared.Body.{Body}
 use Rattle.index_find.specs.declared.Entry.{Entry}
 use Rattle.index_find.specs.declared.EntryAt.{EntryAt}
 use Rattle.index_find.specs.declared.EntryAt.the-variants as entry
-use Rattle.ask_answers.specs.Stretches.{partIs, Lies, noSequence, noFeature, noQualifier, noSpans, nothingLent}
+use Rattle.ask_answers.specs.Stretches.{partIs, shownIn, Lies, noSequence, noFeature, noQualifier, nothingLent}
 use Rattle.ask_answers.specs.declared.SequenceAnswer.{SequenceAnswer}
 use Rattle.ask_answers.specs.declared.FeatureAnswer.{FeatureAnswer}
 use Rattle.ask_answers.specs.declared.QualifierAnswer.{QualifierAnswer}
-use Rattle.ask_answers.specs.declared.SpansAnswer.{SpansAnswer}
 use Rattle.ask_answers.specs.declared.LentAnswer.{LentAnswer}
 use Rattle.ask_show.proofs.Parts.{lies-none}
 use Rattle.ask_index.specs.Takes.{IndexOf}
 use Rattle.ask_found.specs.Answers as answers
 use Rattle.ask_found.proofs.Translated.{translations-none}
-use Rattle.ask_indexed.specs.Finds.{Refuses, checker, later, SequenceRefused, FeatureRefused, BodyHere, EntryHere, KnowsBody}
+use Rattle.ask_indexed.specs.Finds.{Refuses, checker, later, SequenceRefused, FeatureRefused, BodyHere, EntryHere}
 use Rattle.ask_indexed.proofs.Found.{feature-given, residues-part, body-stands, key-part, location-part, feature-there, feature-is}
 use Rattle.ask_indexed.proofs.Known.{body-kind, body-knows}
 
@@ -41,8 +40,8 @@ module _ (w x : List ℕ) where
   abbrev SequenceGiven : ℕ → SequenceAnswer → Type 0
   SequenceGiven k r = IndexedSequenceSays w x k (r .number) (r .place) (r .kind) (partIs (r .residues)) × Lies w (r .residues)
 
-  abbrev FeatureGiven : ℕ → ℕ → FeatureAnswer → Type 0
-  FeatureGiven k j r = IndexedFeatureSays w x k j (r .number) (r .place) (partIs (r .key)) (partIs (r .location)) × (Lies w (r .key) × Lies w (r .location))
+  abbrev FeatureGiven : ℕ → ℕ → List ℕ → FeatureAnswer → List ℕ → Type 0
+  FeatureGiven k j out r after = IndexedFeatureSays w x k j out (r .number) (r .place) (shownIn r) after × (Lies w (r .key) × Lies w (r .location))
 
   abbrev QualifierGiven : ℕ → ℕ → ℕ → QualifierAnswer → Type 0
   QualifierGiven k j i r =
@@ -69,18 +68,15 @@ module _ {w x : List ℕ} {k n p : ℕ} where
       (refused-by h (refl, refl) (λ f. record { outcome = refuse n p; finds = paper.earlier f; lent = paper.refused }))
 
   module _ {j : ℕ} (h : Refuses w x (FeatureRefused w k j) n p) where
-    pub feature-refused : {r : FeatureAnswer} → r ≡ noFeature n p → FeatureGiven w x k j r
-    feature-refused e = subst (FeatureGiven w x k j) (sym e) (refused-by h (refl, refl) paper.refused, (lies-none w, lies-none w))
+    pub feature-refused : {out : List ℕ} {r : FeatureAnswer} → r ≡ noFeature n p → FeatureGiven w x k j out r out
+    feature-refused {out} e =
+        subst (λ (r : FeatureAnswer). FeatureGiven w x k j out r out) (sym e)
+        (refused-by h (refl, refl) (λ f. paper.refused (paper.earlier f)), (lies-none w, lies-none w))
 
     pub qualifier-refused : {i : ℕ} {r : QualifierAnswer} → r ≡ noQualifier n p → QualifierGiven w x k j i r
     qualifier-refused {i} e =
         subst (QualifierGiven w x k j i) (sym e)
         (refused-by h (refl, refl, refl) (λ f. paper.refused (paper.earlier f)), (lies-none w, lies-none w))
-
-    pub spans-refused : {out : List ℕ} {r : SpansAnswer} → r ≡ noSpans n p → IndexedSpansSays w x k j out (r .number) (r .place) (r .operator) (r .count) out
-    spans-refused {out} e =
-        subst (λ (r : SpansAnswer). IndexedSpansSays w x k j out (r .number) (r .place) (r .operator) (r .count) out) (sym e)
-        (refused-by h (refl, refl, refl) (λ f. paper.refused (paper.earlier f)))
 
     pub translation-refused : {out : List ℕ} {r : LentAnswer} → r ≡ nothingLent n p → IndexedTranslationSays w x k j out (r .number) (r .place) (r .size) out
     translation-refused {out} e =
@@ -106,7 +102,7 @@ module _ {w x : List ℕ} {k : ℕ} {b : Body} (i : BodyHere w x k b) where
         none-of (g ∷ l) h = absurd (h g (0, refl, refl))
 
     -- from the first of them on
-    pub translations-answered : {y : Entry} {known : Known} {g : FoundFeature} {out after : List ℕ} {r : LentAnswer} → e ≡ entry.Found y → KnowsBody b known
+    pub translations-answered : {y : Entry} {known : Known} {g : FoundFeature} {out after : List ℕ} {r : LentAnswer} → e ≡ entry.Found y → answers.KnowsFound (b .kind) (b .residues) known
         → FeatureFrom w (y .key) (y .location) g → answers.AnswersTranslations w known g out r after
         → IndexedTranslationsSays w x k out (r .number) (r .place) (r .size) after
     translations-answered {y = e'} z h from a =
@@ -127,18 +123,14 @@ module _ {w x : List ℕ} {k j : ℕ} {b : Body} {e : Entry} (y : EntryHere w x 
   here : ChecksIndex w x (give (y .body .index .listing))
   here = takes (y .body .index)
 
-  pub feature-answered : {r : FeatureAnswer} → answers.AnswersFeature (e .key) (e .location) r → FeatureGiven w x k j r
+  pub feature-answered : {out after : List ℕ} {r : FeatureAnswer} → answers.AnswersFeature w (b .residues) (e .key) (e .location) out r after
+      → FeatureGiven w x k j out r after
   feature-answered a =
-      let z = a .says w k j (y .body .asked) (y .asked) (feature-given y) (key-part y) (location-part y) in
+      let z = a .says k j (y .body .asked) (y .asked) (feature-given y) (residues-part (y .body)) (key-part y) (location-part y) in
       (WithIndex.taken here (z .0), z .1)
 
-  pub spans-answered : {known : Known} {out after : List ℕ} {r : SpansAnswer} → KnowsBody b known → answers.AnswersSpans w (known .top) (e .location) out r after
-      → IndexedSpansSays w x k j out (r .number) (r .place) (r .operator) (r .count) after
-  spans-answered h a =
-      WithIndex.taken here (a .says k j (y .body .asked) (y .asked) (feature-given y) (body-knows (y .body) h .size) (location-part y))
-
   module _ {g : FoundFeature} (from : FeatureFrom w (e .key) (e .location) g) where
-    pub translation-answered : {known : Known} {out after : List ℕ} {r : LentAnswer} → KnowsBody b known → answers.AnswersTranslation w known g out r after
+    pub translation-answered : {known : Known} {out after : List ℕ} {r : LentAnswer} → answers.KnowsFound (b .kind) (b .residues) known → answers.AnswersTranslation w known g out r after
         → IndexedTranslationSays w x k j out (r .number) (r .place) (r .size) after
     translation-answered h a =
         let s = feature-there y in

@@ -1,13 +1,10 @@
 -- What is promised of an item that an index finds: the checker's refusal, a later one, or which of the paper's tree it is.
 use Prim.Native.Nat.{ℕ}
-use mathlib.Core.Path.{_≡_}
 use mathlib.Core.List.{List}
 use Rattle.paper.specs.Lists.{Numbered}
 use Rattle.paper.specs.Tree.{Feature, Sequence, featuresOf}
 use Rattle.paper.specs.Answers.{refuse, give, FindsSequence, FindsFeature}
 use Rattle.paper.specs.Index.{ChecksIndex}
-use Rattle.judge_faults.specs.declared.Known.{Known}
-use Rattle.index_walk.specs.Bodies.{SizeOfPart}
 use Rattle.index_find.specs.Finds.{RangeOf, BodyIs}
 use Rattle.index_find.specs.declared.Body.{Body}
 use Rattle.index_find.specs.declared.BodyAt.{BodyAt}
@@ -53,11 +50,3 @@ FeatureRefused w k j n p = FindsFeature w k j (refuse n p)
 abbrev pub EntryAsked : List ℕ → List ℕ → ℕ → ℕ → Entered → Type 0
 EntryAsked w x k j (entry.Refused n p) = Refuses w x (FeatureRefused w k j) n p
 EntryAsked w x k j (entry.Found b e) = EntryHere w x k j b e
-
--- ---- what is known by a body
-
-pub record KnowsBody (b : Body) (r : Known) : Type 0 where
-  pub kind : r .kind ≡ b .kind
-  pub top : SizeOfPart (b .residues) (r .top)
-  pub foreign : r .foreign ≡ b .residues .to
-  pub residues : r .residues ≡ b .residues

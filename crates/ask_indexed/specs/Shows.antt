@@ -8,8 +8,8 @@ use Rattle.ask_show.specs.Shown.{SequenceView, FeatureView, QualifierView, Show
 abbrev pub ShowsSequence : List ℕ → ℕ × ℕ → List ℕ → ℕ → SequenceView → Type 0
 ShowsSequence w at x k = ShowsSequenceBy (IndexedSequenceSays w x k) w at
 
-abbrev pub ShowsFeature : List ℕ → ℕ × ℕ → List ℕ → ℕ → ℕ → FeatureView → Type 0
-ShowsFeature w at x k j = ShowsFeatureBy (IndexedFeatureSays w x k j) w at
+abbrev pub ShowsFeature : List ℕ → ℕ × ℕ → List ℕ → ℕ → ℕ → (out : List ℕ) → FeatureView → Type 0
+ShowsFeature w at x k j out = ShowsFeatureBy (IndexedFeatureSays w x k j out) w at
 
 abbrev pub ShowsQualifier : List ℕ → ℕ × ℕ → List ℕ → ℕ → ℕ → ℕ → QualifierView → Type 0
 ShowsQualifier w at x k j i = ShowsQualifierBy (IndexedQualifierSays w x k j i) w at

@@ -5,16 +5,14 @@ use ask_answers::FeatureAnswer;
 use ask_answers::LentAnswer;
 use ask_answers::QualifierAnswer;
 use ask_answers::SequenceAnswer;
-use ask_answers::SpansAnswer;
 use ask_answers::no_feature;
 use ask_answers::no_qualifier;
 use ask_answers::no_sequence;
-use ask_answers::no_spans;
 use ask_answers::nothing_lent;
 use ask_found::feature_answer;
+use ask_found::known_of;
 use ask_found::qualifier_answer;
 use ask_found::sequence_answer;
-use ask_found::spans_answer;
 use ask_found::translation_answer;
 use ask_found::translations_answer;
 use ask_index::Taken;
@@ -26,13 +24,12 @@ use index_find::Entry;
 use index_find::EntryAt;
 use index_find::body_of;
 use index_find::entry_of;
-use judge_faults::Known;
 use walk_items::feature_from;
 use walk_seek::QualifierAt;
 use walk_seek::qualifier_in;
-ghost use Rattle.paper.specs.Index.{IndexedSequenceSays, IndexedFeatureSays, IndexedQualifierSays, IndexedSpansSays, IndexedTranslationSays, IndexedTranslationsSays};
-ghost use Rattle.ask_answers.specs.Stretches.{partIs, Lies};
-ghost use Rattle.ask_indexed.specs.Finds.{BodyAsked, EntryAsked, KnowsBody};
+ghost use Rattle.paper.specs.Index.{IndexedSequenceSays, IndexedFeatureSays, IndexedQualifierSays, IndexedTranslationSays, IndexedTranslationsSays};
+ghost use Rattle.ask_answers.specs.Stretches.{partIs, shownIn, Lies};
+ghost use Rattle.ask_indexed.specs.Finds.{BodyAsked, EntryAsked};
 ghost use Rattle.ask_indexed.specs.Shows.{ShowsSequence, ShowsFeature, ShowsQualifier};
 
 // ---- found by the index
@@ -63,20 +60,6 @@ fn find_entry(listing: &[u8], index: &[u8], k: usize, j: usize) -> Entered
             EntryAt::Missing => Entered::Refused { rule: 32, place: 0 },
             EntryAt::Found(entry) => Entered::Found { body, entry },
         },
-    }
-}
-
-// What is known of a sequence by its body: each of its residues is a symbol, so L is their size.
-fn known_of(body: Body) -> Known
-    ensures { λ r. ⌜ KnowsBody body r ⌝ }
-{
-    let kind = body.kind;
-    let residues = body.residues;
-    Known {
-        kind,
-        top: index_walk::part_size(residues),
-        foreign: residues.to,
-        residues,
     }
 }
 
@@ -120,37 +103,52 @@ pub fn sequence<'l>(
 
 // ---- a feature
 
-pub fn locate_feature(listing: &[u8], index: &[u8], k: usize, j: usize) -> FeatureAnswer
-    ensures { λ r. ⌜ IndexedFeatureSays (now (listing .entry)) (now (index .entry)) k j (r .number) (r .place) (partIs (r .key)) (partIs (r .location)) ⌝ }
+pub fn locate_feature(
+    listing: &[u8],
+    index: &[u8],
+    k: usize,
+    j: usize,
+    out: &mut [u32],
+) -> FeatureAnswer
+    ensures { λ r. ⌜ IndexedFeatureSays (now (listing .entry)) (now (index .entry)) k j (now (out .entry)) (r .number) (r .place) (shownIn r) (now (out .exit)) ⌝ }
     ensures { λ r. ⌜ Lies (now (listing .entry)) (r .key) × Lies (now (listing .entry)) (r .location) ⌝ }
 {
     match find_entry(listing, index, k, j) {
         Entered::Refused { rule, place } => no_feature(rule, place),
-        Entered::Found { body: _, entry } => feature_answer(entry.key, entry.location),
+        Entered::Found { body, entry } => {
+            feature_answer(listing, body.residues, entry.key, entry.location, out)
+        }
     }
 }
 
-// The location is returned, the key goes to the lent place.
+// The location is returned, the key goes to the lent place, the spans to the lent numbers.
 pub fn feature<'l, 'k>(
     listing: &'l [u8],
     index: &[u8],
     k: usize,
     j: usize,
+    out: &mut [u32],
     number: &mut usize,
     place: &mut usize,
     key: &'k mut &'l [u8],
+    operator: &mut u32,
+    count: &mut usize,
 ) -> &'l [u8]
-    ensures { λ r. ⌜ ShowsFeature (now (listing .entry)) (listing .entry .ptr) (now (index .entry)) k j (record { number = now (number .exit); place = now (place .exit); key = record { bytes = now (now (key .exit)); ptr = now (key .exit) .ptr }; location = record { bytes = now r; ptr = r .ptr } }) ⌝ }
+    ensures { λ r. ⌜ ShowsFeature (now (listing .entry)) (listing .entry .ptr) (now (index .entry)) k j (now (out .entry)) (record { number = now (number .exit); place = now (place .exit); key = record { bytes = now (now (key .exit)); ptr = now (key .exit) .ptr }; location = record { bytes = now r; ptr = r .ptr }; operator = now (operator .exit); count = now (count .exit); after = now (out .exit) }) ⌝ }
 {
     let FeatureAnswer {
         number: n,
         place: p,
         key: name,
         location,
-    } = locate_feature(listing, index, k, j);
+        operator: o,
+        count: c,
+    } = locate_feature(listing, index, k, j, out);
     *number = n;
     *place = p;
     *key = shown(listing, name);
+    *operator = o;
+    *count = c;
     shown(listing, location)
 }
 
@@ -206,21 +204,6 @@ pub fn qualifier<'l, 'k>(
     shown(listing, value)
 }
 
-// ---- spans
-
-// The spans of a feature, three numbers of each at the front of out; or nothing is written.
-pub fn spans(listing: &[u8], index: &[u8], k: usize, j: usize, out: &mut [u32]) -> SpansAnswer
-    ensures { λ r. ⌜ IndexedSpansSays (now (listing .entry)) (now (index .entry)) k j (now (out .entry)) (r .number) (r .place) (r .operator) (r .count) (now (out .exit)) ⌝ }
-{
-    match find_entry(listing, index, k, j) {
-        Entered::Refused { rule, place } => no_spans(rule, place),
-        Entered::Found { body, entry } => {
-            let known = known_of(body);
-            spans_answer(listing, known.top, entry.location, out)
-        }
-    }
-}
-
 // ---- translations
 
 // One translation at the front of out; or nothing is written.
@@ -230,7 +213,8 @@ pub fn translation(listing: &[u8], index: &[u8], k: usize, j: usize, out: &mut [
     match find_entry(listing, index, k, j) {
         Entered::Refused { rule, place } => nothing_lent(rule, place),
         Entered::Found { body, entry } => {
-            let known = known_of(body);
+            let kind = body.kind;
+            let known = known_of(kind, body.residues);
             let feature = feature_from(listing, entry.key, entry.location);
             translation_answer(listing, known, feature, out)
         }
@@ -250,7 +234,8 @@ pub fn translations(listing: &[u8], index: &[u8], k: usize, out: &mut [u8]) -> L
                 size: 0,
             },
             EntryAt::Found(entry) => {
-                let known = known_of(body);
+                let kind = body.kind;
+            let known = known_of(kind, body.residues);
                 let first = feature_from(listing, entry.key, entry.location);
                 translations_answer(listing, known, first, out)
             }

@@ -18,12 +18,10 @@ use Rattle.judge_faults.proofs.Bytes.{part-shows}
 use Rattle.ask_answers.specs.declared.SequenceAnswer.{SequenceAnswer}
 use Rattle.ask_answers.specs.declared.FeatureAnswer.{FeatureAnswer}
 use Rattle.ask_answers.specs.declared.QualifierAnswer.{QualifierAnswer}
-use Rattle.ask_answers.specs.declared.SpansAnswer.{SpansAnswer}
 use Rattle.ask_answers.specs.declared.LentAnswer.{LentAnswer}
 use Rattle.ask_find.specs.Finds.{SequenceIs, FeatureIs, QualifierIs}
 use Rattle.ask_find.proofs.Found.{feature-given}
 use Rattle.ask_found.specs.Answers as answers
-use Rattle.ask_found.proofs.Accepted.{accepts}
 use Rattle.ask_found.proofs.Translated.{translations-none}
 use Rattle.ask_lookups.specs.Shows.{KnowsSequence}
 
@@ -35,7 +33,7 @@ module _ {w : List ℕ} {k : ℕ} where
         a .says w k (i .asked) (i .finds) (t .says (i .asked .moltype .read) (part-shows (i .is .moltype) h)) (i .is .residues)
 
     found-knows : {known : Known} → KnowsSequence w s known → Knows w (i .asked) known
-    found-knows h = h .says (i .asked) (i .end) (accepts (i .finds) .short) (i .is)
+    found-knows h = h .says k (i .asked) (i .end) (i .finds) (i .is)
 
     pub no-lines : {out : List ℕ} → s .table .present ≡ false → TranslationsSays w k out 0 0 0 out
     no-lines h = translations-none (i .finds) (no-features (i .is) h)
@@ -45,16 +43,11 @@ module _ {w : List ℕ} {k : ℕ} where
     translations-answered h n m a = a .says k (i .asked) (i .finds) (found-knows n) (first-found (i .is) h m)
 
   module _ {j : ℕ} {s : FoundSequence} {f : FoundFeature} (i : FeatureIs w k j s f) where
-    pub feature-answered : {r : FeatureAnswer} → answers.AnswersFeature (f .key) (f .location) r → answers.FeatureGiven w k j r
+    pub feature-answered : {out after : List ℕ} {r : FeatureAnswer} → answers.AnswersFeature w (s .residues) (f .key) (f .location) out r after
+        → answers.FeatureGiven w k j out r after
     feature-answered a =
         let y = i .feature in
-        a .says w k j (i .sequence .asked) (y .asked) (feature-given i) (y .is .key) (y .is .location)
-
-    pub spans-answered : {known : Known} {out after : List ℕ} {r : SpansAnswer} → KnowsSequence w s known
-        → answers.AnswersSpans w (known .top) (f .location) out r after → answers.SpansGiven w k j out r after
-    spans-answered h a =
-        let y = i .feature in
-        a .says k j (i .sequence .asked) (y .asked) (feature-given i) (found-knows (i .sequence) h .size) (y .is .location)
+        a .says k j (i .sequence .asked) (y .asked) (feature-given i) (i .sequence .is .residues) (y .is .key) (y .is .location)
 
     pub translation-answered : {known : Known} {out after : List ℕ} {r : LentAnswer} → KnowsSequence w s known
         → answers.AnswersTranslation w known f out r after → answers.TranslationGiven w k j out r after

@@ -1,15 +1,13 @@
 // The calls of document 01 that show a piece of an accepted listing: each is the check, a walk to the item, and its answer.
 // Any bytes, any numbers and any room may be given; nobody need check anything first.
-// Relies on the other crates of this floor, ask_find and ask_found first, and on the parts of the judge for the kind and L.
+// Relies on the other crates of this floor, ask_find and ask_found first, and on the values for the kind.
 use ask_answers::FeatureAnswer;
 use ask_answers::LentAnswer;
 use ask_answers::QualifierAnswer;
 use ask_answers::SequenceAnswer;
-use ask_answers::SpansAnswer;
 use ask_answers::no_feature;
 use ask_answers::no_qualifier;
 use ask_answers::no_sequence;
-use ask_answers::no_spans;
 use ask_answers::nothing_lent;
 use ask_find::SequenceAt;
 use ask_find::find_feature;
@@ -18,7 +16,6 @@ use ask_find::find_sequence;
 use ask_found::feature_answer;
 use ask_found::qualifier_answer;
 use ask_found::sequence_answer;
-use ask_found::spans_answer;
 use ask_found::translation_answer;
 use ask_found::translations_answer;
 use ask_show::shown;
@@ -27,8 +24,8 @@ use read_steps::bytes_of;
 use walk_items::FoundSequence;
 use walk_seek::FeatureAt;
 use walk_seek::QualifierAt;
-ghost use Rattle.paper.specs.Answers.{SequenceSays, FeatureSays, QualifierSays, SpansSays, TranslationSays, TranslationsSays};
-ghost use Rattle.ask_answers.specs.Stretches.{partIs, Lies};
+ghost use Rattle.paper.specs.Answers.{SequenceSays, FeatureSays, QualifierSays, TranslationSays, TranslationsSays};
+ghost use Rattle.ask_answers.specs.Stretches.{partIs, shownIn, Lies};
 ghost use Rattle.ask_lookups.specs.Shows.{KnowsSequence, ShowsSequence, ShowsFeature, ShowsQualifier};
 
 // ---- a sequence
@@ -71,39 +68,50 @@ pub fn sequence<'l>(
 
 // ---- a feature
 
-pub fn locate_feature(listing: &[u8], k: usize, j: usize) -> FeatureAnswer
-    ensures { λ r. ⌜ FeatureSays (now (listing .entry)) k j (r .number) (r .place) (partIs (r .key)) (partIs (r .location)) ⌝ }
+pub fn locate_feature(listing: &[u8], k: usize, j: usize, out: &mut [u32]) -> FeatureAnswer
+    ensures { λ r. ⌜ FeatureSays (now (listing .entry)) k j (now (out .entry)) (r .number) (r .place) (shownIn r) (now (out .exit)) ⌝ }
     ensures { λ r. ⌜ Lies (now (listing .entry)) (r .key) × Lies (now (listing .entry)) (r .location) ⌝ }
 {
     match find_feature(listing, k, j) {
         FeatureAt::Refused { rule, place } => no_feature(rule, place),
-        FeatureAt::Found {
-            sequence: _,
-            feature,
-        } => feature_answer(feature.key, feature.location),
+        FeatureAt::Found { sequence, feature } => feature_answer(
+            listing,
+            sequence.residues,
+            feature.key,
+            feature.location,
+            out,
+        ),
     }
 }
 
-// "its key and location parts": the location is returned, the key goes to the lent place.
+// "key part, location part, operator, count and spans": the location is returned, the key goes to the lent place, the spans to the lent
+// numbers.
 pub fn feature<'l, 'k>(
     listing: &'l [u8],
     k: usize,
     j: usize,
+    out: &mut [u32],
     number: &mut usize,
     place: &mut usize,
     key: &'k mut &'l [u8],
+    operator: &mut u32,
+    count: &mut usize,
 ) -> &'l [u8]
-    ensures { λ r. ⌜ ShowsFeature (now (listing .entry)) (listing .entry .ptr) k j (record { number = now (number .exit); place = now (place .exit); key = record { bytes = now (now (key .exit)); ptr = now (key .exit) .ptr }; location = record { bytes = now r; ptr = r .ptr } }) ⌝ }
+    ensures { λ r. ⌜ ShowsFeature (now (listing .entry)) (listing .entry .ptr) k j (now (out .entry)) (record { number = now (number .exit); place = now (place .exit); key = record { bytes = now (now (key .exit)); ptr = now (key .exit) .ptr }; location = record { bytes = now r; ptr = r .ptr }; operator = now (operator .exit); count = now (count .exit); after = now (out .exit) }) ⌝ }
 {
     let FeatureAnswer {
         number: n,
         place: p,
         key: name,
         location,
-    } = locate_feature(listing, k, j);
+        operator: o,
+        count: c,
+    } = locate_feature(listing, k, j, out);
     *number = n;
     *place = p;
     *key = shown(listing, name);
+    *operator = o;
+    *count = c;
     shown(listing, location)
 }
 
@@ -146,30 +154,16 @@ pub fn qualifier<'l, 'k>(
     shown(listing, value)
 }
 
-// ---- spans
+// ---- translations
 
 // What is known of a sequence that was found.
 fn known_of(listing: &[u8], sequence: FoundSequence) -> Known
     ensures { λ r. ⌜ KnowsSequence (now (listing .entry)) sequence r ⌝ }
 {
-    let symbols = value_residues::symbol_table();
-    judge_texts::known_of(listing, sequence.moltype, sequence.residues, &symbols)
+    let moltype = sequence.moltype;
+    let kind = value_words::kind_of(bytes_of(listing, moltype.from, moltype.to));
+    ask_found::known_of(kind, sequence.residues)
 }
-
-// The spans of a feature, three numbers of each at the front of out; or nothing is written.
-pub fn spans(listing: &[u8], k: usize, j: usize, out: &mut [u32]) -> SpansAnswer
-    ensures { λ r. ⌜ SpansSays (now (listing .entry)) k j (now (out .entry)) (r .number) (r .place) (r .operator) (r .count) (now (out .exit)) ⌝ }
-{
-    match find_feature(listing, k, j) {
-        FeatureAt::Refused { rule, place } => no_spans(rule, place),
-        FeatureAt::Found { sequence, feature } => {
-            let known = known_of(listing, sequence);
-            spans_answer(listing, known.top, feature.location, out)
-        }
-    }
-}
-
-// ---- translations
 
 // One translation at the front of out; or nothing is written.
 pub fn translation(listing: &[u8], k: usize, j: usize, out: &mut [u8]) -> LentAnswer

@@ -4,7 +4,7 @@ use Prim.Native.Nat.{ℕ, _+_}
 use mathlib.Core.Path.{_≡_, ap, sym, _∙_}
 use mathlib.Core.Bool.{Bool}
 use mathlib.Core.List.{List}
-use Rattle.paper.specs.Answers.{shown, Part}
+use Rattle.paper.specs.Answers.{shown, Part, FeatureShown}
 use Rattle.ask_answers.specs.Stretches.{partIs, Lies}
 use Rattle.ask_answers.specs.declared.Stretch.{Stretch}
 use Rattle.ask_show.specs.Shown.{Points, PointsAt, View, SequenceView, FeatureView, QualifierView, ShowsSequenceBy, ShowsFeatureBy, ShowsQualifierBy}
@@ -32,19 +32,21 @@ module _ {w : List ℕ} {at : ℕ × ℕ} where
         let r = view-once (x .residues) (y .residues) (f .points) (g .points) (z .3) in
         λ i. record { number = z .0 i; place = z .1 i; kind = z .2 i; residues = r i }
 
-  module _ (Says : (number place : ℕ) (key location : Part) → Type 0) where
-    pub shows-feature : {n p : ℕ} {x v : Stretch} {r s : List ℕ} {a b : ℕ × ℕ} → Says n p (partIs x) (partIs v) × (Lies w x × Lies w v) → PointsAt w at x r a
-        → PointsAt w at v s b → ShowsFeatureBy Says w at (record { number = n; place = p; key = at-place r a; location = at-place s b })
+  module _ (Says : (number place : ℕ) → FeatureShown → (after : List ℕ) → Type 0) where
+    pub shows-feature : {n p o c : ℕ} {x v : Stretch} {r s after : List ℕ} {a b : ℕ × ℕ}
+        → Says n p (record { key = partIs x; location = partIs v; operator = o; count = c }) after × (Lies w x × Lies w v) → PointsAt w at x r a
+        → PointsAt w at v s b
+        → ShowsFeatureBy Says w at (record { number = n; place = p; key = at-place r a; location = at-place s b; operator = o; count = c; after = after })
     shows-feature {x = x} {v} h y z =
         record { key = partIs x; location = partIs v; says = h .0; named = y .says (h .1 .0); located = z .says (h .1 .1) }
 
-    pub shows-feature-once : ((n p m q : ℕ) (x y v u : Part) → Says n p x y → Says m q v u → (n ≡ m) × (p ≡ q) × (x ≡ v) × (y ≡ u))
+    pub shows-feature-once : ((n p m q : ℕ) (x y : FeatureShown) (a b : List ℕ) → Says n p x a → Says m q y b → (n ≡ m) × (p ≡ q) × (x ≡ y) × (a ≡ b))
         → (x y : FeatureView) → ShowsFeatureBy Says w at x → ShowsFeatureBy Says w at y → x ≡ y
     shows-feature-once once x y f g =
-        let z = once (x .number) (x .place) (y .number) (y .place) (f .key) (f .location) (g .key) (g .location) (f .says) (g .says) in
-        let n = view-once (x .key) (y .key) (f .named) (g .named) (z .2) in
-        let l = view-once (x .location) (y .location) (f .located) (g .located) (z .3) in
-        λ i. record { number = z .0 i; place = z .1 i; key = n i; location = l i }
+        let z = once (x .number) (x .place) (y .number) (y .place) _ _ (x .after) (y .after) (f .says) (g .says) in
+        let n = view-once (x .key) (y .key) (f .named) (g .named) (ap (λ (u : FeatureShown). u .key) (z .2)) in
+        let l = view-once (x .location) (y .location) (f .located) (g .located) (ap (λ (u : FeatureShown). u .location) (z .2)) in
+        λ i. record { number = z .0 i; place = z .1 i; key = n i; location = l i; operator = z .2 i .operator; count = z .2 i .count; after = z .3 i }
 
   module _ (Says : (number place : ℕ) (name : Part) (present : Bool) (value : Part) → Type 0) where
     pub shows-qualifier : {n p : ℕ} {x v : Stretch} {t : Bool} {r s : List ℕ} {a b : ℕ × ℕ} → Says n p (partIs x) t (partIs v) × (Lies w x × Lies w v)

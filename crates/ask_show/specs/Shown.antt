@@ -58,11 +58,15 @@ pub record SequenceView : Type 0 where
   pub kind : ℕ
   pub residues : View
 
+-- with the lent numbers as they are afterwards
 pub record FeatureView : Type 0 where
   pub number : ℕ
   pub place : ℕ
   pub key : View
   pub location : View
+  pub operator : ℕ
+  pub count : ℕ
+  pub after : List ℕ
 
 pub record QualifierView : Type 0 where
   pub number : ℕ
@@ -78,10 +82,10 @@ pub record ShowsSequenceBy (Says : (number place kind : ℕ) (residues : paper.P
   pub says : Says (x .number) (x .place) (x .kind) residues
   pub points : Points w at residues (x .residues .bytes) (x .residues .ptr)
 
-pub record ShowsFeatureBy (Says : (number place : ℕ) (key location : paper.Part) → Type 0) (w : List ℕ) (at : ℕ × ℕ) (x : FeatureView) : Type 0 where
+pub record ShowsFeatureBy (Says : (number place : ℕ) → paper.FeatureShown → (after : List ℕ) → Type 0) (w : List ℕ) (at : ℕ × ℕ) (x : FeatureView) : Type 0 where
   pub key : paper.Part
   pub location : paper.Part
-  pub says : Says (x .number) (x .place) key location
+  pub says : Says (x .number) (x .place) (record { key = key; location = location; operator = x .operator; count = x .count }) (x .after)
   pub named : Points w at key (x .key .bytes) (x .key .ptr)
   pub located : Points w at location (x .location .bytes) (x .location .ptr)
 

@@ -1,3 +1,4 @@
 -- Laws that no one function owns.
+pub mod Kept
 pub mod Planning
 pub mod Ones

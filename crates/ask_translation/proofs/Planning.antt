@@ -15,10 +15,7 @@ use Rattle.paper.specs.Tree.{Text, Sequence, Feature, Qualifier, opt, qualifier
 use Rattle.paper.specs.Translation.{code1, codingText, dropStop, hasStopInside}
 use Rattle.paper.specs.Locations.{Location, Locates, spans, breaks25}
 use Rattle.paper.specs.Rules.{L, isSymbol, Named, Coding, Unjudged, Judged, valueRead, valuePlace, residues, rule-18, rule-24, rule-25, rule-27, rule-28}
-use Rattle.paper.proofs.Leading.{all?}
 use Rattle.paper.proofs.Texts.{raw-once}
-use Rattle.paper.proofs.Locate.{locate-sound, locate-complete}
-use Rattle.paper.proofs.Locate.Model.{locate}
 use Rattle.read_steps.specs.Follow.{Starts, closing}
 use Rattle.read_steps.specs.Parts.{ShowsBytes}
 use Rattle.value_words.specs.Reading.{Tells}
@@ -50,29 +47,9 @@ use Rattle.ask_translation.specs.Plans.{Keeps, GivenIs, GivenAt, Planned
 use Rattle.ask_translation.specs.declared.Plan.{Plan}
 use Rattle.ask_translation.specs.declared.Plan.the-variants.{NoCds, Given, From}
 use Rattle.ask_translation.specs.declared.Plan.the-variants as plan
-
--- ---- what no broken rule gives
+use Rattle.ask_translation.proofs.Kept.{symbols, location-right}
 
 module _ {q : Sequence ℕ} {f : Feature ℕ} (keeps : Keeps q f) where
-  symbols : (c : Coding q f) → all (isSymbol (c .kind)) (q .residues .read)
-  symbols c = by (all? (isSymbol (c .kind)) (q .residues .read))
-    where
-      by : Dec (all (isSymbol (c .kind)) (q .residues .read)) → all (isSymbol (c .kind)) (q .residues .read)
-      by (yes a) = a
-      by (no n) = absurd (keeps .texts 18 _ (residues (rule-18 (c .kind) (c .is) n)))
-
-  location-right : (t : Location) × Locates t (f .location .read) × (breaks25 (L q) t ≡ false)
-  location-right = by (locate (f .location .read)) refl
-    where
-      inside : (t : Location) → Locates t (f .location .read) → (b : Bool) → breaks25 (L q) t ≡ b → breaks25 (L q) t ≡ false
-      inside t h true e = absurd (keeps .feature 25 (f .location .place) (inl (rule-25 t h e)))
-      inside t h false e = e
-
-      by : (o : Option Location) → locate (f .location .read) ≡ o → (t : Location) × Locates t (f .location .read) × (breaks25 (L q) t ≡ false)
-      by none e =
-          absurd (keeps .feature 24 (f .location .place) (inl (rule-24 (λ t h. Option·none-ne-some t (sym e ∙ locate-complete (f .location .read) t h)))))
-      by (some t) e = let h = locate-sound (f .location .read) t e in (t, h, inside t h (breaks25 (L q) t) refl)
-
   -- the value of a translation is right, since rule 28 isn't broken
   value-right : {x : List ℕ} → Judged q f x → (y : Qualifier ℕ) → y ∈ qualifiersOf f → Named "translation" y → (v : List ℕ) → valueRead y ≡ some v → RightValue x v
   value-right {x} j y m n v e = record { clear = clear (hasStopInside x) refl; same = same (List-discrete ℕ-discrete v (dropStop x)) }
@@ -161,7 +138,7 @@ module _ {s wk : List ℕ} {known : Known} {g : FoundFeature} {named : Bool} (sk
               judged =
                   record {
                     coding = c;
-                    symbols = symbols keeps c;
+                    symbols = symbols (keeps .texts) (c .kind) (c .is);
                     judged = tells-false u w (left notes z part i keeps);
                     codons = record { location = t .0; located = t .1; inside = t .2; start = n; starts = starts; are = refl };
                   };

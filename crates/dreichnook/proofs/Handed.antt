@@ -4,19 +4,18 @@ use native.Mathlib.Omega.{arith}
 use mathlib.Core.Path.{_≡_, refl, sym, subst, subst₂}
 use mathlib.Core.Bool.{Bool}
 use mathlib.Core.List.{List}
-use Rattle.paper.specs.Answers.{CheckSays, Part, NoSequence, NoFeature, NoQualifier, NoSpans, NothingWritten}
+use Rattle.paper.specs.Answers.{CheckSays, Part, FeatureShown, NoSequence, NoFeature, NoQualifier, NothingWritten}
 use Rattle.paper.specs.Index.{IndexCheckSays}
 use Rattle.paper.specs.Demands.{InListing, AnswerOrRefusal}
 use Rattle.paper.specs.declared.Verdict.{Verdict}
-use Rattle.ask_answers.specs.Stretches.{partIs}
-use Rattle.ask_answers.specs.Handed.{Narrow, HandsVerdict, HandsSequence, HandsFeature, HandsQualifier, HandsSpans, HandsLent, HandsIndexVerdict}
+use Rattle.ask_answers.specs.Stretches.{partIs, shownIn}
+use Rattle.ask_answers.specs.Handed.{Narrow, HandsVerdict, HandsSequence, HandsFeature, HandsQualifier, HandsLent, HandsIndexVerdict}
 use Rattle.ask_answers.specs.declared.SequenceAnswer.{SequenceAnswer}
 use Rattle.ask_answers.specs.declared.FeatureAnswer.{FeatureAnswer}
 use Rattle.ask_answers.specs.declared.QualifierAnswer.{QualifierAnswer}
-use Rattle.ask_answers.specs.declared.SpansAnswer.{SpansAnswer}
 use Rattle.ask_answers.specs.declared.LentAnswer.{LentAnswer}
 use Rattle.ask_answers.specs.declared.IndexVerdict.{IndexVerdict}
-use Rattle.dreichnook.specs.Numbers.{part, SaysCheck, SaysQualifierBy}
+use Rattle.dreichnook.specs.Numbers.{part, featureShown, SaysCheck, SaysQualifierBy}
 use Rattle.paper.proofs.Demands.{demand1}
 use Rattle.paper.proofs.Refusals.{refusal-most, ends-most}
 
@@ -46,13 +45,19 @@ module _ (w : List ℕ) (Says : (number place kind : ℕ) (residues : Part) → 
     inside _ _ _ _ x,
   )
 
-module _ (w : List ℕ) (Says : (number place : ℕ) (key location : Part) → Type 0) (ends : (n p : ℕ) (a b : Part) → Says n p a b → AnswerOrRefusal n p (NoFeature a b))
-    (inside : (n p : ℕ) (a b : Part) → Says n p a b → InListing w a × InListing w b) where
-  pub feature-handed : {a : FeatureAnswer} {n p s z t y : ℕ} → Says (a .number) (a .place) (partIs (a .key)) (partIs (a .location)) → HandsFeature a n p s z t y
-      → Says n p (part s z) (part t y) × (InListing w (part s z) × InListing w (part t y))
-  feature-handed {a} x (HandsFeature.feature h) = (
-    subst (λ (n : ℕ). Says n (a .place) (partIs (a .key)) (partIs (a .location))) (stays h (ends-most (ends _ _ _ _ x))) x,
-    inside _ _ _ _ x,
+module _ (w out : List ℕ) (Says : (number place : ℕ) → FeatureShown → (after : List ℕ) → Type 0)
+    (ends : (n p : ℕ) (x : FeatureShown) (after : List ℕ) → Says n p x after → AnswerOrRefusal n p (NoFeature x out after))
+    (inside : (n p : ℕ) (x : FeatureShown) (after : List ℕ) → Says n p x after → InListing w (x .key) × InListing w (x .location))
+    (most : (n p : ℕ) (x : FeatureShown) (after : List ℕ) → Says n p x after → x .operator ≤ 99) where
+  pub feature-handed : {after : List ℕ} {a : FeatureAnswer} {n p s z t y o c : ℕ} → Says (a .number) (a .place) (shownIn a) after → HandsFeature a n p s z t y o c
+      → Says n p (featureShown s z t y o c) after × (InListing w (part s z) × InListing w (part t y))
+  feature-handed {after} {a} x (HandsFeature.feature h g) = (
+    subst₂
+        (λ (n o : ℕ). Says n (a .place) (record { key = partIs (a .key); location = partIs (a .location); operator = o; count = a .count }) after)
+        (stays h (ends-most (ends _ _ _ after x)))
+        (stays g (most _ _ _ after x))
+        x,
+    inside _ _ _ after x,
   )
 
 module _ (w : List ℕ) (Says : (number place : ℕ) (name : Part) (present : Bool) (value : Part) → Type 0)
@@ -67,14 +72,6 @@ module _ (w : List ℕ) (Says : (number place : ℕ) (name : Part) (present : Bo
         says = subst (λ (n : ℕ). Says n (a .place) (partIs (a .name)) (a .present) (partIs (a .value))) (stays h (ends-most (ends _ _ _ _ _ x))) x;
         inside = inside _ _ _ _ _ x;
       }
-
-module _ {out : List ℕ} (Says : (number place operator count : ℕ) (after : List ℕ) → Type 0)
-    (ends : (n p o c : ℕ) (after : List ℕ) → Says n p o c after → AnswerOrRefusal n p (NoSpans o c out after))
-    (most : (n p o c : ℕ) (after : List ℕ) → Says n p o c after → o ≤ 99) where
-  pub spans-handed : {after : List ℕ} {a : SpansAnswer} {n p o c : ℕ} → Says (a .number) (a .place) (a .operator) (a .count) after → HandsSpans a n p o c
-      → Says n p o c after
-  spans-handed {after} {a} x (HandsSpans.spans h g) =
-      subst₂ (λ (n o : ℕ). Says n (a .place) o (a .count) after) (stays h (ends-most (ends _ _ _ _ after x))) (stays g (most _ _ _ _ after x)) x
 
 -- a translation, all of a sequence, an index
 module _ {out : List ℕ} (Says : (number place size : ℕ) (after : List ℕ) → Type 0)

@@ -3,7 +3,7 @@ use Prim.Native.Nat.{ℕ}
 use mathlib.Core.Path.{_≡_}
 use mathlib.Core.Bool.{Bool}
 use mathlib.Core.List.{List}
-use Rattle.paper.specs.Answers.{Part, CheckSays, CheckNumbers, numbersOf, QualifierSays}
+use Rattle.paper.specs.Answers.{Part, FeatureShown, CheckSays, CheckNumbers, numbersOf, QualifierSays}
 use Rattle.paper.specs.Index.{IndexedQualifierSays}
 use Rattle.paper.specs.Demands.{InListing}
 use Rattle.paper.specs.declared.Verdict.{Verdict}
@@ -16,10 +16,15 @@ pub record SaysCheck (w : List ℕ) (x : CheckNumbers) : Type 0 where
   pub says : CheckSays w verdict
   pub is : x ≡ numbersOf verdict
 
--- ---- a qualifier
+-- ---- a feature
 
 abbrev pub part : ℕ → ℕ → Part
 part start size = record { start = start; size = size }
+
+abbrev pub featureShown : (keystart keysize locationstart locationsize operator count : ℕ) → FeatureShown
+featureShown s z t y o c = record { key = part s z; location = part t y; operator = o; count = c }
+
+-- ---- a qualifier
 
 pub record QualifierNumbers : Type 0 where
   pub number : ℕ

@@ -2,9 +2,9 @@
 // Relies on the check, the index and the lookups with and without one, and on ask_answers, which hands their answers over as numbers: 0 or the number of the refusal is
 // returned, every number pointed to is set in every case, and a part is given as start and size within the lent listing.
 ghost use Rattle.paper.specs.Demands.{InListing};
-ghost use Rattle.paper.specs.Answers.{SequenceSays, FeatureSays, TranslationSays, TranslationsSays, SpansSays};
-ghost use Rattle.paper.specs.Index.{IndexSays, IndexCheckSays, IndexedSequenceSays, IndexedFeatureSays, IndexedSpansSays, IndexedTranslationSays, IndexedTranslationsSays};
-ghost use Rattle.dreichnook.specs.Numbers.{part, SaysCheck, SaysQualifier, SaysIndexedQualifier};
+ghost use Rattle.paper.specs.Answers.{SequenceSays, FeatureSays, TranslationSays, TranslationsSays};
+ghost use Rattle.paper.specs.Index.{IndexSays, IndexCheckSays, IndexedSequenceSays, IndexedFeatureSays, IndexedTranslationSays, IndexedTranslationsSays};
+ghost use Rattle.dreichnook.specs.Numbers.{part, featureShown, SaysCheck, SaysQualifier, SaysIndexedQualifier};
 
 #[no_mangle]
 pub extern "C" fn dreichnook_check(
@@ -55,22 +55,27 @@ pub extern "C" fn dreichnook_feature(
     listing: &[u8],
     sequence: usize,
     feature: usize,
+    out: &mut [u32],
     place: &mut usize,
     keystart: &mut usize,
     keysize: &mut usize,
     locationstart: &mut usize,
     locationsize: &mut usize,
+    operator: &mut u8,
+    count: &mut usize,
 ) -> u32
-    ensures { λ r. ⌜ FeatureSays (now (listing .entry)) sequence feature r (now (place .exit)) (part (now (keystart .exit)) (now (keysize .exit))) (part (now (locationstart .exit)) (now (locationsize .exit))) ⌝ }
+    ensures { λ r. ⌜ FeatureSays (now (listing .entry)) sequence feature (now (out .entry)) r (now (place .exit)) (featureShown (now (keystart .exit)) (now (keysize .exit)) (now (locationstart .exit)) (now (locationsize .exit)) (now (operator .exit)) (now (count .exit))) (now (out .exit)) ⌝ }
     ensures { λ _. ⌜ InListing (now (listing .entry)) (part (now (keystart .exit)) (now (keysize .exit))) × InListing (now (listing .entry)) (part (now (locationstart .exit)) (now (locationsize .exit))) ⌝ }
 {
     ask_answers::hand_feature(
-        ask_lookups::locate_feature(listing, sequence, feature),
+        ask_lookups::locate_feature(listing, sequence, feature, out),
         place,
         keystart,
         keysize,
         locationstart,
         locationsize,
+        operator,
+        count,
     )
 }
 
@@ -97,26 +102,6 @@ pub extern "C" fn dreichnook_qualifier(
         present,
         valuestart,
         valuesize,
-    )
-}
-
-#[no_mangle]
-pub extern "C" fn dreichnook_spans(
-    listing: &[u8],
-    sequence: usize,
-    feature: usize,
-    out: &mut [u32],
-    place: &mut usize,
-    operator: &mut u8,
-    count: &mut usize,
-) -> u32
-    ensures { λ r. ⌜ SpansSays (now (listing .entry)) sequence feature (now (out .entry)) r (now (place .exit)) (now (operator .exit)) (now (count .exit)) (now (out .exit)) ⌝ }
-{
-    ask_answers::hand_spans(
-        ask_lookups::spans(listing, sequence, feature, out),
-        place,
-        operator,
-        count,
     )
 }
 
@@ -204,22 +189,27 @@ pub extern "C" fn dreichnook_indexed_feature(
     index: &[u8],
     sequence: usize,
     feature: usize,
+    out: &mut [u32],
     place: &mut usize,
     keystart: &mut usize,
     keysize: &mut usize,
     locationstart: &mut usize,
     locationsize: &mut usize,
+    operator: &mut u8,
+    count: &mut usize,
 ) -> u32
-    ensures { λ r. ⌜ IndexedFeatureSays (now (listing .entry)) (now (index .entry)) sequence feature r (now (place .exit)) (part (now (keystart .exit)) (now (keysize .exit))) (part (now (locationstart .exit)) (now (locationsize .exit))) ⌝ }
+    ensures { λ r. ⌜ IndexedFeatureSays (now (listing .entry)) (now (index .entry)) sequence feature (now (out .entry)) r (now (place .exit)) (featureShown (now (keystart .exit)) (now (keysize .exit)) (now (locationstart .exit)) (now (locationsize .exit)) (now (operator .exit)) (now (count .exit))) (now (out .exit)) ⌝ }
     ensures { λ _. ⌜ InListing (now (listing .entry)) (part (now (keystart .exit)) (now (keysize .exit))) × InListing (now (listing .entry)) (part (now (locationstart .exit)) (now (locationsize .exit))) ⌝ }
 {
     ask_answers::hand_feature(
-        ask_indexed::locate_feature(listing, index, sequence, feature),
+        ask_indexed::locate_feature(listing, index, sequence, feature, out),
         place,
         keystart,
         keysize,
         locationstart,
         locationsize,
+        operator,
+        count,
     )
 }
 
@@ -247,27 +237,6 @@ pub extern "C" fn dreichnook_indexed_qualifier(
         present,
         valuestart,
         valuesize,
-    )
-}
-
-#[no_mangle]
-pub extern "C" fn dreichnook_indexed_spans(
-    listing: &[u8],
-    index: &[u8],
-    sequence: usize,
-    feature: usize,
-    out: &mut [u32],
-    place: &mut usize,
-    operator: &mut u8,
-    count: &mut usize,
-) -> u32
-    ensures { λ r. ⌜ IndexedSpansSays (now (listing .entry)) (now (index .entry)) sequence feature (now (out .entry)) r (now (place .exit)) (now (operator .exit)) (now (count .exit)) (now (out .exit)) ⌝ }
-{
-    ask_answers::hand_spans(
-        ask_indexed::spans(listing, index, sequence, feature, out),
-        place,
-        operator,
-        count,
     )
 }
 

@@ -2,27 +2,23 @@
 use Prim.Native.Nat.{ℕ, suc, _+_, _*_, _/_, _≤_, _<_}
 use native.Mathlib.Omega.{arith}
 use mathlib.Core.Path.{_≡_, refl, sym, ap, _∙_}
-use mathlib.Core.Bool.{true, false, cond}
-use mathlib.Core.Option.{Option, none, some}
+use mathlib.Core.Bool.{cond}
 use mathlib.Core.List.{List, [], _∷_, _++_, append-assoc, append-nil}
 use lib.ListN.{length, set, length-append, length-set}
 use lib.Seq.{sets}
 use lib.Dec.{ltb}
 use borrow.Author.Tests.{lt-ltb, le-ltb}
-use Rattle.paper.specs.Locations.{Location, Span, spans, operatorNumber, breaks25}
+use Rattle.paper.specs.Locations.{Location, Span, spans, operatorNumber}
 use Rattle.paper.specs.Answers.{triples, front}
 use Rattle.lent_room.proofs.Laws.{sets-append, sets-front}
-use Rattle.location_judge.specs.Judging.{Spells, Judges}
 use Rattle.location_spans.specs.Walking.{Left, Steps, Starts, spanIs}
-use Rattle.location_spans.specs.Room.{PutsSpans, Asked, Answers}
-use Rattle.location_judge.specs.declared.judging.Facts.{Facts}
-use Rattle.location_judge.specs.declared.judging.Judgement.the-variants as verdict
+use Rattle.location_spans.specs.Room.{CountsSpans, PutsSpans, AnswerSays, Answers}
 use Rattle.location_spans.specs.declared.walking.Triple.{Triple as Given}
 use Rattle.location_spans.specs.declared.walking.Walk.{Walk}
+use Rattle.location_spans.specs.declared.walking.Started.{Started}
 use Rattle.location_spans.specs.declared.walking.Next.the-variants as next
 use Rattle.location_spans.specs.declared.room.Answer.{Answer}
 use Rattle.location_spans.specs.declared.room.Answer.the-variants as answer
-use Rattle.location_judge.proofs.Verdicts.{spells-once}
 
 triples-size : (l : List Span) → length (triples l) ≡ length l * 3
 triples-size [] = refl
@@ -107,68 +103,27 @@ module _ {s : List ℕ} {L : ℕ} {from : Walk} {count : ℕ} {before : List ℕ
 
 -- ---- the answers
 
-module _ {s : List ℕ} {L : ℕ} {f : Facts} (h : Judges s L (verdict.Is f)) where
-  pub spans-wrong : (out : List ℕ) → f .wrong ≡ true → Answers s L out answer.Wrong out
-  spans-wrong out q = (refl, (h .0, h .1, sym (h .2 .wrong) ∙ q))
+module _ {s : List ℕ} {L n : ℕ} (h : CountsSpans s n) (out : List ℕ) where
+  pub spans-short : length out / 3 < n → Answers s L out answer.Short out
+  spans-short l = record { says = λ t x right. (refl, omega (arith, h t x, triples-size (spans t))) }
 
-  module _ (q : f .wrong ≡ false) where
-    asked : Asked s L (h .0)
-    asked = record { spelled = h .1; right = sym (h .2 .wrong) ∙ q }
-
-    pub spans-short : (out : List ℕ) → length out / 3 < f .count → Answers s L out answer.Short out
-    spans-short out l = (refl, (h .0, asked, omega (arith, h .2 .count, triples-size (spans (h .0)))))
-
-    pub spans-are : (out : List ℕ) (from : Walk) {after : List ℕ} → f .count ≤ length out / 3 → Starts s from → PutsSpans s L from (f .count) out after
-        → Answers s L out (answer.Are (f .operator) (f .count)) after
-    spans-are out from l st p = (
-      h .0,
-      asked,
-      h .2 .operator,
-      h .2 .count,
-      omega (arith, h .2 .count, triples-size (spans (h .0))),
-      p (spans (h .0)) (st L (h .1 .text) (h .0) (h .1 .written) (h .1 .located) (asked .right)) (sym (h .2 .count)),
-    )
+  pub spans-are : {r : Started} {after : List ℕ} → n ≤ length out / 3 → Starts s r → PutsSpans s L (r .walk) n out after
+      → Answers s L out (answer.Are (r .operator) n) after
+  spans-are l st p =
+      record {
+        says = λ t x right.
+            (st .operator t x, h t x, omega (arith, h t x, triples-size (spans t)), p (spans t) (st .walk L t x right) (sym (h t x)));
+      }
 
 -- ---- two answers that are allowed are equal
 
--- the location that the bytes are, if they are one
-abbrev Spelled : List ℕ → Option Location → Type 0
-Spelled s none = (t : Location) → Spells s t → ⊥
-Spelled s (some t) = Spells s t
+module _ (t : Location) (out : List ℕ) where
+  abbrev answerOf : Answer × List ℕ
+  answerOf =
+      cond (ltb (length out) (length (triples (spans t)))) (answer.Short, out)
+      (answer.Are (operatorNumber t) (length (spans t)), front (triples (spans t)) out)
 
-spelled-once : (s : List ℕ) (o p : Option Location) → Spelled s o → Spelled s p → o ≡ p
-spelled-once s none none h k = refl
-spelled-once s none (some u) h k = absurd (h u k)
-spelled-once s (some t) none h k = absurd (k t h)
-spelled-once s (some t) (some u) h k = ap some (spells-once h k)
-
-abbrev answerOf : ℕ → List ℕ → Option Location → Answer × List ℕ
-answerOf L out none = (answer.Bad, out)
-answerOf L out (some t) =
-    cond (breaks25 L t) (answer.Wrong, out)
-    (cond (ltb (length out) (length (triples (spans t)))) (answer.Short, out)
-    (answer.Are (operatorNumber t) (length (spans t)), front (triples (spans t)) out))
-
-module _ (s : List ℕ) (L : ℕ) (out : List ℕ) where
-  -- an answer is the one of what the bytes are
-  is-answer : (r : Answer) (after : List ℕ) → Answers s L out r after
-      → (o : Option Location) × Spelled s o × (_≡_ {A = Answer × List ℕ} (r, after) (answerOf L out o))
-  is-answer answer.Bad after h = (none, h .1, λ i. (answer.Bad, h .0 i))
-  is-answer answer.Wrong after h = let j = h .1 in (some (j .0), j .1, (λ i. (answer.Wrong, h .0 i)) ∙ sym (rw (j .2)))
-  is-answer answer.Short after h =
-      let j = h .1 in (
-        some (j .0),
-        j .1 .spelled,
-        (λ i. (answer.Short, h .0 i)) ∙ sym (rw (j .1 .right, lt-ltb (length out) (length (triples (spans (j .0)))) (j .2))),
-      )
-  is-answer (answer.Are operator count) after h = (
-    some (h .0),
-    h .1 .spelled,
-    (λ i. (answer.Are (h .2 i) (h .3 i), h .5 i)) ∙ sym (rw (h .1 .right, le-ltb (length out) (length (triples (spans (h .0)))) (h .4))),
-  )
-
-  pub answers-once : (r q : Answer) (a b : List ℕ) → Answers s L out r a → Answers s L out q b → _≡_ {A = Answer × List ℕ} (r, a) (q, b)
-  answers-once r q a b h k =
-      let x = is-answer r a h in
-      let y = is-answer q b k in
-      x .2 ∙ ap (answerOf L out) (spelled-once s (x .0) (y .0) (x .1) (y .1)) ∙ sym (y .2)
+  pub is-answer : (r : Answer) (after : List ℕ) → AnswerSays t out r after → _≡_ {A = Answer × List ℕ} (r, after) answerOf
+  is-answer answer.Short after h = (λ i. (answer.Short, h .0 i)) ∙ sym (rw (lt-ltb (length out) (length (triples (spans t))) (h .1)))
+  is-answer (answer.Are operator count) after h =
+      (λ i. (answer.Are (h .0 i) (h .1 i), h .3 i)) ∙ sym (rw (le-ltb (length out) (length (triples (spans t))) (h .2)))

@@ -1,4 +1,5 @@
 -- Laws that no one function owns.
+pub mod Counted
 pub mod Commas
 pub mod Walks
 pub mod Starting

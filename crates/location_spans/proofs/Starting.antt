@@ -1,4 +1,4 @@
--- Where the walk over a location starts, by the words at its front, and what is left of it there.
+-- The operator of a location and where the walk over it starts, by the words at its front, and what is left of it there.
 use Prim.Native.Nat.{ℕ, _+_, _-_, _≤_}
 use Prim.Native.Char.{code}
 use native.Mathlib.Omega.{arith}
@@ -11,17 +11,20 @@ use lib.ListN.{length, getD, drop, length-drop}
 use lib.Seq.{getD-drop}
 use Rattle.paper.specs.Bytes.{bytes, raw}
 use Rattle.paper.specs.Locations.{Piece, isWrong, Member, Operator, join, order, operatorName, Location, one, many}
-use Rattle.paper.specs.Locations.{any, breaks25, Span, spanOf, memberSpan, spans}
+use Rattle.paper.specs.Locations.{any, breaks25, Span, spanOf, memberSpan, spans, operatorNumber}
 use Rattle.paper.proofs.Locate.Rest.{pieceRest, complementRest, memberRest, fittingRest, listRest, locationRest, locates-rest, same-piece, same-complement}
 use Rattle.paper.proofs.Locate.Pieces.{Follow, Low, piece-low}
 use Rattle.read_bytes.specs.Words.{There}
 use Rattle.location_judge.specs.Places.{RestIs}
-use Rattle.location_judge.specs.Readings.{Lists}
-use Rattle.location_spans.specs.Walking.{Written, Ahead, Behind, Starts}
+use Rattle.location_judge.specs.Judging.{Spells}
+use Rattle.location_judge.specs.Readings.{numberOf, Lists}
+use Rattle.location_spans.specs.Walking.{Written, Ahead, Behind, Left, Starts}
 use Rattle.location_spans.specs.Walking as walking
 use Rattle.location_judge.specs.declared.operators.Listed.the-variants as list-is
 use Rattle.location_spans.specs.declared.walking.Walk.the-variants as walk
+use Rattle.location_spans.specs.declared.walking.Started.{Started}
 use Rattle.location_judge.proofs.Stand.{begun, not-begun, behind-text}
+use Rattle.location_judge.proofs.Levels.{operator-number}
 use Rattle.location_judge.proofs.Verdicts.{whole}
 use Rattle.location_spans.proofs.Commas.{written-order}
 use Rattle.location_spans.proofs.Walks.{low-letter}
@@ -109,9 +112,9 @@ complement-list : (o : Operator) (y z : List ℕ) → bytes "complement(" ++ y �
 complement-list join y z e = let h : _≡_ {A = ℕ} 99 106 = heads e in omega arith
 complement-list order y z e = let h : _≡_ {A = ℕ} 99 111 = heads e in omega arith
 
-same-list : (o p : Operator) (y z : List ℕ) → bytes (operatorName o) ++ y ≡ bytes (operatorName p) ++ z → y ≡ z
-same-list join join y z e = ap (drop 5) e
-same-list order order y z e = ap (drop 6) e
+same-list : (o p : Operator) (y z : List ℕ) → bytes (operatorName o) ++ y ≡ bytes (operatorName p) ++ z → (o ≡ p) × (y ≡ z)
+same-list join join y z e = (refl, ap (drop 5) e)
+same-list order order y z e = (refl, ap (drop 6) e)
 same-list join order y z e = absurd (let h : _≡_ {A = ℕ} 106 111 = heads e in omega arith)
 same-list order join y z e = absurd (let h : _≡_ {A = ℕ} 111 106 = heads e in omega arith)
 
@@ -120,6 +123,17 @@ low-list l join z e = low-letter l e (omega arith)
 low-list l order z e = low-letter l e (omega arith)
 
 -- ---- the starts
+
+-- what r tells of the location t
+record Tells (s : List ℕ) (t : Location) (r : Started) : Type 0 where
+  operator : r .operator ≡ operatorNumber t
+  walk : (L : ℕ) → breaks25 L t ≡ false → Left s L (r .walk) (spans t)
+
+starts : {s : List ℕ} {r : Started} → ((w : List ℕ) (t : Location) → RestIs s 0 w → locationRest t w [] → Tells s t r) → Starts s r
+starts {s} {r} f = record { operator = λ t x. tells x .operator; walk = λ L t x q. tells x .walk L q }
+  where
+    tells : {t : Location} → Spells s t → Tells s t r
+    tells {t} x = f (x .text) t (whole (x .written)) (locates-rest (x .located))
 
 module _ {s : List ℕ} {t : Bool} (word : There (raw (bytes "complement(")) s 0 t) where
   module _ (a : t ≡ true) where
@@ -130,67 +144,62 @@ module _ {s : List ℕ} {t : Bool} (word : There (raw (bytes "complement(")) s 0
     no-list : {w : List ℕ} (z : List ℕ) (o : Operator) → RestIs s 0 w → w ≡ bytes (operatorName o) ++ z → ⊥
     no-list z o st e = let b = begun (bytes "complement(") word st a in complement-list o (b .0) z (sym (b .1) ∙ e)
 
-    pub start-turned : Lists s 11 list-is.No → Starts s (walk.Ahead 0)
-    start-turned h L w t e x q = go t (locates-rest x) q
+    pub start-turned : Lists s 11 list-is.No → Starts s (record { operator = 0; walk = walk.Ahead 0 })
+    start-turned h = starts go
       where
-        st : RestIs s 0 w
-        st = whole e
+        go : (w : List ℕ) (t : Location) → RestIs s 0 w → locationRest t w [] → Tells s t (record { operator = 0; walk = walk.Ahead 0 })
+        go w (one m) st y = record { operator = refl; walk = λ L q. one-ahead L m st y q }
+        go w (many true o ms) st y = let i = y .2 .1 in absurd (h .says (y .0) (within st (y .1)) o (i .0) (i .1))
+        go w (many false o ms) st y = absurd (no-list (y .0) o st (y .1))
 
-        go : (t : Location) → locationRest t w [] → breaks25 L t ≡ false → Ahead s L 0 (spans t)
-        go (one m) y q = one-ahead L m st y q
-        go (many true o ms) y q = let i = y .2 .1 in absurd (h .says (y .0) (within st (y .1)) o (i .0) (i .1))
-        go (many false o ms) y q = absurd (no-list (y .0) o st (y .1))
-
-    pub start-back : {op from : ℕ} → Lists s 11 (list-is.At op from) → Starts s (walk.Behind from (length s - 2))
-    start-back {op} {from} h L w t e x q = go t (locates-rest x) q
+    pub start-back : {op from : ℕ} → Lists s 11 (list-is.At op from) → Starts s (record { operator = op; walk = walk.Behind from (length s - 2) })
+    start-back {op} {from} h = starts go
       where
-        st : RestIs s 0 w
-        st = whole e
+        single : {w : List ℕ} → RestIs s 0 w → (c : Bool) (p : Piece) → complementRest c (pieceRest p) w [] → ⊥
+        single st true p y = let k = h .says (y .0) (within st (y .1)) in low-list (piece-low p (y .0) (y .2 .0) (y .2 .1)) (k .0) (k .2) (k .3)
+        single {w} st false p y = low-letter (piece-low p w [] y) (begun (bytes "complement(") word st a .1) (omega arith)
 
-        single : (c : Bool) (p : Piece) → complementRest c (pieceRest p) w [] → ⊥
-        single true p y = let k = h .says (y .0) (within st (y .1)) in low-list (piece-low p (y .0) (y .2 .0) (y .2 .1)) (k .0) (k .2) (k .3)
-        single false p y = low-letter (piece-low p w [] y) (begun (bytes "complement(") word st a .1) (omega arith)
-
-        go : (t : Location) → locationRest t w [] → breaks25 L t ≡ false → Behind s L from (length s - 2) (spans t)
-        go (one m) y q = absurd (single (m .complemented) (m .piece) y)
-        go (many false o ms) y q = absurd (no-list (y .0) o st (y .1))
-        go (many true o ms) y q =
+        go : (w : List ℕ) (t : Location) → RestIs s 0 w → locationRest t w [] → Tells s t (record { operator = op; walk = walk.Behind from (length s - 2) })
+        go w (one m) st y = absurd (single st (m .complemented) (m .piece) y)
+        go w (many false o ms) st y = absurd (no-list (y .0) o st (y .1))
+        go w (many true o ms) st y =
             let i = y .2 .1 in
             let k = h .says (y .0) (within st (y .1)) in
-            let v : k .2 ≡ i .0 = same-list (k .0) o (k .2) (i .0) (sym (k .3) ∙ i .1) in
+            let (e, v) = same-list (k .0) o (k .2) (i .0) (sym (k .3) ∙ i .1) in
             let d = i .2 .2 ∙ ap (λ (z : List ℕ). code ")" ∷ z) (y .2 .2) in
             let u = subst (listRest (fittingRest true) ms (i .0)) d (i .2 .1 .1) in
-            let b = list-back L ms (i .0) (bytes ")") (subst (RestIs s from) v (k .4)) u q in
-            let n : b .0 ≡ length s - 2 = omega (arith, b .1 .inside, ap length (b .1 .is), length-drop (b .0) s) in
-            subst (λ (j : ℕ). Behind s L from j (spans (many true o ms))) n (b .2)
+            record {
+              operator = k .1 ∙ ap numberOf e ∙ sym (operator-number true o ms);
+              walk = λ L q.
+                  let b = list-back L ms (i .0) (bytes ")") (subst (RestIs s from) v (k .4)) u q in
+                  let n : b .0 ≡ length s - 2 = omega (arith, b .1 .inside, ap length (b .1 .is), length-drop (b .0) s) in
+                  subst (λ (j : ℕ). Behind s L from j (spans (many true o ms))) n (b .2);
+            }
 
   module _ (a : t ≡ false) where
-    pub start-plain : Lists s 0 list-is.No → Starts s (walk.Ahead 0)
-    start-plain h L w t e x q = go t (locates-rest x) q
+    pub start-plain : Lists s 0 list-is.No → Starts s (record { operator = 0; walk = walk.Ahead 0 })
+    start-plain h = starts go
       where
-        st : RestIs s 0 w
-        st = whole e
+        go : (w : List ℕ) (t : Location) → RestIs s 0 w → locationRest t w [] → Tells s t (record { operator = 0; walk = walk.Ahead 0 })
+        go w (one m) st y = record { operator = refl; walk = λ L q. one-ahead L m st y q }
+        go w (many true o ms) st y = absurd (not-begun (bytes "complement(") word st a (y .0) (y .1))
+        go w (many false o ms) st y = absurd (h .says w st o (y .0) (y .1))
 
-        go : (t : Location) → locationRest t w [] → breaks25 L t ≡ false → Ahead s L 0 (spans t)
-        go (one m) y q = one-ahead L m st y q
-        go (many true o ms) y q = absurd (not-begun (bytes "complement(") word st a (y .0) (y .1))
-        go (many false o ms) y q = absurd (h .says w st o (y .0) (y .1))
-
-    pub start-list : {op from : ℕ} → Lists s 0 (list-is.At op from) → Starts s (walk.Ahead from)
-    start-list {op} {from} h L w t e x q = go t (locates-rest x) q
+    pub start-list : {op from : ℕ} → Lists s 0 (list-is.At op from) → Starts s (record { operator = op; walk = walk.Ahead from })
+    start-list {op} {from} h = starts go
       where
-        st : RestIs s 0 w
-        st = whole e
+        single : {w : List ℕ} → RestIs s 0 w → (c : Bool) (p : Piece) → complementRest c (pieceRest p) w [] → ⊥
+        single st true p y = not-begun (bytes "complement(") word st a (y .0) (y .1)
+        single {w} st false p y = let k = h .says w st in low-list (piece-low p w [] y) (k .0) (k .2) (k .3)
 
-        single : (c : Bool) (p : Piece) → complementRest c (pieceRest p) w [] → ⊥
-        single true p y = not-begun (bytes "complement(") word st a (y .0) (y .1)
-        single false p y = let k = h .says w st in low-list (piece-low p w [] y) (k .0) (k .2) (k .3)
-
-        go : (t : Location) → locationRest t w [] → breaks25 L t ≡ false → Ahead s L from (spans t)
-        go (one m) y q = absurd (single (m .complemented) (m .piece) y)
-        go (many true o ms) y q = absurd (not-begun (bytes "complement(") word st a (y .0) (y .1))
-        go (many false o ms) y q =
+        go : (w : List ℕ) (t : Location) → RestIs s 0 w → locationRest t w [] → Tells s t (record { operator = op; walk = walk.Ahead from })
+        go w (one m) st y = absurd (single st (m .complemented) (m .piece) y)
+        go w (many true o ms) st y = absurd (not-begun (bytes "complement(") word st a (y .0) (y .1))
+        go w (many false o ms) st y =
             let k = h .says w st in
-            let v : k .2 ≡ y .0 = same-list (k .0) o (k .2) (y .0) (sym (k .3) ∙ y .1) in
+            let (e, v) = same-list (k .0) o (k .2) (y .0) (sym (k .3) ∙ y .1) in
             let u = subst (listRest (fittingRest false) ms (y .0)) (y .2 .2) (y .2 .1 .1) in
-            list-ahead L ms (y .0) [] (subst (RestIs s from) v (k .4)) u q
+            record {
+              operator = k .1 ∙ ap numberOf e ∙ sym (operator-number false o ms);
+              walk = λ L q. list-ahead L ms (y .0) [] (subst (RestIs s from) v (k .4)) u q;
+            }

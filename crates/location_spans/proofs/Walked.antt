@@ -9,6 +9,7 @@ use Rattle.location_judge.specs.Judging.{Spells}
 use Rattle.location_spans.specs.Walking.{Left, Starts, Steps, spanIs}
 use Rattle.location_spans.specs.declared.walking.Triple.{Triple}
 use Rattle.location_spans.specs.declared.walking.Walk.{Walk}
+use Rattle.location_spans.specs.declared.walking.Started.{Started}
 use Rattle.location_spans.specs.declared.walking.Next.the-variants as next
 
 -- these spans are given from a walk on, step after step, until it is done
@@ -23,9 +24,9 @@ given-left (more {x = a} h g) l x =
     ap (λ (r : List paper.Span). spanIs a ∷ r) (given-left g (y .0) (y .2)) ∙ sym (y .1)
 
 module _ {s : List ℕ} {L : ℕ} {t : Location} (x : Spells s t) (right : breaks25 L t ≡ false) where
-  pub given-spans : {w : Walk} {k : List paper.Span} → Starts s w → Given s L w k → k ≡ spans t
-  given-spans st g = given-left g (spans t) (st L (x .text) t (x .written) (x .located) right)
+  pub given-spans : {r : Started} {k : List paper.Span} → Starts s r → Given s L (r .walk) k → k ≡ spans t
+  given-spans st g = given-left g (spans t) (st .walk L t x right)
 
   -- two allowed ways to take them give the same
-  pub given-once : {w v : Walk} {k l : List paper.Span} → Starts s w → Starts s v → Given s L w k → Given s L v l → k ≡ l
+  pub given-once : {r q : Started} {k l : List paper.Span} → Starts s r → Starts s q → Given s L (r .walk) k → Given s L (q .walk) l → k ≡ l
   given-once st su g h = given-spans st g ∙ sym (given-spans su h)

@@ -5,15 +5,16 @@ use mathlib.Core.Path.{_≡_}
 use mathlib.Core.Bool.{Bool, true, false}
 use mathlib.Core.List.{List, [], _∷_, _++_}
 use lib.ListN.{length, getD}
-use Rattle.paper.specs.Bytes.{raw}
-use Rattle.paper.specs.Locations.{Piece, pieceText, complement, Location, Locates, isWrong, breaks25, spanOf, spans}
+use Rattle.paper.specs.Locations.{Piece, pieceText, complement, Location, isWrong, breaks25, spanOf, spans, operatorNumber}
 use Rattle.paper.specs.Locations as paper
 use Rattle.paper.proofs.Locate.Pieces.{Follow}
 use Rattle.paper.specs.Demands.{Inside}
 use Rattle.location_judge.specs.Places.{RestIs}
+use Rattle.location_judge.specs.Judging.{Spells}
 use Rattle.location_spans.specs.declared.walking.Triple.{Triple}
 use Rattle.location_spans.specs.declared.walking.Walk.{Walk}
 use Rattle.location_spans.specs.declared.walking.Walk.the-variants as walk
+use Rattle.location_spans.specs.declared.walking.Started.{Started}
 use Rattle.location_spans.specs.declared.walking.Next.{Next}
 use Rattle.location_spans.specs.declared.walking.Next.the-variants as next
 
@@ -52,9 +53,10 @@ Left s L walk.Done l = l ≡ []
 Left s L (walk.Ahead at) l = Ahead s L at l
 Left s L (walk.Behind low at) l = Behind s L low at l
 
--- of whichever location that keeps rule 25 the bytes are written from, all the spans are left
-abbrev pub Starts : List ℕ → Walk → Type 0
-Starts s r = (L : ℕ) (w : List ℕ) (t : Location) → s ≡ raw w → Locates t w → breaks25 L t ≡ false → Left s L r (spans t)
+-- of whichever location the bytes are: its operator; and if it keeps rule 25, all its spans are left
+pub record Starts (s : List ℕ) (r : Started) : Type 0 where
+  pub operator : (t : Location) → Spells s t → r .operator ≡ operatorNumber t
+  pub walk : (L : ℕ) (t : Location) → Spells s t → breaks25 L t ≡ false → Left s L (r .walk) (spans t)
 
 -- more steps than this a walk cannot take, whatever the bytes are
 abbrev pub stepsLeft : ℕ → Walk → ℕ

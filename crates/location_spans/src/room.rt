@@ -1,23 +1,33 @@
 // The spans of a location into lent room: all of them at its front, or nothing.
 use crate::walking::Next;
+use crate::walking::Started;
 use crate::walking::Walk;
 use crate::walking::start;
 use crate::walking::step;
-use location_judge::judging::Judgement;
-use location_judge::judging::judge;
 ghost use Prim.Native.Nat.{_*_, _≤_};
 ghost use lib.ListN.{length};
-ghost use Rattle.location_spans.specs.Room.{PutsSpans, Answers, AnswersPart};
+ghost use Rattle.location_spans.specs.Room.{CountsSpans, PutsSpans, Answers, AnswersPart};
 
 pub enum Answer {
-    // It is no location (rule 24).
-    Bad,
-    // It breaks rule 25.
-    Wrong,
     // The room is shorter than the spans.
     Short,
     // The operator (0 none, 1 join, 2 order) and the number of spans: three numbers of each are written.
     Are(u32, usize),
+}
+
+// How many spans a location has, unread: one more than commas.
+fn count_spans(s: &[u8]) -> usize
+    ensures { λ r. ⌜ CountsSpans (now (s .entry)) r ⌝ }
+{
+    let mut n: usize = 1;
+    let mut i: usize = 0;
+    while i < s.len() {
+        if s[i] == b',' {
+            n += 1;
+        }
+        i += 1;
+    }
+    n
 }
 
 // The spans that are left of a walk, of which there are `count`.
@@ -48,22 +58,13 @@ fn put_spans(s: &[u8], from: Walk, top: u32, count: usize, out: &mut [u32])
 fn fill(s: &[u8], top: u32, out: &mut [u32]) -> Answer
     ensures { λ r. ⌜ Answers (now (s .entry)) top (now (out .entry)) r (now (out .exit)) ⌝ }
 {
-    match judge(s, top) {
-        Judgement::Bad => {
-            return Answer::Bad;
-        }
-        Judgement::Is(f) => {
-            if f.wrong {
-                return Answer::Wrong;
-            }
-            let count = f.count;
-            if out.len() / 3 < count {
-                return Answer::Short;
-            }
-            put_spans(s, start(s), top, count, out);
-            return Answer::Are(f.operator, count);
-        }
+    let count = count_spans(s);
+    if out.len() / 3 < count {
+        return Answer::Short;
     }
+    let Started { operator, walk } = start(s);
+    put_spans(s, walk, top, count, out);
+    Answer::Are(operator, count)
 }
 
 // The spans of the location that stands in the listing s from `from` to before `to`, for a sequence of `top` residues.

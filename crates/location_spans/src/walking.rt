@@ -32,27 +32,45 @@ pub enum Next {
     Is(Triple, Walk),
 }
 
-// The walk over the location that the part s is written from.
-pub fn start(s: &[u8]) -> Walk
+// What the words at the front of a location tell: its operator (0 none, 1 join, 2 order), and the walk over it.
+pub struct Started {
+    pub operator: u32,
+    pub walk: Walk,
+}
+
+// Of the location that the part s is written from.
+pub fn start(s: &[u8]) -> Started
     ensures { λ r. ⌜ Starts (now (s .entry)) r ⌝ }
 {
     if complement_at(s, 0) {
         match list_at(s, 11) {
             Listed::No => {
-                return Walk::Ahead(0);
+                return Started {
+                    operator: 0,
+                    walk: Walk::Ahead(0),
+                };
             }
-            Listed::At(_, from) => {
+            Listed::At(operator, from) => {
                 let end = s.len() - 2;
-                return Walk::Behind(from, end);
+                return Started {
+                    operator,
+                    walk: Walk::Behind(from, end),
+                };
             }
         }
     }
     match list_at(s, 0) {
         Listed::No => {
-            return Walk::Ahead(0);
+            return Started {
+                operator: 0,
+                walk: Walk::Ahead(0),
+            };
         }
-        Listed::At(_, from) => {
-            return Walk::Ahead(from);
+        Listed::At(operator, from) => {
+            return Started {
+                operator,
+                walk: Walk::Ahead(from),
+            };
         }
     }
 }

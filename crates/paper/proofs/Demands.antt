@@ -1,14 +1,14 @@
 -- Demands 1 and 2.
 use Prim.Native.Nat.{ℕ, suc}
 use native.Mathlib.Omega.{arith}
-use mathlib.Core.Path.{_≡_, refl, sym, subst}
+use mathlib.Core.Path.{_≡_, refl, sym, ap, subst}
 use mathlib.Core.Bool.{Bool}
 use mathlib.Core.Logic.{inl, inr}
 use mathlib.Core.Option.{Option, none, some}
 use mathlib.Core.List.{List, [], _∷_}
 use Rattle.paper.specs.Lists.{_∈_, gather, present}
 use Rattle.paper.specs.Tree.{Text, Qualifier, Feature, Sequence, featuresOf, qualifiersOf, qualifierTexts, featureTexts}
-use Rattle.paper.specs.Answers.{give, FindsSequence, FindsFeature, FindsQualifier, FindsTranslation, FindsTranslations, Part, noPart, partOf, valuePart, SequenceSays, FeatureSays, QualifierSays, SpansSays, TranslationSays, TranslationsSays, NoSequence, NoFeature, NoQualifier, NoSpans, NothingWritten}
+use Rattle.paper.specs.Answers.{give, FindsSequence, FindsFeature, FindsQualifier, FindsLocation, FindsTranslation, FindsTranslations, Part, FeatureShown, noPart, partOf, valuePart, SequenceSays, FeatureSays, QualifierSays, TranslationSays, TranslationsSays, NoSequence, NoFeature, NoQualifier, NothingWritten}
 use Rattle.paper.specs.Index.{FindsIndex, IndexCheckSays, WithIndex}
 use Rattle.paper.specs.Demands.{AnswerOrRefusal, InListing, Demand1, Demand2}
 use Rattle.paper.proofs.Lists.{in-second, in-gather, number-in}
@@ -21,18 +21,14 @@ module _ {w : List ℕ} where
   sequence-ends (SequenceSays.refused c) = inr (sequence-refused c, (refl, refl))
   sequence-ends (SequenceSays.found d c i) = inl (refl, refl)
 
-  feature-ends : {k j n p : ℕ} {x y : Part} → FeatureSays w k j n p x y → AnswerOrRefusal n p (NoFeature x y)
-  feature-ends (FeatureSays.refused c) = inr (feature-refused c, (refl, refl))
-  feature-ends (FeatureSays.found c) = inl (refl, refl)
+  feature-ends : {k j n p : ℕ} {x : FeatureShown} {out after : List ℕ} → FeatureSays w k j out n p x after → AnswerOrRefusal n p (NoFeature x out after)
+  feature-ends (FeatureSays.refused c) = inr (location-refused c, (refl, refl))
+  feature-ends (FeatureSays.short c l) = inr (own 34 (omega arith) (omega arith), (refl, refl))
+  feature-ends (FeatureSays.found c l) = inl (refl, refl)
 
   qualifier-ends : {k j i n p : ℕ} {x y : Part} {b : Bool} → QualifierSays w k j i n p x b y → AnswerOrRefusal n p (NoQualifier x b y)
   qualifier-ends (QualifierSays.refused c) = inr (qualifier-refused c, (refl, refl, refl))
   qualifier-ends (QualifierSays.found c) = inl (refl, refl)
-
-  spans-ends : {k j n p : ℕ} {out after : List ℕ} {o c : ℕ} → SpansSays w k j out n p o c after → AnswerOrRefusal n p (NoSpans o c out after)
-  spans-ends (SpansSays.refused c) = inr (location-refused c, (refl, refl, refl))
-  spans-ends (SpansSays.short c l) = inr (own 34 (omega arith) (omega arith), (refl, refl, refl))
-  spans-ends (SpansSays.found c l) = inl (refl, refl)
 
   translation-ends : {k j n p z : ℕ} {out after : List ℕ} → TranslationSays w k j out n p z after → AnswerOrRefusal n p (NothingWritten z out after)
   translation-ends {k} {j} c = lent-ends (c .outcome) (λ m q e. translation-refused (subst (FindsTranslation w k j) e (c .finds))) (c .lent)
@@ -54,17 +50,15 @@ demand1 =
     record {
       check = λ w n p c. checked c;
       sequence = λ w k n p d x c. sequence-ends c;
-      feature = λ w k j n p x y c. feature-ends c;
+      feature = λ w k j n p x out after c. feature-ends c;
       qualifier = λ w k j i n p x y b c. qualifier-ends c;
-      spans = λ w k j n p o m out after c. spans-ends c;
       translation = λ w k j n p m out after c. translation-ends c;
       translations = λ w k n p m out after c. translations-ends c;
       index = λ w n p m out after c. lent-ends (c .outcome) (λ m q e. index-refused (subst (FindsIndex w) e (c .finds))) (c .lent);
       index-check = λ w x n p c. index-check-ends c;
       indexed-sequence = λ w x k n p d r. with-index-ends sequence-ends;
-      indexed-feature = λ w x k j n p a b. with-index-ends feature-ends;
+      indexed-feature = λ w x k j n p y out after. with-index-ends feature-ends;
       indexed-qualifier = λ w x k j i n p a v b. with-index-ends qualifier-ends;
-      indexed-spans = λ w x k j n p o c out after. with-index-ends spans-ends;
       indexed-translation = λ w x k j n p z out after. with-index-ends translation-ends;
       indexed-translations = λ w x k n p z out after. with-index-ends translations-ends;
     }
@@ -88,9 +82,10 @@ module _ {w : List ℕ} where
   sequence-part (SequenceSays.refused c) = omega arith
   sequence-part (SequenceSays.found d c i) = found-inside c
 
-  feature-parts : {k j n p : ℕ} {x y : Part} → FeatureSays w k j n p x y → InListing w x × InListing w y
+  feature-parts : {k j n p : ℕ} {x : FeatureShown} {out after : List ℕ} → FeatureSays w k j out n p x after → InListing w (x .key) × InListing w (x .location)
   feature-parts (FeatureSays.refused c) = (omega arith, omega arith)
-  feature-parts (FeatureSays.found {f = f} c) = (text-inside c (f .key) (0, refl), text-inside c (f .location) (1, refl))
+  feature-parts (FeatureSays.short c l) = (omega arith, omega arith)
+  feature-parts (FeatureSays.found {f = f} (FindsLocation.location c h) l) = (text-inside c (f .key) (0, refl), text-inside c (f .location) (1, refl))
 
   qualifier-parts : {k j i n p : ℕ} {x y : Part} {b : Bool} → QualifierSays w k j i n p x b y → InListing w x × InListing w y
   qualifier-parts (QualifierSays.refused c) = (omega arith, omega arith)
@@ -113,10 +108,13 @@ demand2 =
     record {
       parts = parts-shown;
       sequence = λ w k n p d x c. sequence-part c;
-      feature = λ w k j n p x y c. feature-parts c;
+      feature = λ w k j n p x out after c. feature-parts c;
       qualifier = λ w k j i n p x y b c. qualifier-parts c;
       indexed-sequence = λ w x k n p d r. with-index-part (λ z. none-inside w (z .1)) sequence-part;
-      indexed-feature = λ w x k j n p a b. with-index-part (λ z. (none-inside w (z .0), none-inside w (z .1))) feature-parts;
+      indexed-feature =
+          λ w x k j n p y out after.
+          with-index-part (λ z. (none-inside w (ap (λ (u : FeatureShown). u .key) (z .0)), none-inside w (ap (λ (u : FeatureShown). u .location) (z .0))))
+          feature-parts;
       indexed-qualifier = λ w x k j i n p a v b. with-index-part (λ z. (none-inside w (z .0), none-inside w (z .2))) qualifier-parts;
       locations = λ w l c. accepted-inside c;
       total = λ w t s f j u c. c .2 .totals;

@@ -16,8 +16,8 @@ use Rattle.paper.specs.Values.{Number}
 use Rattle.paper.specs.Locations.{Location, Locates, spans, operatorNumber}
 use Rattle.paper.specs.Translation.{code1, codonsFrom, codingText, dropStop, hasStopInside}
 use Rattle.paper.specs.Rules.{Skipped, Kind, dna, rna, aa, IsKind, kindName, valueRead, CodonStart, absent, stated, Codons, Broken, First}
-use Rattle.paper.specs.Answers.{Prints, page, partOf, isPresent, valuePart, triples, front, Outcome, refuse, give, Strays, Checked, too-long, strays, breaks, accepted, Counts, CheckSays, FindsSequence, FindsFeature, FindsQualifier, FindsLocation, Translates, FindsTranslation, FindsTranslations, Lines, Lent, Part, kindNumber, SequenceSays, FeatureSays, QualifierSays, SpansSays, TranslationSays, TranslationsSays}
-use Rattle.paper.specs.Index.{indexOf, agree, FindsIndex, IndexSays, ChecksIndex, IndexCheckSays, WithIndex, IndexedSequenceSays, IndexedFeatureSays, IndexedQualifierSays, IndexedSpansSays, IndexedTranslationSays, IndexedTranslationsSays}
+use Rattle.paper.specs.Answers.{Prints, page, partOf, isPresent, valuePart, triples, front, Outcome, refuse, give, Strays, Checked, too-long, strays, breaks, accepted, Counts, CheckSays, FindsSequence, FindsFeature, FindsQualifier, FindsLocation, Translates, FindsTranslation, FindsTranslations, Lines, Lent, Part, FeatureShown, shownOf, kindNumber, SequenceSays, FeatureSays, QualifierSays, TranslationSays, TranslationsSays}
+use Rattle.paper.specs.Index.{indexOf, agree, FindsIndex, IndexSays, ChecksIndex, IndexCheckSays, WithIndex, IndexedSequenceSays, IndexedFeatureSays, IndexedQualifierSays, IndexedTranslationSays, IndexedTranslationsSays}
 use Rattle.paper.specs.declared.Verdict.{Verdict}
 use Rattle.paper.specs.declared.Verdict.the-variants.{Accepted, Refused}
 use Rattle.paper.proofs.Decimal.{number-once}
@@ -310,37 +310,32 @@ module _ {w : List ℕ} (once : (l m : Listing ℕ) → LaidOut l w → LaidOut 
           let e : f ≡ g = numbered-once (featuresOf s) j f g h (subst (λ (s : Sequence ℕ). Numbered (featuresOf s) j g) (sym z) i) in
           λ i. give (z i, e i)
 
-      pub feature-once : {n p m q : ℕ} {x y v u : Part} → FeatureSays w k j n p x y → FeatureSays w k j m q v u → (n ≡ m) × (p ≡ q) × (x ≡ v) × (y ≡ u)
-      feature-once (FeatureSays.refused a) (FeatureSays.refused b) = let e = finds-feature-once a b in (cc, cc, refl, refl)
-      feature-once (FeatureSays.refused a) (FeatureSays.found b) = absurd (not-both (finds-feature-once a b))
-      feature-once (FeatureSays.found b) (FeatureSays.refused a) = absurd (not-both (finds-feature-once a b))
-      feature-once (FeatureSays.found {s = s} {f = f} a) (FeatureSays.found {s = t} {f = g} b) =
-          let z : _≡_ {A = Sequence ℕ × Feature ℕ} (s, f) (t, g) = same-given (finds-feature-once a b) in
-          (refl, refl, (λ i. partOf (z i .1 .key)), λ i. partOf (z i .1 .location))
-
-      pub finds-location-once : {a b : Outcome Location} → FindsLocation w k j a → FindsLocation w k j b → a ≡ b
+      pub finds-location-once : {a b : Outcome (Feature ℕ × Location)} → FindsLocation w k j a → FindsLocation w k j b → a ≡ b
       finds-location-once (FindsLocation.earlier a) (FindsLocation.earlier b) = same-refused (finds-feature-once a b)
       finds-location-once (FindsLocation.earlier a) (FindsLocation.location b h) = absurd (not-both (finds-feature-once a b))
       finds-location-once (FindsLocation.location b h) (FindsLocation.earlier a) = absurd (not-both (finds-feature-once a b))
       finds-location-once (FindsLocation.location {s = s} {f = f} {t = t} a h) (FindsLocation.location {s = r} {f = g} {t = u} b i) =
           let z : _≡_ {A = Sequence ℕ × Feature ℕ} (r, g) (s, f) = same-given (finds-feature-once b a) in
-          ap give (locates-once t u h (subst (λ (x : Sequence ℕ × Feature ℕ). Locates u (x .1 .location .read)) z i))
+          let e = locates-once t u h (subst (λ (x : Sequence ℕ × Feature ℕ). Locates u (x .1 .location .read)) z i) in
+          λ i. give (sym z i .1, e i)
 
-      pub spans-once : {out : List ℕ} {n p o c m q d e : ℕ} {x y : List ℕ} → SpansSays w k j out n p o c x → SpansSays w k j out m q d e y
-          → (n ≡ m) × (p ≡ q) × (o ≡ d) × (c ≡ e) × (x ≡ y)
-      spans-once (SpansSays.refused a) (SpansSays.refused b) = let e = finds-location-once a b in (cc, cc, refl, refl, refl)
-      spans-once (SpansSays.refused a) (SpansSays.short b h) = absurd (not-both (finds-location-once a b))
-      spans-once (SpansSays.refused a) (SpansSays.found b h) = absurd (not-both (finds-location-once a b))
-      spans-once (SpansSays.short b h) (SpansSays.refused a) = absurd (not-both (finds-location-once a b))
-      spans-once (SpansSays.short a h) (SpansSays.short b i) = (refl, refl, refl, refl, refl)
-      spans-once (SpansSays.short a h) (SpansSays.found b i) =
-          absurd (omega (arith, ap (λ (t : Location). length (triples (spans t))) (same-given (finds-location-once a b))))
-      spans-once (SpansSays.found b h) (SpansSays.refused a) = absurd (not-both (finds-location-once a b))
-      spans-once (SpansSays.found b i) (SpansSays.short a h) =
-          absurd (omega (arith, ap (λ (t : Location). length (triples (spans t))) (same-given (finds-location-once a b))))
-      spans-once {out} (SpansSays.found a h) (SpansSays.found b i) =
-          let z = same-given (finds-location-once a b) in
-          (refl, refl, ap operatorNumber z, ap (λ (t : Location). length (spans t)) z, ap (λ (t : Location). front (triples (spans t)) out) z)
+      same-room : {f g : Feature ℕ} {t u : Location} → FindsLocation w k j (give (f, t)) → FindsLocation w k j (give (g, u))
+          → length (triples (spans t)) ≡ length (triples (spans u))
+      same-room a b = ap (λ (x : Feature ℕ × Location). length (triples (spans (x .1)))) (same-given (finds-location-once a b))
+
+      pub feature-once : {out : List ℕ} {n p m q : ℕ} {x y : FeatureShown} {a b : List ℕ} → FeatureSays w k j out n p x a → FeatureSays w k j out m q y b
+          → (n ≡ m) × (p ≡ q) × (x ≡ y) × (a ≡ b)
+      feature-once (FeatureSays.refused a) (FeatureSays.refused b) = let e = finds-location-once a b in (cc, cc, refl, refl)
+      feature-once (FeatureSays.refused a) (FeatureSays.short b h) = absurd (not-both (finds-location-once a b))
+      feature-once (FeatureSays.refused a) (FeatureSays.found b h) = absurd (not-both (finds-location-once a b))
+      feature-once (FeatureSays.short b h) (FeatureSays.refused a) = absurd (not-both (finds-location-once a b))
+      feature-once (FeatureSays.short a h) (FeatureSays.short b i) = (refl, refl, refl, refl)
+      feature-once (FeatureSays.short a h) (FeatureSays.found b i) = absurd (omega (arith, same-room a b))
+      feature-once (FeatureSays.found b h) (FeatureSays.refused a) = absurd (not-both (finds-location-once a b))
+      feature-once (FeatureSays.found b i) (FeatureSays.short a h) = absurd (omega (arith, same-room a b))
+      feature-once {out} (FeatureSays.found {f = f} {t = t} a h) (FeatureSays.found {f = g} {t = u} b i) =
+          let z : _≡_ {A = Feature ℕ × Location} (f, t) (g, u) = same-given (finds-location-once a b) in
+          (refl, refl, (λ i. shownOf (z i .0) (z i .1)), λ i. front (triples (spans (z i .1))) out)
 
       pub finds-translation-once : {a b : Outcome (List ℕ)} → FindsTranslation w k j a → FindsTranslation w k j b → a ≡ b
       finds-translation-once (FindsTranslation.earlier a) (FindsTranslation.earlier b) = same-refused (finds-feature-once a b)
@@ -393,17 +388,13 @@ module _ {w : List ℕ} (once : (l m : Listing ℕ) → LaidOut l w → LaidOut 
     indexed-translations-once = with-index-once (λ a b u v. (a, b, u .0 ∙ sym (v .0), u .1 ∙ sym (v .1))) translations-once
 
     module _ {j : ℕ} where
-      pub indexed-feature-once : {n p m q : ℕ} {a b c d : Part} → IndexedFeatureSays w x k j n p a b → IndexedFeatureSays w x k j m q c d
-          → (n ≡ m) × (p ≡ q) × (a ≡ c) × (b ≡ d)
+      pub indexed-feature-once : {out : List ℕ} {n p m q : ℕ} {y z : FeatureShown} {a b : List ℕ} → IndexedFeatureSays w x k j out n p y a
+          → IndexedFeatureSays w x k j out m q z b → (n ≡ m) × (p ≡ q) × (y ≡ z) × (a ≡ b)
       indexed-feature-once = with-index-once (λ a b u v. (a, b, u .0 ∙ sym (v .0), u .1 ∙ sym (v .1))) feature-once
 
       pub indexed-qualifier-once : {i n p m q : ℕ} {a v c u : Part} {b d : Bool} → IndexedQualifierSays w x k j i n p a b v → IndexedQualifierSays w x k j i m q c d u
           → (n ≡ m) × (p ≡ q) × (a ≡ c) × (b ≡ d) × (v ≡ u)
       indexed-qualifier-once = with-index-once (λ a b u v. (a, b, u .0 ∙ sym (v .0), u .1 ∙ sym (v .1), u .2 ∙ sym (v .2))) qualifier-once
-
-      pub indexed-spans-once : {out : List ℕ} {n p o c m q d e : ℕ} {y v : List ℕ} → IndexedSpansSays w x k j out n p o c y → IndexedSpansSays w x k j out m q d e v
-          → (n ≡ m) × (p ≡ q) × (o ≡ d) × (c ≡ e) × (y ≡ v)
-      indexed-spans-once = with-index-once (λ a b u v. (a, b, u .0 ∙ sym (v .0), u .1 ∙ sym (v .1), u .2 ∙ sym (v .2))) spans-once
 
       pub indexed-translation-once : {out : List ℕ} {n p z m q r : ℕ} {y v : List ℕ} → IndexedTranslationSays w x k j out n p z y → IndexedTranslationSays w x k j out m q r v
           → (n ≡ m) × (p ≡ q) × (z ≡ r) × (y ≡ v)

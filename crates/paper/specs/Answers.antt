@@ -104,10 +104,11 @@ pub data FindsQualifier (w : List ℕ) (k j i : ℕ) : Outcome (Qualifier ℕ) �
   qualifier : {s : Sequence ℕ} {f : Feature ℕ} {q : Qualifier ℕ} → FindsFeature w k j (give (s, f))
       → Numbered (qualifiersOf f) i q → FindsQualifier w k j i (give q)
 
-pub data FindsLocation (w : List ℕ) (k j : ℕ) : Outcome Location → Type 0 where
+-- the feature, and the location that its location text is
+pub data FindsLocation (w : List ℕ) (k j : ℕ) : Outcome (Feature ℕ × Location) → Type 0 where
   earlier : {n p : ℕ} → FindsFeature w k j (refuse n p) → FindsLocation w k j (refuse n p)
   location : {s : Sequence ℕ} {f : Feature ℕ} {t : Location} → FindsFeature w k j (give (s, f))
-      → Locates t (f .location .read) → FindsLocation w k j (give t)
+      → Locates t (f .location .read) → FindsLocation w k j (give (f, t))
 
 -- ".. 35 not a CDS of DNA or RNA; 36 unjudged; 37 stop inside; ..": the translation of the feature f of s
 pub data Translates {P : Type 0} (s : Sequence P) (f : Feature P) : Outcome (List ℕ) → Type 0 where
@@ -173,14 +174,21 @@ kindNumber aa = 3
 abbrev pub NoSequence : (kind : ℕ) (residues : Part) → Type 0
 NoSequence d r = (d ≡ 0) × (r ≡ noPart)
 
-abbrev pub NoFeature : (key location : Part) → Type 0
-NoFeature a b = (a ≡ noPart) × (b ≡ noPart)
+-- what is shown of a feature beside its spans
+pub record FeatureShown : Type 0 where
+  pub key : Part
+  pub location : Part
+  pub operator : ℕ
+  pub count : ℕ
+
+abbrev pub nothingShown : FeatureShown
+nothingShown = record { key = noPart; location = noPart; operator = 0; count = 0 }
+
+abbrev pub NoFeature : FeatureShown → (out after : List ℕ) → Type 0
+NoFeature x out after = (x ≡ nothingShown) × (after ≡ out)
 
 abbrev pub NoQualifier : (name : Part) (present : Bool) (value : Part) → Type 0
 NoQualifier a b v = (a ≡ noPart) × (b ≡ false) × (v ≡ noPart)
-
-abbrev pub NoSpans : (operator count : ℕ) (out after : List ℕ) → Type 0
-NoSpans o c out after = (o ≡ 0) × (c ≡ 0) × (after ≡ out)
 
 abbrev pub NothingWritten : (size : ℕ) (out after : List ℕ) → Type 0
 NothingWritten z out after = (z ≡ 0) × (after ≡ out)
@@ -190,10 +198,22 @@ pub data SequenceSays (w : List ℕ) (k : ℕ) : (number place kind : ℕ) (resi
   refused : {n p : ℕ} → FindsSequence w k (refuse n p) → SequenceSays w k n p 0 noPart
   found : {s : Sequence ℕ} (d : Kind) → FindsSequence w k (give s) → IsKind d s → SequenceSays w k 0 0 (kindNumber d) (partOf (s .residues))
 
--- "Feature: its key and location parts."
-pub data FeatureSays (w : List ℕ) (k j : ℕ) : (number place : ℕ) (key location : Part) → Type 0 where
-  refused : {n p : ℕ} → FindsFeature w k j (refuse n p) → FeatureSays w k j n p noPart noPart
-  found : {s : Sequence ℕ} {f : Feature ℕ} → FindsFeature w k j (give (s, f)) → FeatureSays w k j 0 0 (partOf (f .key)) (partOf (f .location))
+-- "Feature: its key and location parts."; "Spans of a feature: operator (none, join, order), count, triples into lent 32-bit numbers.";
+-- and of request 6 of 02: "Merge the two calls: one answer with key part, location part, operator, count and spans, refusals in 01's
+-- order. .. Short room refuses the whole call, parts included."
+abbrev pub triples : List Span → List ℕ
+triples [] = []
+triples (x ∷ l) = x .first ∷ x .last ∷ x .marks ∷ triples l
+
+abbrev pub shownOf : Feature ℕ → Location → FeatureShown
+shownOf f t = record { key = partOf (f .key); location = partOf (f .location); operator = operatorNumber t; count = length (spans t) }
+
+pub data FeatureSays (w : List ℕ) (k j : ℕ) (out : List ℕ) : (number place : ℕ) → FeatureShown → (after : List ℕ) → Type 0 where
+  refused : {n p : ℕ} → FindsLocation w k j (refuse n p) → FeatureSays w k j out n p nothingShown out
+  short : {f : Feature ℕ} {t : Location} → FindsLocation w k j (give (f, t)) → length out < length (triples (spans t))
+      → FeatureSays w k j out 34 0 nothingShown out
+  found : {f : Feature ℕ} {t : Location} → FindsLocation w k j (give (f, t)) → length (triples (spans t)) ≤ length out
+      → FeatureSays w k j out 0 0 (shownOf f t) (front (triples (spans t)) out)
 
 -- "Qualifier: its name part, whether a value is present, and its part (empty if absent)."
 abbrev pub isPresent : Option (Text ℕ) → Bool
@@ -208,17 +228,6 @@ pub data QualifierSays (w : List ℕ) (k j i : ℕ) : (number place : ℕ) (name
   refused : {n p : ℕ} → FindsQualifier w k j i (refuse n p) → QualifierSays w k j i n p noPart false noPart
   found : {q : Qualifier ℕ} → FindsQualifier w k j i (give q)
       → QualifierSays w k j i 0 0 (partOf (q .name)) (isPresent (q .value)) (valuePart (q .value))
-
--- "Spans of a feature: operator (none, join, order), count, triples into lent 32-bit numbers."
-abbrev pub triples : List Span → List ℕ
-triples [] = []
-triples (x ∷ l) = x .first ∷ x .last ∷ x .marks ∷ triples l
-
-pub data SpansSays (w : List ℕ) (k j : ℕ) (out : List ℕ) : (number place operator count : ℕ) (after : List ℕ) → Type 0 where
-  refused : {n p : ℕ} → FindsLocation w k j (refuse n p) → SpansSays w k j out n p 0 0 out
-  short : {t : Location} → FindsLocation w k j (give t) → length out < length (triples (spans t)) → SpansSays w k j out 34 0 0 0 out
-  found : {t : Location} → FindsLocation w k j (give t) → length (triples (spans t)) ≤ length out
-      → SpansSays w k j out 0 0 (operatorNumber t) (length (spans t)) (front (triples (spans t)) out)
 
 -- "One translation into lent bytes, with its length."
 pub record TranslationSays (w : List ℕ) (k j : ℕ) (out : List ℕ) (number place size : ℕ) (after : List ℕ) : Type 0 where

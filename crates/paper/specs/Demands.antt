@@ -13,8 +13,8 @@ use Rattle.paper.specs.Tree.{Text, Feature, Sequence, Listing, Bare, tex
 use Rattle.paper.specs.Layout.{LaidOut, Writes}
 use Rattle.paper.specs.Locations.{Location, Locates, Span, spans}
 use Rattle.paper.specs.Rules.{L, Breaks}
-use Rattle.paper.specs.Answers.{limit, give, Checked, CheckSays, Part, shown, partOf, SequenceSays, FeatureSays, QualifierSays, SpansSays, TranslationSays, TranslationsSays, NoSequence, NoFeature, NoQualifier, NoSpans, NothingWritten}
-use Rattle.paper.specs.Index.{bodyOf, indexOf, IndexSays, IndexCheckSays, IndexedSequenceSays, IndexedFeatureSays, IndexedQualifierSays, IndexedSpansSays, IndexedTranslationSays, IndexedTranslationsSays}
+use Rattle.paper.specs.Answers.{limit, give, Checked, CheckSays, Part, FeatureShown, shown, partOf, SequenceSays, FeatureSays, QualifierSays, TranslationSays, TranslationsSays, NoSequence, NoFeature, NoQualifier, NothingWritten}
+use Rattle.paper.specs.Index.{bodyOf, indexOf, IndexSays, IndexCheckSays, IndexedSequenceSays, IndexedFeatureSays, IndexedQualifierSays, IndexedTranslationSays, IndexedTranslationsSays}
 use Rattle.paper.specs.declared.Verdict.{Verdict}
 use Rattle.paper.specs.declared.Verdict.the-variants.{Accepted, Refused}
 
@@ -43,18 +43,18 @@ AnswerOrRefusal number place nothing = ((number ≡ 0) × (place ≡ 0)) ⊎ (Re
 pub record Demand1 : Type 0 where
   pub check : (w : List ℕ) (n p : ℕ) → CheckSays w (Refused n p) → Refusal n p
   pub sequence : (w : List ℕ) (k n p d : ℕ) (r : Part) → SequenceSays w k n p d r → AnswerOrRefusal n p (NoSequence d r)
-  pub feature : (w : List ℕ) (k j n p : ℕ) (a b : Part) → FeatureSays w k j n p a b → AnswerOrRefusal n p (NoFeature a b)
+  pub feature : (w : List ℕ) (k j n p : ℕ) (x : FeatureShown) (out after : List ℕ) → FeatureSays w k j out n p x after
+      → AnswerOrRefusal n p (NoFeature x out after)
   pub qualifier : (w : List ℕ) (k j i n p : ℕ) (a v : Part) (b : Bool) → QualifierSays w k j i n p a b v → AnswerOrRefusal n p (NoQualifier a b v)
-  pub spans : (w : List ℕ) (k j n p o c : ℕ) (out after : List ℕ) → SpansSays w k j out n p o c after → AnswerOrRefusal n p (NoSpans o c out after)
   pub translation : (w : List ℕ) (k j n p z : ℕ) (out after : List ℕ) → TranslationSays w k j out n p z after → AnswerOrRefusal n p (NothingWritten z out after)
   pub translations : (w : List ℕ) (k n p z : ℕ) (out after : List ℕ) → TranslationsSays w k out n p z after → AnswerOrRefusal n p (NothingWritten z out after)
   -- and of the calls that request 5 of 02 adds
   pub index : (w : List ℕ) (n p z : ℕ) (out after : List ℕ) → IndexSays w out n p z after → AnswerOrRefusal n p (NothingWritten z out after)
   pub index-check : (w x : List ℕ) (n p : ℕ) → IndexCheckSays w x n p → AnswerOrRefusal n p (Unit {0})
   pub indexed-sequence : (w x : List ℕ) (k n p d : ℕ) (r : Part) → IndexedSequenceSays w x k n p d r → AnswerOrRefusal n p (NoSequence d r)
-  pub indexed-feature : (w x : List ℕ) (k j n p : ℕ) (a b : Part) → IndexedFeatureSays w x k j n p a b → AnswerOrRefusal n p (NoFeature a b)
+  pub indexed-feature : (w x : List ℕ) (k j n p : ℕ) (y : FeatureShown) (out after : List ℕ) → IndexedFeatureSays w x k j out n p y after
+      → AnswerOrRefusal n p (NoFeature y out after)
   pub indexed-qualifier : (w x : List ℕ) (k j i n p : ℕ) (a v : Part) (b : Bool) → IndexedQualifierSays w x k j i n p a b v → AnswerOrRefusal n p (NoQualifier a b v)
-  pub indexed-spans : (w x : List ℕ) (k j n p o c : ℕ) (out after : List ℕ) → IndexedSpansSays w x k j out n p o c after → AnswerOrRefusal n p (NoSpans o c out after)
   pub indexed-translation : (w x : List ℕ) (k j n p z : ℕ) (out after : List ℕ) → IndexedTranslationSays w x k j out n p z after
       → AnswerOrRefusal n p (NothingWritten z out after)
   pub indexed-translations : (w x : List ℕ) (k n p z : ℕ) (out after : List ℕ) → IndexedTranslationsSays w x k out n p z after
@@ -83,12 +83,14 @@ pub record Demand2 : Type 0 where
   pub parts : (w : List ℕ) (l : Listing ℕ) → LaidOut l w → (t : Text ℕ) → t ∈ textsOf l → StatedStretch w t
   -- the same of the calls that show parts, refused ones too: whoever reads start and size never leaves the listing
   pub sequence : (w : List ℕ) (k n p kind : ℕ) (residues : Part) → SequenceSays w k n p kind residues → InListing w residues
-  pub feature : (w : List ℕ) (k j n p : ℕ) (key location : Part) → FeatureSays w k j n p key location → InListing w key × InListing w location
+  pub feature : (w : List ℕ) (k j n p : ℕ) (x : FeatureShown) (out after : List ℕ) → FeatureSays w k j out n p x after
+      → InListing w (x .key) × InListing w (x .location)
   pub qualifier : (w : List ℕ) (k j i n p : ℕ) (name value : Part) (present : Bool) → QualifierSays w k j i n p name present value
       → InListing w name × InListing w value
   -- and "whatever is shown is part of the listing, never of the index" (02, request 5)
   pub indexed-sequence : (w x : List ℕ) (k n p d : ℕ) (r : Part) → IndexedSequenceSays w x k n p d r → InListing w r
-  pub indexed-feature : (w x : List ℕ) (k j n p : ℕ) (a b : Part) → IndexedFeatureSays w x k j n p a b → InListing w a × InListing w b
+  pub indexed-feature : (w x : List ℕ) (k j n p : ℕ) (y : FeatureShown) (out after : List ℕ) → IndexedFeatureSays w x k j out n p y after
+      → InListing w (y .key) × InListing w (y .location)
   pub indexed-qualifier : (w x : List ℕ) (k j i n p : ℕ) (a v : Part) (b : Bool) → IndexedQualifierSays w x k j i n p a b v → InListing w a × InListing w v
   -- "No accepted location points outside its sequence .."
   pub locations : (w : List ℕ) (l : Listing ℕ) → Checked w (give l) → (s : Sequence ℕ) → s ∈ l .sequences → (f : Feature ℕ) → f ∈ featuresOf s
@@ -132,11 +134,10 @@ pub record Request5 : Type 0 where
   pub room : (w out after : List ℕ) (l : Listing ℕ) (n p size : ℕ) → Checked w (give l) → length w / 4 ≤ length out → IndexSays w out n p size after → n ≡ 0
   -- "Lookups with an index first run that checker. After it they equal the plain lookups"
   pub sequence : (w x : List ℕ) → IndexCheckSays w x 0 0 → (k n p d : ℕ) (r : Part) → IndexedSequenceSays w x k n p d r ↔ SequenceSays w k n p d r
-  pub feature : (w x : List ℕ) → IndexCheckSays w x 0 0 → (k j n p : ℕ) (a b : Part) → IndexedFeatureSays w x k j n p a b ↔ FeatureSays w k j n p a b
+  pub feature : (w x : List ℕ) → IndexCheckSays w x 0 0 → (k j n p : ℕ) (y : FeatureShown) (out after : List ℕ)
+      → IndexedFeatureSays w x k j out n p y after ↔ FeatureSays w k j out n p y after
   pub qualifier : (w x : List ℕ) → IndexCheckSays w x 0 0 → (k j i n p : ℕ) (a v : Part) (b : Bool)
       → IndexedQualifierSays w x k j i n p a b v ↔ QualifierSays w k j i n p a b v
-  pub spans : (w x : List ℕ) → IndexCheckSays w x 0 0 → (k j n p o c : ℕ) (out after : List ℕ)
-      → IndexedSpansSays w x k j out n p o c after ↔ SpansSays w k j out n p o c after
   pub translation : (w x : List ℕ) → IndexCheckSays w x 0 0 → (k j n p z : ℕ) (out after : List ℕ)
       → IndexedTranslationSays w x k j out n p z after ↔ TranslationSays w k j out n p z after
   pub translations : (w x : List ℕ) → IndexCheckSays w x 0 0 → (k n p z : ℕ) (out after : List ℕ)

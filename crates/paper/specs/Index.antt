@@ -11,7 +11,7 @@ use Rattle.paper.specs.Bytes.{bytes, same, raw}
 use Rattle.paper.specs.Lists.{gather}
 use Rattle.paper.specs.Tree.{Text, Feature, Sequence, Listing, featuresOf}
 use Rattle.paper.specs.Rules.{Kind, dna, rna, aa, kindName}
-use Rattle.paper.specs.Answers.{Outcome, refuse, give, Checked, Lent, kindNumber, Part, SequenceSays, FeatureSays, QualifierSays, SpansSays, TranslationSays, TranslationsSays, NoSequence, NoFeature, NoQualifier, NoSpans, NothingWritten}
+use Rattle.paper.specs.Answers.{Outcome, refuse, give, Checked, Lent, kindNumber, Part, FeatureShown, SequenceSays, FeatureSays, QualifierSays, TranslationSays, TranslationsSays, NoSequence, NoFeature, NoQualifier, NothingWritten}
 
 -- ---- "All numbers are 32-bit, little-endian; .."
 
@@ -114,14 +114,11 @@ module _ (w x : List ℕ) where
   abbrev pub IndexedSequenceSays : (k number place kind : ℕ) (residues : Part) → Type 0
   IndexedSequenceSays k n p d r = WithIndex w x n p (NoSequence d r) (SequenceSays w k n p d r)
 
-  abbrev pub IndexedFeatureSays : (k j number place : ℕ) (key location : Part) → Type 0
-  IndexedFeatureSays k j n p a b = WithIndex w x n p (NoFeature a b) (FeatureSays w k j n p a b)
+  abbrev pub IndexedFeatureSays : (k j : ℕ) (out : List ℕ) (number place : ℕ) → FeatureShown → (after : List ℕ) → Type 0
+  IndexedFeatureSays k j out n p y after = WithIndex w x n p (NoFeature y out after) (FeatureSays w k j out n p y after)
 
   abbrev pub IndexedQualifierSays : (k j i number place : ℕ) (name : Part) (present : Bool) (value : Part) → Type 0
   IndexedQualifierSays k j i n p a b v = WithIndex w x n p (NoQualifier a b v) (QualifierSays w k j i n p a b v)
-
-  abbrev pub IndexedSpansSays : (k j : ℕ) (out : List ℕ) (number place operator count : ℕ) (after : List ℕ) → Type 0
-  IndexedSpansSays k j out n p o c after = WithIndex w x n p (NoSpans o c out after) (SpansSays w k j out n p o c after)
 
   abbrev pub IndexedTranslationSays : (k j : ℕ) (out : List ℕ) (number place size : ℕ) (after : List ℕ) → Type 0
   IndexedTranslationSays k j out n p z after = WithIndex w x n p (NothingWritten z out after) (TranslationSays w k j out n p z after)

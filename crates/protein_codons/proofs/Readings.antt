@@ -15,6 +15,7 @@ use Rattle.protein_blocks.specs.Blocks.{letterFrom}
 use Rattle.location_spans.specs.Walking.{Left, stepsLeft, Starts, Steps}
 use Rattle.location_spans.specs.declared.walking.Triple.{Triple}
 use Rattle.location_spans.specs.declared.walking.Walk.{Walk}
+use Rattle.location_spans.specs.declared.walking.Started.{Started}
 use Rattle.location_spans.specs.declared.walking.Next.the-variants as next
 use Rattle.protein_codons.specs.declared.Reading.{Reading}
 use Rattle.protein_codons.specs.declared.Base.{Base}
@@ -319,16 +320,21 @@ module _ {s loc : List ℕ} {L : ℕ} where
   pub skipped-end : {x y : Reading} {k n : ℕ} → k ≤ n → n ≤ k → Skips s loc L x k y → Skips s loc L x n y
   skipped-end {x} {y} {k} {n} a b f = let e : k ≡ n = omega arith in subst (λ (i : ℕ). Skips s loc L x i y) e f
 
-module _ (s loc : List ℕ) (L : ℕ) (w : Walk) (st : Starts loc w) where
-  begins-at : (t : Location) → Codes s loc L t → TextLeft s loc L (record { walk = w; low = 0; high = 0; turned = false }) (codingText s (paper.spans t))
-  begins-at t h = record { others = paper.spans t; left = st L (h .read) t (h .written) (h .located) (h .right); is = refl }
+module _ (s loc : List ℕ) (L : ℕ) (r : Started) (st : Starts loc r) where
+  begins-at : (t : Location) → Codes s loc L t → TextLeft s loc L (record { walk = r .walk; low = 0; high = 0; turned = false }) (codingText s (paper.spans t))
+  begins-at t h =
+      record {
+        others = paper.spans t;
+        left = st .walk L t (record { text = h .read; written = h .written; located = h .located }) (h .right);
+        is = refl;
+      }
 
-  pub begins-none : {n : ℕ} → n ≡ 0 → BeginsText s loc L n (record { walk = w; low = 0; high = 0; turned = false })
+  pub begins-none : {n : ℕ} → n ≡ 0 → BeginsText s loc L n (record { walk = r .walk; low = 0; high = 0; turned = false })
   begins-none {n} e =
       let z : n - 1 ≡ 0 = omega arith in
       record { ready = record { order = omega arith; inside = omega arith }; leaves = λ t h. rw z (begins-at t h) }
 
-  pub begins-skip : {n : ℕ} {y : Reading} → Skips s loc L (record { walk = w; low = 0; high = 0; turned = false }) (n - 1) y → BeginsText s loc L n y
+  pub begins-skip : {n : ℕ} {y : Reading} → Skips s loc L (record { walk = r .walk; low = 0; high = 0; turned = false }) (n - 1) y → BeginsText s loc L n y
   begins-skip {n} f = record { ready = f .ready; leaves = λ t h. f .keeps (codingText s (paper.spans t)) (begins-at t h) }
 
 -- ---- whether a letter is left

@@ -285,7 +285,7 @@ pub fn begin(r: &[u8], loc: &[u8], top: u32, frame: usize, code: &[u8; 5128]) ->
     requires { ⌜ Coded (now code) ⌝ }
     ensures { λ y. ⌜ BeginsText (now (r .entry)) (now (loc .entry)) top frame y ⌝ }
 {
-    let walk = start(loc);
+    let walk = start(loc).walk;
     let x = Reading {
         walk,
         low: 0,

@@ -1,16 +1,15 @@
 -- The answers of the inner crates in numbers.
-use Prim.Native.Nat.{ℕ}
+use Prim.Native.Nat.{ℕ, _≤_, _<_}
 use mathlib.Core.Path.{_≡_}
-use mathlib.Core.Bool.{Bool}
+use mathlib.Core.Bool.{Bool, true, false}
 use mathlib.Core.List.{List}
-use Rattle.paper.specs.Locations.{mark}
+use lib.ListN.{length}
+use Rattle.paper.specs.Locations.{Location, mark, spans, operatorNumber, breaks25}
+use Rattle.paper.specs.Answers.{triples, front}
 use Rattle.read_layout.specs.Says.{Lays, Refuses}
-use Rattle.location_judge.specs.Judging.{Judges}
-use Rattle.location_spans.specs.Room.{Answers}
+use Rattle.location_judge.specs.Judging.{Spells, Judges}
 use Rattle.location_judge.specs.declared.judging.Facts.{Facts}
 use Rattle.location_judge.specs.declared.judging.Judgement.the-variants.{Bad, Is}
-use Rattle.location_spans.specs.declared.room.Answer.{Answer}
-use Rattle.location_spans.specs.declared.room.Answer.the-variants as answer
 use Rattle.paper.specs.Translation.{code1}
 use Rattle.protein_compare.specs.Comparing.{Compares}
 use Rattle.protein_write.specs.Writing.{WritesTranslation}
@@ -26,31 +25,13 @@ pub data LocationNumbers (s : List ℕ) (L : ℕ) : (number operator count wrong
   is : (f : Facts) {wrong complemented unjudged : ℕ} → Judges s L (Is f) → wrong ≡ mark (f .wrong) 1 → complemented ≡ mark (f .complemented) 1
       → unjudged ≡ mark (f .unjudged) 1 → LocationNumbers s L 0 (f .operator) (f .count) wrong complemented unjudged
 
--- the number, operator and count of each answer
-abbrev pub numberOf : Answer → ℕ
-numberOf answer.Bad = 24
-numberOf answer.Wrong = 25
-numberOf answer.Short = 34
-numberOf (answer.Are operator count) = 0
-
-abbrev pub operatorOf : Answer → ℕ
-operatorOf answer.Bad = 0
-operatorOf answer.Wrong = 0
-operatorOf answer.Short = 0
-operatorOf (answer.Are operator count) = operator
-
-abbrev pub countOf : Answer → ℕ
-countOf answer.Bad = 0
-countOf answer.Wrong = 0
-countOf answer.Short = 0
-countOf (answer.Are operator count) = count
-
-pub record SpansNumbers (s : List ℕ) (L : ℕ) (out : List ℕ) (number operator count : ℕ) (after : List ℕ) : Type 0 where
-  pub says : Answer
-  pub answers : Answers s L out says after
-  pub number-is : number ≡ numberOf says
-  pub operator-is : operator ≡ operatorOf says
-  pub count-is : count ≡ countOf says
+-- of the location that the bytes are, if they are one; a refusal writes nothing
+pub data SpansNumbers (s : List ℕ) (L : ℕ) (out : List ℕ) : (number operator count : ℕ) (after : List ℕ) → Type 0 where
+  bad : ((t : Location) → Spells s t → ⊥) → SpansNumbers s L out 24 0 0 out
+  wrong : (t : Location) → Spells s t → breaks25 L t ≡ true → SpansNumbers s L out 25 0 0 out
+  short : (t : Location) → Spells s t → breaks25 L t ≡ false → length out < length (triples (spans t)) → SpansNumbers s L out 34 0 0 out
+  are : (t : Location) → Spells s t → breaks25 L t ≡ false → length (triples (spans t)) ≤ length out
+      → SpansNumbers s L out 0 (operatorNumber t) (length (spans t)) (front (triples (spans t)) out)
 
 -- the number and length of each answer
 abbrev pub sizeNumber : Size → ℕ

@@ -78,26 +78,22 @@ pub extern "C" fn trial_spans(
 ) -> u32
     ensures { λ r. ⌜ SpansNumbers (now (part .entry)) top (now (out .entry)) r (now (operator .exit)) (now (count .exit)) (now (out .exit)) ⌝ }
 {
-    match location_spans::room::spans(part, 0, part.len(), top, out) {
-        Answer::Bad => {
-            *operator = 0;
-            *count = 0;
-            24
-        }
-        Answer::Wrong => {
-            *operator = 0;
-            *count = 0;
-            25
-        }
-        Answer::Short => {
-            *operator = 0;
-            *count = 0;
-            34
-        }
-        Answer::Are(o, n) => {
-            *operator = o;
-            *count = n;
-            0
+    *operator = 0;
+    *count = 0;
+    match location_judge::judging::judge_location(part, 0, part.len(), top) {
+        Judgement::Bad => 24,
+        Judgement::Is(f) => {
+            if f.wrong {
+                return 25;
+            }
+            match location_spans::room::spans(part, 0, part.len(), top, out) {
+                Answer::Short => 34,
+                Answer::Are(o, n) => {
+                    *operator = o;
+                    *count = n;
+                    0
+                }
+            }
         }
     }
 }

@@ -2,9 +2,7 @@
 
 use crate::arguments::Question;
 use crate::json::{Fields, Json};
-use dreichnook::{
-    visible, Counts, Feature, Listing, Operator, Part, Qualifier, Refusal, Sequence, Span,
-};
+use dreichnook::{visible, Counts, Feature, Listing, Part, Qualifier, Refusal, Sequence, Span};
 use std::io::{self, Write};
 
 pub enum Answer<'a> {
@@ -16,7 +14,6 @@ pub enum Answer<'a> {
     Sequence(Sequence<'a>),
     Feature(Feature<'a>),
     Qualifier(Qualifier<'a>),
-    Spans(Operator, Vec<Span>),
     Translation(Vec<u8>),
     Translations(Vec<u8>),
 }
@@ -49,10 +46,6 @@ pub fn ask(lent: Lent<'_>, question: Question) -> Result<Answer<'_>, Refusal> {
         Question::Sequence(k) => Answer::Sequence(lookups.sequence(k)?),
         Question::Feature(k, j) => Answer::Feature(lookups.feature(k, j)?),
         Question::Qualifier(k, j, i) => Answer::Qualifier(lookups.qualifier(k, j, i)?),
-        Question::Spans(k, j) => {
-            let (operator, spans) = lookups.spans(k, j)?;
-            Answer::Spans(operator, spans)
-        }
         Question::Translation(k, j) => Answer::Translation(lookups.translation(k, j)?),
         Question::Translations(k) => Answer::Translations(lookups.translations(k)?),
     })
@@ -79,19 +72,10 @@ impl Answer<'_> {
             }
             Answer::Feature(feature) => {
                 writeln!(out, "key {}", visible(feature.key.bytes))?;
-                writeln!(out, "location {}", visible(feature.location.bytes))
-            }
-            Answer::Qualifier(qualifier) => {
-                writeln!(out, "name {}", visible(qualifier.name.bytes))?;
-                match qualifier.value {
-                    Some(value) => writeln!(out, "present yes\nvalue {}", visible(value.bytes)),
-                    None => writeln!(out, "present no"),
-                }
-            }
-            Answer::Spans(operator, spans) => {
-                writeln!(out, "operator {operator}")?;
-                writeln!(out, "count {}", spans.len())?;
-                for span in spans {
+                writeln!(out, "location {}", visible(feature.location.bytes))?;
+                writeln!(out, "operator {}", feature.operator)?;
+                writeln!(out, "count {}", feature.spans.len())?;
+                for span in &feature.spans {
                     let Span { first, last, marks } = span;
                     write!(out, "span {first} {last} {marks}")?;
                     for word in mark_words(span) {
@@ -100,6 +84,13 @@ impl Answer<'_> {
                     writeln!(out)?;
                 }
                 Ok(())
+            }
+            Answer::Qualifier(qualifier) => {
+                writeln!(out, "name {}", visible(qualifier.name.bytes))?;
+                match qualifier.value {
+                    Some(value) => writeln!(out, "present yes\nvalue {}", visible(value.bytes)),
+                    None => writeln!(out, "present no"),
+                }
             }
             Answer::Translation(letters) => writeln!(out, "{}", visible(letters)),
             Answer::Translations(lines) => out.write_all(lines),
@@ -119,17 +110,19 @@ impl Answer<'_> {
                 ("kind", Json::Text(kind.to_string())),
                 ("residues", part(residues)),
             ],
-            Answer::Feature(Feature { key, location }) => {
-                vec![("key", part(key)), ("location", part(location))]
-            }
+            Answer::Feature(feature) => vec![
+                ("key", part(&feature.key)),
+                ("location", part(&feature.location)),
+                ("operator", Json::Text(feature.operator.to_string())),
+                ("count", feature.spans.len().into()),
+                (
+                    "spans",
+                    Json::List(feature.spans.iter().map(span).collect()),
+                ),
+            ],
             Answer::Qualifier(Qualifier { name, value }) => vec![
                 ("name", part(name)),
                 ("value", value.as_ref().map_or(Json::Null, part)),
-            ],
-            Answer::Spans(operator, spans) => vec![
-                ("operator", Json::Text(operator.to_string())),
-                ("count", spans.len().into()),
-                ("spans", Json::List(spans.iter().map(span).collect())),
             ],
             Answer::Translation(letters) => vec![
                 ("size", letters.len().into()),

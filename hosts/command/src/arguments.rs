@@ -28,20 +28,18 @@ pub enum Question {
     Sequence(u64),
     Feature(u64, u64),
     Qualifier(u64, u64, u64),
-    Spans(u64, u64),
     Translation(u64, u64),
     Translations(u64),
     Show { from: u64, limit: Option<u64> },
 }
 
 /// The commands with the words they take.
-const COMMANDS: [(&str, &str); 9] = [
+const COMMANDS: [(&str, &str); 8] = [
     ("check", "FILE"),
     ("show", "FILE"),
     ("sequence", "FILE K"),
     ("feature", "FILE K J"),
     ("qualifier", "FILE K J I"),
-    ("spans", "FILE K J"),
     ("translation", "FILE K J"),
     ("translations", "FILE K"),
     ("index", "FILE"),
@@ -73,7 +71,11 @@ pub fn parse(words: impl IntoIterator<Item = OsString>) -> Result<Request, Strin
     let (command, takes) = COMMANDS
         .into_iter()
         .find(|(name, _)| command.to_str() == Some(*name))
-        .ok_or_else(|| format!("there is no command {}", command.to_string_lossy()))?;
+        .ok_or_else(|| match command.to_str() {
+            // Earlier versions had it, so scripts may still ask.
+            Some("spans") => "`spans` is now part of `feature`: dreichnook feature FILE K J".into(),
+            _ => format!("there is no command {}", command.to_string_lossy()),
+        })?;
     let usage = || format!("usage: dreichnook {command} {takes}");
     if command != "show" && (from.is_some() || limit.is_some()) {
         return Err("--from and --limit are for show".into());
@@ -99,7 +101,6 @@ pub fn parse(words: impl IntoIterator<Item = OsString>) -> Result<Request, Strin
             next_number()?,
             next_number()?,
         )),
-        "spans" => Some(Question::Spans(next_number()?, next_number()?)),
         "translation" => Some(Question::Translation(next_number()?, next_number()?)),
         "translations" => Some(Question::Translations(next_number()?)),
         "show" => Some(Question::Show {
@@ -166,7 +167,6 @@ mod tests {
             ("sequence a.xml 1", Question::Sequence(1)),
             ("feature a.xml 1 2", Question::Feature(1, 2)),
             ("qualifier a.xml 1 2 3", Question::Qualifier(1, 2, 3)),
-            ("spans a.xml 1 2", Question::Spans(1, 2)),
             ("translation a.xml 1 2", Question::Translation(1, 2)),
             ("translations a.xml 1", Question::Translations(1)),
             (
@@ -220,6 +220,10 @@ mod tests {
         let cases = [
             ("", "no command is given"),
             ("chek a.xml", "there is no command chek"),
+            (
+                "spans a.xml 1 2",
+                "`spans` is now part of `feature`: dreichnook feature FILE K J",
+            ),
             ("check", "usage: dreichnook check FILE"),
             ("feature a.xml 1", "usage: dreichnook feature FILE K J"),
             (

@@ -2,7 +2,7 @@
 
 use crate::answer::mark_words;
 use crate::show::{ShownFeature, ShownSequence, Walk};
-use dreichnook::{short, visible, Counts, Operator, Span};
+use dreichnook::{short, visible, Counts, Feature, Operator, Span};
 use std::io::{self, Write};
 
 /// A page stays readable: of residues and of spans the first ones are shown.
@@ -63,14 +63,18 @@ pub fn write_sequence(shown: &ShownSequence, out: &mut impl Write) -> io::Result
 }
 
 fn write_feature(number: u64, shown: &ShownFeature, out: &mut impl Write) -> io::Result<()> {
-    let (key, location) = (shown.feature.key.bytes, shown.feature.location.bytes);
+    let Feature {
+        key,
+        location,
+        operator,
+        spans,
+    } = &shown.feature;
     writeln!(
         out,
         "  feature {number}: {}  {}",
-        visible(key),
-        short(location)
+        visible(key.bytes),
+        short(location.bytes)
     )?;
-    let (operator, spans) = &shown.spans;
     let mut shown_spans: Vec<_> = spans.iter().take(SPANS).map(span).collect();
     if spans.len() > SPANS {
         shown_spans.push(format!(".. ({} spans)", spans.len()));
@@ -105,7 +109,7 @@ pub fn write_foot(walk: &Walk, total: u64, out: &mut impl Write) -> io::Result<(
         writeln!(out, "\nStopped amid sequence {next} of {total}.")?;
         writeln!(
             out,
-            "For spans, translations and qualifiers the listing is checked each time, and these were many. \
+            "For features, translations and qualifiers the listing is checked each time, and these were many. \
              --limit N shows N sequences to their end, however long it takes."
         )?;
     } else {

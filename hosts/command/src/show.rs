@@ -2,7 +2,7 @@
 
 use crate::answer::Answer;
 use crate::json::{Fields, Json};
-use dreichnook::{Feature, Index, Listing, Operator, Qualifier, Refusal, Sequence, Span};
+use dreichnook::{Feature, Index, Listing, Part, Qualifier, Refusal, Sequence};
 
 /// A sequence with its features.
 pub struct ShownSequence<'a> {
@@ -15,15 +15,14 @@ pub struct ShownSequence<'a> {
 /// A feature with its qualifiers.
 pub struct ShownFeature<'a> {
     pub feature: Feature<'a>,
-    pub spans: (Operator, Vec<Span>),
     /// None where it isn't a CDS of DNA or RNA.
     pub translation: Option<Result<Vec<u8>, Refusal>>,
     pub qualifiers: Vec<Qualifier<'a>>,
 }
 
-/// The sequences of an accepted listing, from one number to another. Where sequences and features stand is read off one
-/// index. Each question for the others checks the whole listing anew, so the walk has a purse, counted in bytes that are
-/// read; when it is empty, the walk stops amid a sequence.
+/// The sequences of an accepted listing, from one number to another. They and the keys of their features are read off one
+/// index. Each question for a feature, a translation or a qualifier checks the whole listing anew, so the walk has a purse,
+/// counted in bytes that are read; when it is empty, the walk stops amid a sequence.
 pub struct Walk<'a> {
     listing: Listing<'a>,
     index: Index<'a>,
@@ -84,13 +83,13 @@ impl<'a> Walk<'a> {
         let mut features = Vec::new();
         if sequence.is_some() {
             let placed: Vec<_> = self.index.features(k)?.collect();
-            for (j, feature) in (1..).zip(placed) {
-                // With its spans and its translation, so that none is shown without.
-                if !self.pays(1 + u64::from(may_have_translation(&feature))) {
+            for (j, parts) in (1..).zip(placed) {
+                // With its translation, so that none is shown without.
+                if !self.pays(1 + u64::from(may_have_translation(parts.key))) {
                     self.stopped_amid = Some(k);
                     break;
                 }
-                features.push(self.feature(k, j, feature)?);
+                features.push(self.feature(k, j)?);
             }
         }
         Ok(ShownSequence {
@@ -100,14 +99,9 @@ impl<'a> Walk<'a> {
         })
     }
 
-    fn feature(
-        &mut self,
-        k: u64,
-        j: u64,
-        feature: Feature<'a>,
-    ) -> Result<ShownFeature<'a>, Refusal> {
-        let spans = self.listing.spans(k, j)?;
-        let translation = if may_have_translation(&feature) {
+    fn feature(&mut self, k: u64, j: u64) -> Result<ShownFeature<'a>, Refusal> {
+        let feature = self.listing.feature(k, j)?;
+        let translation = if may_have_translation(feature.key) {
             let said = self.listing.translation(k, j);
             Some(said).filter(|said| !refused_with(Refusal::NOT_A_CDS, said))
         } else {
@@ -126,7 +120,6 @@ impl<'a> Walk<'a> {
         }
         Ok(ShownFeature {
             feature,
-            spans,
             translation,
             qualifiers,
         })
@@ -147,8 +140,8 @@ impl<'a> Iterator for Walk<'a> {
 }
 
 /// The library says whether it is a CDS of DNA or RNA; of other keys that is known.
-fn may_have_translation(feature: &Feature) -> bool {
-    feature.key.bytes == b"CDS"
+fn may_have_translation(key: Part) -> bool {
+    key.bytes == b"CDS"
 }
 
 /// An answer, or nothing where the refusal is the one that ends a list.
@@ -179,10 +172,8 @@ impl ShownSequence<'_> {
 
 impl ShownFeature<'_> {
     fn json(&self, number: u64) -> Json {
-        let (operator, spans) = &self.spans;
         let mut fields: Fields = vec![("feature", number.into())];
-        fields.extend(Answer::Feature(self.feature).json());
-        fields.extend(Answer::Spans(*operator, spans.clone()).json());
+        fields.extend(Answer::Feature(self.feature.clone()).json());
         match &self.translation {
             Some(Ok(letters)) => {
                 let letters = String::from_utf8_lossy(letters);
@@ -251,7 +242,7 @@ mod tests {
 
     #[test]
     fn an_empty_purse_stops_the_walk() {
-        // Sequence 3 costs 1 for each spans, 1 for the CDS's translation, twice 3 for qualifiers; the next one 1 at least.
+        // Sequence 3 costs 1 for each feature, 1 for the CDS's translation, twice 3 for qualifiers; the next one 1 at least.
         let fourth = (vec![(3, 2), (4, 0)], Some(4), Some(4));
         assert_eq!(walked(with_purse(9)), fourth);
         assert_eq!(walked(with_purse(8)), (vec![(3, 2)], Some(3), Some(3)));

@@ -163,10 +163,11 @@ fn json_is_one_valid_line() {
         "sequence F 1",
         "feature F 1 1",
         "qualifier F 1 1 1",
+        "translation F 1 2",
+        "translations F 1",
     ];
-    let more = ["spans F 1 1", "translation F 1 2", "translations F 1"];
     for file in specimens() {
-        for question in questions.iter().chain(&more) {
+        for question in questions {
             let line = format!("{} --json", question.replace('F', &file));
             let (out, error, code) = said(run(&line));
             assert_eq!(after_json(&out), Some("\n"), "{line}: {out}");
@@ -185,8 +186,31 @@ fn answers_in_lines_and_json() {
         ),
         (
             "feature annex-iii.xml 3 2",
-            "key CDS\nlocation 3..62\n",
-            r#"{"key":{"start":4442,"size":3,"text":"CDS"},"location":{"start":4496,"size":5,"text":"3..62"}}"#,
+            "key CDS\nlocation 3..62\noperator none\ncount 1\nspan 3 62 0\n",
+            concat!(
+                r#"{"key":{"start":4442,"size":3,"text":"CDS"},"location":{"start":4496,"size":5,"text":"3..62"},"#,
+                r#""operator":"none","count":1,"spans":[{"first":3,"last":62,"marks":0}]}"#,
+            ),
+        ),
+        (
+            "feature 002-p66-location-syntax.xml 1 21",
+            "key misc_feature\nlocation order(complement(134..&gt;202),complement(&lt;12..78))\n\
+             operator order\ncount 2\nspan 134 202 5 complement >\nspan 12 78 3 complement <\n",
+            concat!(
+                r#"{"key":{"start":4698,"size":12,"text":"misc_feature"},"#,
+                r#""location":{"start":4761,"size":54,"text":"order(complement(134..&gt;202),complement(&lt;12..78))"},"#,
+                r#""operator":"order","count":2,"#,
+                r#""spans":[{"first":134,"last":202,"marks":5},{"first":12,"last":78,"marks":3}]}"#,
+            ),
+        ),
+        (
+            "feature 002-p66-location-syntax.xml 1 11",
+            "key misc_feature\nlocation 1000^1\noperator none\ncount 1\nspan 1000 1 8 site\n",
+            concat!(
+                r#"{"key":{"start":2839,"size":12,"text":"misc_feature"},"#,
+                r#""location":{"start":2902,"size":6,"text":"1000^1"},"#,
+                r#""operator":"none","count":1,"spans":[{"first":1000,"last":1,"marks":8}]}"#,
+            ),
         ),
         (
             "qualifier annex-iii.xml 3 2 2",
@@ -197,16 +221,6 @@ fn answers_in_lines_and_json() {
             "qualifier 003-annex-i-cds-qualifiers.xml 1 5 1",
             "name pseudo\npresent no\n",
             r#"{"name":{"start":3699,"size":6,"text":"pseudo"},"value":null}"#,
-        ),
-        (
-            "spans 002-p66-location-syntax.xml 1 21",
-            "operator order\ncount 2\nspan 134 202 5 complement >\nspan 12 78 3 complement <\n",
-            r#"{"operator":"order","count":2,"spans":[{"first":134,"last":202,"marks":5},{"first":12,"last":78,"marks":3}]}"#,
-        ),
-        (
-            "spans 002-p66-location-syntax.xml 1 11",
-            "operator none\ncount 1\nspan 1000 1 8 site\n",
-            r#"{"operator":"none","count":1,"spans":[{"first":1000,"last":1,"marks":8}]}"#,
         ),
         (
             "translation annex-iii.xml 3 2",
@@ -253,11 +267,10 @@ fn index_of(specimen: &str, name: &str) -> String {
     file.into_os_string().into_string().unwrap()
 }
 
-const QUESTIONS: [&str; 6] = [
+const QUESTIONS: [&str; 5] = [
     "sequence F 3",
     "feature F 3 2",
     "qualifier F 3 2 1",
-    "spans F 3 2",
     "translation F 3 2",
     "translations F 3",
 ];
@@ -366,7 +379,7 @@ fn a_question_without_an_answer_is_refused() {
             "no such sequence",
         ),
         ("sequence annex-iii.xml 7", 31, "the sequence is skipped"),
-        ("spans annex-iii.xml 3 3", 32, "no such feature"),
+        ("feature annex-iii.xml 3 3", 32, "no such feature"),
         ("qualifier annex-iii.xml 3 2 3", 33, "no such qualifier"),
         (
             "translation annex-iii.xml 3 1",
@@ -592,6 +605,10 @@ fn misuse_has_status_2_and_says_what() {
             "usage: dreichnook feature FILE K J",
         ),
         ("look annex-iii.xml", "there is no command look"),
+        (
+            "spans annex-iii.xml 3 2",
+            "`spans` is now part of `feature`: dreichnook feature FILE K J",
+        ),
         ("check annex-iii.xml --jason", "there is no option --jason"),
         ("index no-such.xml", "there is no file no-such.xml"),
         (
@@ -622,13 +639,13 @@ fn help_and_version() {
         "sequence",
         "feature",
         "qualifier",
-        "spans",
         "translation",
         "translations",
         "index",
     ] {
         assert!(out.contains(&format!("  dreichnook {name} FILE")), "{name}");
     }
+    assert!(!out.contains("dreichnook spans"));
     assert!(said(run("--version")).0.starts_with("dreichnook 0.1.0"));
 }
 

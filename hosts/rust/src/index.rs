@@ -1,6 +1,6 @@
 //! The index of a listing. Its format stands in hosts/include/dreichnook.h, and for Rust in this file alone.
 
-use crate::{Feature, Kind, Part, Refusal, Sequence};
+use crate::{FeatureParts, Kind, Part, Refusal, Sequence};
 use std::ops::Range;
 
 /// The bytes of a number.
@@ -24,7 +24,8 @@ const FEATURE: [&str; 4] = [
 ];
 
 /// The index of a listing, with the listing. The proved maker wrote its numbers from those very bytes, which stay
-/// borrowed. So what is read off it, without a call, is what [`Lookups`](crate::Lookups) would answer.
+/// borrowed. So what is read off it, without a call, is what [`Lookups`](crate::Lookups) would answer; of features these
+/// are the two parts, without operator and spans.
 #[derive(Clone, Debug, PartialEq, Eq)]
 pub struct Index<'a> {
     listing: &'a [u8],
@@ -51,8 +52,8 @@ impl<'a> Index<'a> {
         self.shown(sequence).map(|(_, sequence)| sequence)
     }
 
-    /// The key and the location of a feature.
-    pub fn feature(&self, sequence: u64, feature: u64) -> Result<Feature<'a>, Refusal> {
+    /// The two parts of a feature, its key and its location.
+    pub fn feature(&self, sequence: u64, feature: u64) -> Result<FeatureParts<'a>, Refusal> {
         let features = self.numbers_of_features(&self.shown(sequence)?.0);
         if !(1..=(features.len() / FEATURE.len()) as u64).contains(&feature) {
             return Err(refused(Refusal::NO_FEATURE));
@@ -66,11 +67,11 @@ impl<'a> Index<'a> {
         (1..=self.total()).map(|sequence| self.sequence(sequence).ok())
     }
 
-    /// The features of a sequence in their order.
+    /// The two parts of each feature of a sequence, in their order.
     pub fn features(
         &self,
         sequence: u64,
-    ) -> Result<impl ExactSizeIterator<Item = Feature<'a>> + '_, Refusal> {
+    ) -> Result<impl ExactSizeIterator<Item = FeatureParts<'a>> + '_, Refusal> {
         let (body, _) = self.shown(sequence)?;
         let features = self.numbers_of_features(&body).step_by(FEATURE.len());
         Ok(features.map(|feature| self.feature_from(feature)))
@@ -123,8 +124,8 @@ impl<'a> Index<'a> {
         body.start + BODY.len()..body.end
     }
 
-    fn feature_from(&self, at: usize) -> Feature<'a> {
-        Feature {
+    fn feature_from(&self, at: usize) -> FeatureParts<'a> {
+        FeatureParts {
             key: self.part(at),
             location: self.part(at + 2),
         }

@@ -90,8 +90,20 @@ pub struct Sequence<'a> {
     pub residues: Part<'a>,
 }
 
+/// A feature, with what its location says.
 #[derive(Clone, Copy, Debug, PartialEq, Eq)]
-pub struct Feature<'a> {
+pub struct Feature<'a, S = Vec<Span>> {
+    pub key: Part<'a>,
+    pub location: Part<'a>,
+    pub operator: Operator,
+    /// In reading order from the feature's 5' end; of its own, or in lent room.
+    pub spans: S,
+}
+
+/// The two parts of a feature, which is all that an [`Index`] has of it. [`Lookups::feature`] gives the operator and the
+/// spans too.
+#[derive(Clone, Copy, Debug, PartialEq, Eq)]
+pub struct FeatureParts<'a> {
     pub key: Part<'a>,
     pub location: Part<'a>,
 }

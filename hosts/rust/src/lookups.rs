@@ -47,25 +47,63 @@ impl<'a> Lookups<'a, '_> {
         Ok(Sequence { kind, residues })
     }
 
-    /// The key and the location of a feature.
+    /// The key, the location, its operator and its spans, all of one feature.
     pub fn feature(&self, sequence: u64, feature: u64) -> Result<Feature<'a>, Refusal> {
+        let mut shown = None;
+        let spans = grown(|out| {
+            let lent = self.feature_into(sequence, feature, out)?;
+            shown = Some((lent.key, lent.location, lent.operator));
+            Ok(lent.spans.len())
+        })?;
+        let (key, location, operator) = shown.expect("spans come with the parts");
+        Ok(Feature {
+            key,
+            location,
+            operator,
+            spans,
+        })
+    }
+
+    /// The same, with the spans written to the front of `out`; the rest stays as it was. A location of n bytes has at most
+    /// n / 2 + 1 of them. Where they don't fit, all is refused with 34: no part is shown, and nothing is written.
+    pub fn feature_into<'o>(
+        &self,
+        sequence: u64,
+        feature: u64,
+        out: &'o mut [Span],
+    ) -> Result<Feature<'a, &'o [Span]>, Refusal> {
         let (mut place, mut key_start, mut key_size) = (0, 0, 0);
         let (mut location_start, mut location_size) = (0, 0);
+        let (mut operator, mut count) = (0, 0);
+        // A `Span` is three u32 one after another.
         let number = ask!(
             self,
             dreichnook_feature | dreichnook_indexed_feature,
             sequence,
             feature,
+            out.as_mut_ptr().cast(),
+            3 * out.len(),
             &mut place,
             &mut key_start,
             &mut key_size,
             &mut location_start,
-            &mut location_size
+            &mut location_size,
+            &mut operator,
+            &mut count
         );
         answered(number, place)?;
-        let key = self.part(key_start, key_size);
-        let location = self.part(location_start, location_size);
-        Ok(Feature { key, location })
+        let operator = match operator {
+            0 => Operator::None,
+            1 => Operator::Join,
+            2 => Operator::Order,
+            other => panic!("the library answered with operator {other}"),
+        };
+        Ok(Feature {
+            key: self.part(key_start, key_size),
+            location: self.part(location_start, location_size),
+            operator,
+            spans: &out[..in_memory(count)],
+        })
     }
 
     /// The name and the value of a qualifier.
@@ -94,47 +132,6 @@ impl<'a> Lookups<'a, '_> {
         let name = self.part(name_start, name_size);
         let value = (present == 1).then(|| self.part(value_start, value_size));
         Ok(Qualifier { name, value })
-    }
-
-    /// The operator and the spans of a feature, in reading order from its 5' end.
-    pub fn spans(&self, sequence: u64, feature: u64) -> Result<(Operator, Vec<Span>), Refusal> {
-        let mut operator = Operator::None;
-        let spans = grown(|out| {
-            let (said, spans) = self.spans_into(sequence, feature, out)?;
-            operator = said;
-            Ok(spans.len())
-        })?;
-        Ok((operator, spans))
-    }
-
-    /// The same, written to the front of `out`; the rest stays as it was.
-    pub fn spans_into<'o>(
-        &self,
-        sequence: u64,
-        feature: u64,
-        out: &'o mut [Span],
-    ) -> Result<(Operator, &'o [Span]), Refusal> {
-        let (mut place, mut operator, mut count) = (0, 0, 0);
-        // A `Span` is three u32 one after another.
-        let number = ask!(
-            self,
-            dreichnook_spans | dreichnook_indexed_spans,
-            sequence,
-            feature,
-            out.as_mut_ptr().cast(),
-            3 * out.len(),
-            &mut place,
-            &mut operator,
-            &mut count
-        );
-        answered(number, place)?;
-        let operator = match operator {
-            0 => Operator::None,
-            1 => Operator::Join,
-            2 => Operator::Order,
-            other => panic!("the library answered with operator {other}"),
-        };
-        Ok((operator, &out[..in_memory(count)]))
     }
 
     /// The translation of a judged CDS. One of more than [`LIMIT`] letters, which only a join with repeated members has,
@@ -213,6 +210,7 @@ pub fn in_memory(number: u64) -> usize {
 fn grown<T: Clone + Default>(
     mut ask: impl FnMut(&mut [T]) -> Result<usize, Refusal>,
 ) -> Result<Vec<T>, Refusal> {
+    // Each question costs a whole check, so it starts with enough for most, and grows in few steps.
     let mut room = 4_096;
     loop {
         let mut out = vec![T::default(); room];
@@ -221,7 +219,6 @@ fn grown<T: Clone + Default>(
                 out.truncate(count);
                 return Ok(out);
             }
-            // Each question costs a whole check, so in few steps.
             Err(refusal) if refusal.number == Refusal::NO_ROOM && room < LIMIT => room *= 16,
             Err(refusal) => return Err(refusal),
         }

@@ -1,6 +1,7 @@
 //! The answers on the published specimens, and on some edits of them.
 
 use dreichnook::{Counts, Kind, Listing, Operator, Part, Refusal, Span, LIMIT};
+use std::collections::BTreeSet;
 use std::fs;
 
 fn specimen(name: &str) -> Vec<u8> {
@@ -23,6 +24,10 @@ fn with_cds(location: &str) -> Vec<u8> {
 
 fn question(number: u32) -> Refusal {
     Refusal { number, place: 0 }
+}
+
+fn span(first: u32, last: u32, marks: u32) -> Span {
+    Span { first, last, marks }
 }
 
 #[test]
@@ -101,25 +106,66 @@ fn a_value_may_be_absent_or_empty() {
 }
 
 #[test]
-fn spans_in_reading_order() {
+fn operator_and_spans_come_with_the_parts() {
     let bytes = specimen("002-p66-location-syntax.xml");
     let listing = Listing::new(&bytes);
-    let span = |first, last, marks| Span { first, last, marks };
     let complemented = vec![
         span(134, 202, Span::COMPLEMENT),
         span(12, 78, Span::COMPLEMENT),
     ];
-    assert_eq!(
-        listing.spans(1, 18).unwrap(),
-        (Operator::Join, complemented)
-    );
     let site = vec![span(123, 124, Span::COMPLEMENT + Span::SITE)];
-    assert_eq!(listing.spans(1, 16).unwrap(), (Operator::None, site));
     let open = vec![
         span(134, 202, Span::COMPLEMENT + Span::AFTER),
         span(12, 78, Span::COMPLEMENT + Span::BEFORE),
     ];
-    assert_eq!(listing.spans(1, 21).unwrap(), (Operator::Order, open));
+    let cases = [
+        (
+            18,
+            "complement(join(12..78,134..202))",
+            Operator::Join,
+            complemented,
+        ),
+        (16, "complement(123^124)", Operator::None, site),
+        (
+            21,
+            "order(complement(134..&gt;202),complement(&lt;12..78))",
+            Operator::Order,
+            open,
+        ),
+    ];
+    for (j, location, operator, spans) in cases {
+        let feature = listing.feature(1, j).unwrap();
+        assert_eq!(feature.key.bytes, b"misc_feature");
+        assert_eq!(feature.location.bytes, location.as_bytes());
+        assert_eq!((feature.operator, feature.spans), (operator, spans));
+    }
+}
+
+#[test]
+fn the_spans_are_those_of_the_feature_asked() {
+    let bytes = specimen("annex-iii.xml");
+    let listing = Listing::new(&bytes);
+    for (j, key, first) in [(1, "source", 1), (2, "CDS", 3)] {
+        let feature = listing.feature(3, j).unwrap();
+        assert_eq!(feature.key.bytes, key.as_bytes());
+        assert_eq!(feature.spans, [span(first, 62, 0)]);
+    }
+    // Whatever feature is asked, the numbers of its spans are those that its location has.
+    let bytes = specimen("002-p66-location-syntax.xml");
+    let mut locations = BTreeSet::new();
+    for j in 1..=21 {
+        let feature = Listing::new(&bytes).feature(1, j).unwrap();
+        let text = std::str::from_utf8(feature.location.bytes).unwrap();
+        let written = text.split(|letter: char| !letter.is_ascii_digit());
+        let written: BTreeSet<u32> = written.filter_map(|digits| digits.parse().ok()).collect();
+        let given = feature
+            .spans
+            .iter()
+            .flat_map(|span| [span.first, span.last]);
+        assert_eq!(given.collect::<BTreeSet<_>>(), written, "{text}");
+        locations.insert(text);
+    }
+    assert_eq!(locations.len(), 21);
 }
 
 #[test]
@@ -151,29 +197,30 @@ fn lent_room_beyond_the_answer_stays() {
     );
     assert_eq!(listing.translations_into(4, &mut []).unwrap(), b"");
 
-    let mut out = [Span {
-        first: 7,
-        last: 7,
-        marks: 7,
-    }; 2];
-    assert_eq!(listing.spans_into(3, 2, &mut []), Err(question(34)));
-    assert_eq!(listing.spans_into(3, 2, &mut out).unwrap().1.len(), 1);
-    assert_eq!(
-        out[0],
-        Span {
-            first: 3,
-            last: 62,
-            marks: 0
-        }
-    );
-    assert_eq!(
-        out[1],
-        Span {
-            first: 7,
-            last: 7,
-            marks: 7
-        }
-    );
+    let mut out = [span(7, 7, 7); 2];
+    let feature = listing.feature_into(3, 2, &mut out).unwrap();
+    assert_eq!(feature.spans, [span(3, 62, 0)]);
+    assert_eq!(out, [span(3, 62, 0), span(7, 7, 7)]);
+}
+
+#[test]
+fn short_room_shows_nothing_of_a_feature() {
+    let bytes = specimen("002-p66-location-syntax.xml");
+    let listing = Listing::new(&bytes);
+    // Of seven spans. Its key and its location take no room, and yet aren't shown.
+    let mut out = [span(7, 7, 7); 8];
+    for room in 0..7 {
+        let said = listing.feature_into(1, 12, &mut out[..room]);
+        assert_eq!(said, Err(question(34)));
+        assert_eq!(out, [span(7, 7, 7); 8]);
+    }
+    let whole = listing.feature(1, 12).unwrap();
+    for room in [7, 8] {
+        let said = listing.feature_into(1, 12, &mut out[..room]).unwrap();
+        assert_eq!((said.key, said.location), (whole.key, whole.location));
+        assert_eq!((said.operator, said.spans), (Operator::Join, &*whole.spans));
+        assert_eq!(out[7], span(7, 7, 7));
+    }
 }
 
 #[test]
@@ -186,7 +233,7 @@ fn an_answer_may_take_more_room_than_the_first() {
         b"MLAPDCPFDPTRIYSSSLC".repeat(5_000)
     );
     assert_eq!(listing.translations(3).unwrap().len(), 95_001);
-    assert_eq!(listing.spans(3, 2).unwrap().1.len(), 5_000);
+    assert_eq!(listing.feature(3, 2).unwrap().spans.len(), 5_000);
 }
 
 #[test]
@@ -210,7 +257,8 @@ fn refusals_of_a_question() {
         assert_eq!(listing.sequence(none), Err(question(30)));
         assert_eq!(listing.translations(none), Err(question(30)));
         assert_eq!(listing.feature(3, none), Err(question(32)));
-        assert_eq!(listing.spans(3, none), Err(question(32)));
+        // The room is the last thing to be refused.
+        assert_eq!(listing.feature_into(3, none, &mut []), Err(question(32)));
         assert_eq!(listing.qualifier(3, 2, none), Err(question(33)));
     }
     assert_eq!(listing.sequence(7), Err(question(31)));
@@ -269,7 +317,7 @@ fn a_refused_listing_refuses_every_question() {
         assert_eq!(listing.sequence(1), Err(refusal));
         assert_eq!(listing.feature(1, 1), Err(refusal));
         assert_eq!(listing.qualifier(1, 1, 1), Err(refusal));
-        assert_eq!(listing.spans(1, 1), Err(refusal));
+        assert_eq!(listing.feature_into(1, 1, &mut []), Err(refusal));
         assert_eq!(listing.translation(1, 1), Err(refusal));
         assert_eq!(listing.translations(1), Err(refusal));
     }

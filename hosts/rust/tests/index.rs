@@ -1,6 +1,8 @@
 //! The index: made, checked, read, and lent with each lookup.
 
-use dreichnook::{Index, Kind, Listing, Lookups, Refusal, Sequence, Span, LIMIT};
+use dreichnook::{
+    Feature, FeatureParts, Index, Kind, Listing, Lookups, Refusal, Sequence, Span, LIMIT,
+};
 use std::fs;
 
 fn file(name: &str) -> Vec<u8> {
@@ -82,6 +84,12 @@ fn an_index_is_that_of_the_format() {
     }
 }
 
+/// What an index has of a feature.
+fn parts(feature: Feature) -> FeatureParts {
+    let Feature { key, location, .. } = feature;
+    FeatureParts { key, location }
+}
+
 #[test]
 fn what_is_read_off_it_is_what_the_lookups_answer() {
     for (name, bytes) in specimens("accepted") {
@@ -98,10 +106,12 @@ fn what_is_read_off_it_is_what_the_lookups_answer() {
             assert_eq!(features.err(), index.sequence(k).err(), "{name} {k}");
             let features = features.unwrap_or(0) as u64;
             for j in (0..=features + 1).chain([u64::MAX]) {
-                assert_eq!(index.feature(k, j), listing.feature(k, j), "{name} {k} {j}");
+                let looked_up = listing.feature(k, j).map(parts);
+                assert_eq!(index.feature(k, j), looked_up, "{name} {k} {j}");
             }
             for (j, feature) in (1..).zip(index.features(k).into_iter().flatten()) {
-                assert_eq!(Ok(feature), listing.feature(k, j), "{name} {k} {j}");
+                let looked_up = listing.feature(k, j).map(parts);
+                assert_eq!(Ok(feature), looked_up, "{name} {k} {j}");
             }
         }
     }
@@ -119,8 +129,7 @@ fn answers(lookups: Lookups, k: u64) -> Vec<String> {
     ];
     for j in [0, 1, 2, 3, u64::MAX] {
         said.push(format!("{:?}", lookups.feature(k, j)));
-        said.push(format!("{:?}", lookups.spans(k, j)));
-        said.push(format!("{:?}", lookups.spans_into(k, j, &mut spans)));
+        said.push(format!("{:?}", lookups.feature_into(k, j, &mut spans)));
         said.push(format!("{:?}", lookups.translation(k, j)));
         said.push(format!("{:?}", lookups.translation_into(k, j, &mut out)));
         said.push(format!("{spans:?} {out:?}"));
@@ -146,9 +155,8 @@ fn refusals(lookups: Lookups, k: u64) -> Vec<Option<Refusal>> {
     vec![
         lookups.sequence(k).err(),
         lookups.feature(k, 1).err(),
+        lookups.feature_into(k, 1, &mut []).err(),
         lookups.qualifier(k, 1, 1).err(),
-        lookups.spans(k, 1).err(),
-        lookups.spans_into(k, 1, &mut []).err(),
         lookups.translation(k, 1).err(),
         lookups.translation_into(k, 1, &mut []).err(),
         lookups.translations(k).err(),

@@ -1,6 +1,6 @@
 //! The public calls, as libdreichnook.a gives them to other programs.
 
-use crate::lookups::{Answer, Lent, Question, Room};
+use crate::lookups::{shown, Answer, Lent, Question, Room};
 use referee::{Counts, Refusal};
 
 extern "C" {
@@ -71,16 +71,13 @@ lookups! {
         sequence: u64, place: *mut u64, kind: *mut u8, start: *mut u64, size: *mut u64
     );
     feature: dreichnook_feature, dreichnook_indexed_feature(
-        sequence: u64, feature: u64, place: *mut u64, key_start: *mut u64, key_size: *mut u64,
-        location_start: *mut u64, location_size: *mut u64
+        sequence: u64, feature: u64, out: *mut u32, room: usize, place: *mut u64,
+        key_start: *mut u64, key_size: *mut u64, location_start: *mut u64,
+        location_size: *mut u64, operator: *mut u8, count: *mut u64
     );
     qualifier: dreichnook_qualifier, dreichnook_indexed_qualifier(
         sequence: u64, feature: u64, qualifier: u64, place: *mut u64, name_start: *mut u64,
         name_size: *mut u64, present: *mut u8, value_start: *mut u64, value_size: *mut u64
-    );
-    spans: dreichnook_spans, dreichnook_indexed_spans(
-        sequence: u64, feature: u64, out: *mut u32, room: usize, place: *mut u64,
-        operator: *mut u8, count: *mut u64
     );
     translation: dreichnook_translation, dreichnook_indexed_translation(
         sequence: u64, feature: u64, out: *mut u8, room: usize, place: *mut u64, size: *mut u64
@@ -156,46 +153,44 @@ pub fn ask(lent: Lent, question: Question, room: &mut Room) -> Answer {
             Question::Check => {
                 let number =
                     dreichnook_check(listing, length, at, &mut a, &mut b, &mut c, &mut d, &mut e);
-                (number, [a, b, c, d, e])
+                (number, shown([a, b, c, d, e]))
             }
             Question::Index => {
                 let (out, size) = raw(room.bytes());
                 let number = dreichnook_index(listing, length, out, size, at, &mut a);
-                (number, [a, 0, 0, 0, 0])
+                (number, shown([a]))
             }
             Question::IndexCheck => {
                 let index = lent.index.unwrap_or_default();
                 let (index, index_length) = (index.as_ptr(), index.len());
                 let number = dreichnook_index_check(listing, length, index, index_length, at);
-                (number, [0; 5])
+                (number, shown([]))
             }
             Question::Sequence(k) => {
                 let number = sequence(lent, k, at, &mut byte, &mut a, &mut b);
-                (number, [u64::from(byte), a, b, 0, 0])
+                (number, shown([u64::from(byte), a, b]))
             }
             Question::Feature(k, f) => {
-                let number = feature(lent, k, f, at, &mut a, &mut b, &mut c, &mut d);
-                (number, [a, b, c, d, 0])
+                let (out, size) = raw(room.numbers());
+                let number = feature(
+                    lent, k, f, out, size, at, &mut a, &mut b, &mut c, &mut d, &mut byte, &mut e,
+                );
+                (number, shown([a, b, c, d, u64::from(byte), e]))
             }
             Question::Qualifier(k, f, q) => {
                 let number =
                     qualifier(lent, k, f, q, at, &mut a, &mut b, &mut byte, &mut c, &mut d);
-                (number, [a, b, u64::from(byte), c, d])
-            }
-            Question::Spans(k, f) => {
-                let (out, size) = raw(room.numbers());
-                let number = spans(lent, k, f, out, size, at, &mut byte, &mut a);
-                (number, [u64::from(byte), a, 0, 0, 0])
+                (number, shown([a, b, u64::from(byte), c, d]))
             }
             Question::Translation(k, f) => {
                 let (out, size) = raw(room.bytes());
                 let number = translation(lent, k, f, out, size, at, &mut a);
-                (number, [a, 0, 0, 0, 0])
+                (number, shown([a]))
             }
             Question::Translations(k) => {
                 let (out, size) = raw(room.bytes());
                 let number = translations(lent, k, out, size, at, &mut a);
-                (number, [a, 0, 0, 0, 0])
+                (number, shown([a]))
             }
         }
     };

@@ -134,7 +134,7 @@ impl<A: Fn(Lent, Question, &mut Room) -> Answer> Lookups<A> {
                 Question::Sequence(number),
                 Question::Feature(1, number),
                 Question::Qualifier(1, 1, number),
-                Question::Spans(number, 1),
+                Question::Feature(number, 2),
                 Question::Translation(1, number),
                 Question::Translations(number),
             ] {
@@ -431,10 +431,8 @@ fn versions(bytes: &[u8], rng: &mut Rng) -> Vec<Vec<u8>> {
 #[cfg(test)]
 mod tests {
     use super::*;
+    use crate::faults::{Error, OF_A_FEATURE};
     use crate::lookups::judged;
-
-    /// A reader that errs: the referee's answer, changed by the reader's error.
-    type Error = fn(&Listing, Option<&[u8]>, Question, &mut Room) -> Answer;
 
     /// How many answers of an erring reader differ, on some short listings.
     fn differ(error: Error) -> usize {
@@ -442,9 +440,11 @@ mod tests {
             error(&Listing::new(lent.listing), lent.index, question, room)
         };
         let mut lookups = Lookups::new("test", index_calls(), ask, None);
-        let damages = check::damages(3, 1);
+        // The small ones have no feature with an operator.
+        let joins = layout::hand_made().filter(|input| input.name.contains("join of complements"));
+        let inputs = small().chain(joins).chain(check::damages(3, 1));
         let mut other = Vec::new();
-        lookups.kind("test", small().chain(damages), |lookups, input, listing| {
+        lookups.kind("test", inputs, |lookups, input, listing| {
             lookups.indexes(input, listing, &mut other);
         });
         lookups.count.differ
@@ -617,7 +617,7 @@ mod tests {
                 Question::IndexCheck => judged(listing, index, question, room),
                 _ => judged(listing, None, question, room),
             },
-            // Says what isn't there, or what is skipped, before it looks at the index.
+            // Says what isn't there, or that room is short, before it looks at the index.
             |listing, index, question, room| match judged(listing, None, question, room).number {
                 30 => judged(listing, None, question, room),
                 _ => judged(listing, index, question, room),
@@ -626,7 +626,7 @@ mod tests {
                 let size = room.bytes().len();
                 let plain = judged(listing, None, question, &mut room.clone());
                 match (question, size, plain.number) {
-                    (Question::Spans(..), 0, 34) => plain,
+                    (Question::Feature(..), 0, 34) => plain,
                     _ => judged(listing, index, question, room),
                 }
             },
@@ -642,15 +642,7 @@ mod tests {
             |listing, index, question, room| {
                 let mut answer = judged(listing, index, question, room);
                 if let (Question::Feature(..), 50) = (question, answer.number) {
-                    answer.shown = judged(listing, None, question, room).shown;
-                }
-                answer
-            },
-            // Reads the key where the location is.
-            |listing, index, question, room| {
-                let mut answer = judged(listing, index, question, room);
-                if let Question::Feature(..) = question {
-                    answer.shown[..4].rotate_left(2);
+                    answer.shown = judged(listing, None, question, &mut room.clone()).shown;
                 }
                 answer
             },
@@ -675,6 +667,11 @@ mod tests {
                 judged(listing, Some(index), question, room)
             },
         ]);
+    }
+
+    #[test]
+    fn a_wrong_feature_is_found() {
+        all_are_found(&OF_A_FEATURE);
     }
 
     #[test]

@@ -23,18 +23,26 @@ pub enum Question {
     Sequence(u64),
     Feature(u64, u64),
     Qualifier(u64, u64, u64),
-    Spans(u64, u64),
     Translation(u64, u64),
     Translations(u64),
 }
 
 /// What a call returns, and the numbers it sets: the place, then the others in the order of the C interface.
-/// Those that a call doesn't have are 0.
 #[derive(Clone, Copy, Debug, PartialEq, Eq)]
 pub struct Answer {
     pub number: u32,
     pub place: u64,
-    pub shown: [u64; 5],
+    pub shown: Shown,
+}
+
+/// As many numbers as any call sets beside the place. Those that a call doesn't have are 0.
+pub type Shown = [u64; 6];
+
+/// The numbers that a call sets, with zeros behind them.
+pub fn shown<const COUNT: usize>(numbers: [u64; COUNT]) -> Shown {
+    let mut shown = Shown::default();
+    shown[..COUNT].copy_from_slice(&numbers);
+    shown
 }
 
 /// Lent output of one size, for spans and for letters. It lies inside more memory, which nobody may touch.
@@ -49,7 +57,7 @@ const MARGIN: usize = 8;
 
 impl Room {
     /// Filled so that no item is one of an answer, nor the same as its neighbours.
-    fn new(size: usize) -> Room {
+    pub fn new(size: usize) -> Room {
         let items = 0..size + 2 * MARGIN;
         Room {
             numbers: items.clone().map(|i| 0xdead_0000 + i as u32).collect(),
@@ -77,7 +85,6 @@ impl Question {
             Question::Sequence(..) => "sequence",
             Question::Feature(..) => "feature",
             Question::Qualifier(..) => "qualifier",
-            Question::Spans(..) => "spans",
             Question::Translation(..) => "translation",
             Question::Translations(..) => "translations",
         }
@@ -94,7 +101,7 @@ impl Question {
     /// How many items of lent output this answer has, if the call writes any.
     fn written(self, answer: &Answer) -> Option<usize> {
         match self {
-            Question::Spans(..) => Some(3 * answer.shown[1] as usize),
+            Question::Feature(..) => Some(3 * answer.shown[5] as usize),
             Question::Index | Question::Translation(..) | Question::Translations(..) => {
                 Some(answer.shown[0] as usize)
             }
@@ -114,43 +121,47 @@ pub fn judged(
         Some(index) if question.is_lookup() => listing.indexed(index),
         _ => Ok(listing),
     };
-    let size = |size| [size, 0, 0, 0, 0];
-    let shown = lent.and_then(|listing| match question {
+    let size = |size| shown([size]);
+    let answer = lent.and_then(|listing| match question {
         Question::Check => listing.check().map(|counts| {
-            [
+            shown([
                 counts.total,
                 counts.skipped,
                 counts.features,
                 counts.judged,
                 counts.unjudged,
-            ]
+            ])
         }),
         Question::Index => listing.index(room.bytes()).map(size),
         Question::IndexCheck => listing
             .index_check(index.unwrap_or_default())
-            .map(|()| [0; 5]),
+            .map(|()| shown([])),
         Question::Sequence(k) => listing.sequence(k).map(|answer| {
             let [start, size] = numbers(answer.residues);
-            [answer.kind as u64, start, size, 0, 0]
+            shown([answer.kind as u64, start, size])
         }),
-        Question::Feature(k, f) => listing.feature(k, f).map(|answer| {
+        Question::Feature(k, f) => listing.feature(k, f, room.numbers()).map(|answer| {
             let [key_start, key_size] = numbers(answer.key);
             let [location_start, location_size] = numbers(answer.location);
-            [key_start, key_size, location_start, location_size, 0]
+            shown([
+                key_start,
+                key_size,
+                location_start,
+                location_size,
+                answer.operator as u64,
+                answer.count,
+            ])
         }),
         Question::Qualifier(k, f, q) => listing.qualifier(k, f, q).map(|answer| {
             let [name_start, name_size] = numbers(answer.name);
             let [value_start, value_size] = numbers(answer.value);
             let present = u64::from(answer.has_value);
-            [name_start, name_size, present, value_start, value_size]
+            shown([name_start, name_size, present, value_start, value_size])
         }),
-        Question::Spans(k, f) => listing
-            .spans(k, f, room.numbers())
-            .map(|answer| [answer.operator as u64, answer.count, 0, 0, 0]),
         Question::Translation(k, f) => listing.translation(k, f, room.bytes()).map(size),
         Question::Translations(k) => listing.translations(k, room.bytes()).map(size),
     });
-    match shown {
+    match answer {
         Ok(shown) => Answer {
             number: 0,
             place: 0,
@@ -159,7 +170,7 @@ pub fn judged(
         Err(Refusal { rule, place }) => Answer {
             number: rule,
             place: place as u64,
-            shown: [0; 5],
+            shown: shown([]),
         },
     }
 }
@@ -185,12 +196,13 @@ fn asked_numbers(count: Option<u64>, all: bool) -> Vec<u64> {
 }
 
 /// How many items there are from number 1 on, if what they are part of is there.
-fn count_of<T, U>(
-    whole: Result<T, Refusal>,
-    item: impl Fn(u64) -> Result<U, Refusal>,
-) -> Option<u64> {
-    whole.ok()?;
-    Some((1..).take_while(|&number| item(number).is_ok()).count() as u64)
+fn count_of(has_whole: bool, has_item: impl Fn(u64) -> bool) -> Option<u64> {
+    has_whole.then(|| (1..).take_while(|&number| has_item(number)).count() as u64)
+}
+
+/// Whether there is such a feature: then a qualifier of number 0 is all that isn't there. This needs no room.
+fn has_feature(listing: &Listing, k: u64, f: u64) -> bool {
+    matches!(listing.qualifier(k, f, 0), Err(Refusal { rule: 33, .. }))
 }
 
 /// Every lookup in a listing: for each item of its tree, for number 0, one too many and huge. Of a long one, the last items.
@@ -199,14 +211,13 @@ fn lookups_of(listing: &Listing, all: bool) -> Vec<Question> {
     let total = listing.check().ok().map(|counts| counts.total);
     for k in asked_numbers(total, all) {
         questions.extend([Question::Sequence(k), Question::Translations(k)]);
-        let features = count_of(listing.sequence(k), |f| listing.feature(k, f));
+        let has_sequence = listing.sequence(k).is_ok();
+        let features = count_of(has_sequence, |f| has_feature(listing, k, f));
         for f in asked_numbers(features, all) {
-            questions.extend([
-                Question::Feature(k, f),
-                Question::Spans(k, f),
-                Question::Translation(k, f),
-            ]);
-            let qualifiers = count_of(listing.feature(k, f), |q| listing.qualifier(k, f, q));
+            questions.extend([Question::Feature(k, f), Question::Translation(k, f)]);
+            let qualifiers = count_of(has_feature(listing, k, f), |q| {
+                listing.qualifier(k, f, q).is_ok()
+            });
             let numbers = asked_numbers(qualifiers, all).into_iter();
             questions.extend(numbers.map(|q| Question::Qualifier(k, f, q)));
         }
@@ -267,12 +278,11 @@ fn by_the_check(number: u32) -> u32 {
 type Call = (bool, &'static str);
 
 /// The numbers that each call without an index may answer, as `by_the_check` has them.
-const ANSWERS: [(&str, &[u32]); 7] = [
+const ANSWERS: [(&str, &[u32]); 6] = [
     ("check", &[0, 1]),
     ("sequence", &[0, 1, 30, 31]),
-    ("feature", &[0, 1, 30, 31, 32]),
+    ("feature", &[0, 1, 30, 31, 32, 34]),
     ("qualifier", &[0, 1, 30, 31, 32, 33]),
-    ("spans", &[0, 1, 30, 31, 32, 34]),
     ("translation", &[0, 1, 30, 31, 32, 34, 35, 36, 37]),
     ("translations", &[0, 1, 30, 31, 34]),
 ];
@@ -472,6 +482,7 @@ impl<A: Fn(Lent, Question, &mut Room) -> Answer> Lookups<A> {
 #[cfg(test)]
 mod tests {
     use super::*;
+    use crate::faults::OF_A_FEATURE;
 
     /// A reader that errs: the referee's answer, changed by the questioned reader's error.
     type Error = fn(&Listing, Question, &mut Room) -> Answer;
@@ -482,7 +493,7 @@ mod tests {
     }
 
     /// How many answers of an erring reader differ, on some valid listings and some others.
-    fn differ(error: Error) -> usize {
+    fn differ(error: impl Fn(&Listing, Question, &mut Room) -> Answer) -> usize {
         let ask = |lent: Lent, question: Question, room: &mut Room| {
             error(&Listing::new(lent.listing), question, room)
         };
@@ -498,7 +509,7 @@ mod tests {
     #[test]
     fn an_item_that_is_not_the_one_asked_for_is_found() {
         assert_eq!(differ(judged), 0);
-        let wrong: [Error; 7] = [
+        let wrong: [Error; 5] = [
             |listing, question, room| match question {
                 Question::Sequence(k) if k > 1 => judged(listing, Question::Sequence(1), room),
                 _ => judged(listing, question, room),
@@ -514,10 +525,6 @@ mod tests {
                 _ => judged(listing, question, room),
             },
             |listing, question, room| match question {
-                Question::Spans(k, f) if f > 1 => judged(listing, Question::Spans(k, f - 1), room),
-                _ => judged(listing, question, room),
-            },
-            |listing, question, room| match question {
                 Question::Translation(k, 0) => judged(listing, Question::Translation(k, 1), room),
                 _ => judged(listing, question, room),
             },
@@ -529,18 +536,17 @@ mod tests {
                 }
                 _ => judged(listing, question, room),
             },
-            // The key for the location.
-            |listing, question, room| {
-                let mut answer = judged(listing, question, room);
-                if let Question::Feature(..) = question {
-                    answer.shown.swap(0, 2);
-                    answer.shown.swap(1, 3);
-                }
-                answer
-            },
         ];
         for (number, error) in wrong.into_iter().enumerate() {
             assert!(differ(error) > 0, "error {number}");
+        }
+    }
+
+    #[test]
+    fn a_wrong_feature_is_found() {
+        for (number, error) in OF_A_FEATURE.into_iter().enumerate() {
+            let found = differ(|listing, question, room| error(listing, None, question, room));
+            assert!(found > 0, "error {number}");
         }
     }
 
@@ -597,7 +603,7 @@ mod tests {
             },
             |listing, question, room| {
                 let answer = judged(listing, question, room);
-                if let (Question::Spans(..), 0) = (question, answer.number) {
+                if let (Question::Feature(..), 0) = (question, answer.number) {
                     if let Some(last) = room.numbers().last_mut() {
                         *last = 0;
                     }
@@ -625,7 +631,7 @@ mod tests {
             },
             |listing, question, room| {
                 let answer = judged(listing, question, room);
-                if answer.number == 34 {
+                if let (Question::Feature(..), 34) = (question, answer.number) {
                     if let Some(first) = room.numbers().first_mut() {
                         *first = 1;
                     }
@@ -642,7 +648,7 @@ mod tests {
     fn a_number_that_is_never_the_answer_fails() {
         let mut lookups = Lookups::new("test", plain_calls(), boundary::ask, None);
         lookups.kind("none", std::iter::empty(), Lookups::plain);
-        assert_eq!(lookups.unmet().len(), 37);
+        assert_eq!(lookups.unmet().len(), 32);
         assert!(!lookups.close());
     }
 

@@ -2,6 +2,8 @@
 
 mod boundary;
 mod check;
+#[cfg(test)]
+mod faults;
 mod heavy;
 mod index;
 mod large;

@@ -19,8 +19,7 @@ pub mod vocabulary;
 pub use coding::{codon_letter, translate, StopInside};
 pub use layout::layout;
 pub use listing::{
-    broken, verdict_lines, Counts, FeatureAnswer, Listing, QualifierAnswer, Refusal,
-    SequenceAnswer, SpansAnswer,
+    broken, verdict_lines, Counts, FeatureAnswer, Listing, QualifierAnswer, Refusal, SequenceAnswer,
 };
 pub use location::{location, Location, Operator, Span};
 pub use text::Part;

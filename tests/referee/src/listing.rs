@@ -64,11 +64,13 @@ pub struct SequenceAnswer {
     pub residues: Part,
 }
 
-/// The answer about a feature.
+/// The answer about a feature; its spans are written to lent numbers.
 #[derive(Clone, Copy, Debug, PartialEq, Eq)]
 pub struct FeatureAnswer {
     pub key: Part,
     pub location: Part,
+    pub operator: Operator,
+    pub count: u64,
 }
 
 /// The answer about a qualifier; the value's part is empty if absent.
@@ -77,13 +79,6 @@ pub struct QualifierAnswer {
     pub name: Part,
     pub has_value: bool,
     pub value: Part,
-}
-
-/// The answer about a feature's spans.
-#[derive(Clone, Copy, Debug, PartialEq, Eq)]
-pub struct SpansAnswer {
-    pub operator: Operator,
-    pub count: u64,
 }
 
 /// Every broken value rule in order, or the refusal by rule 1 or 2.
@@ -135,12 +130,21 @@ impl<'a> Listing<'a> {
         })
     }
 
-    /// The key and location of the k-th sequence's f-th feature.
-    pub fn feature(&self, k: u64, f: u64) -> Result<FeatureAnswer, Refusal> {
-        let feature = self.known(k)?.feature(f)?;
+    /// The k-th sequence's f-th feature, with its spans written as triples to the front of `out`.
+    pub fn feature(&self, k: u64, f: u64, out: &mut [u32]) -> Result<FeatureAnswer, Refusal> {
+        let known = self.known(k)?;
+        let feature = known.feature(f)?;
+        let location = known.location(feature);
+        let spans = location.spans.expect("rule 25 holds");
+        let room = out.get_mut(..3 * spans.len()).ok_or(NO_ROOM)?;
+        for (triple, span) in room.chunks_mut(3).zip(&spans) {
+            triple.copy_from_slice(&[span.first, span.last, span.marks]);
+        }
         Ok(FeatureAnswer {
             key: feature.key.part,
             location: feature.location.part,
+            operator: location.operator,
+            count: spans.len() as u64,
         })
     }
 
@@ -152,21 +156,6 @@ impl<'a> Listing<'a> {
             name: qualifier.name.part,
             has_value: qualifier.value.is_some(),
             value: qualifier.value.unwrap_or_default().part,
-        })
-    }
-
-    /// That feature's spans, written as triples to the front of `out`.
-    pub fn spans(&self, k: u64, f: u64, out: &mut [u32]) -> Result<SpansAnswer, Refusal> {
-        let known = self.known(k)?;
-        let location = known.location(known.feature(f)?);
-        let spans = location.spans.expect("rule 25 holds");
-        let room = out.get_mut(..3 * spans.len()).ok_or(NO_ROOM)?;
-        for (triple, span) in room.chunks_mut(3).zip(&spans) {
-            triple.copy_from_slice(&[span.first, span.last, span.marks]);
-        }
-        Ok(SpansAnswer {
-            operator: location.operator,
-            count: spans.len() as u64,
         })
     }
 

@@ -4,11 +4,14 @@ use borrow.Author.Needs.{needs}
 use Rattle.ask_answers.proofs.hand_feature.Statement.{statement}
 use Rattle.ask_answers.proofs.hand_feature.Tie as tie
 
+operator-byte-requires : tie.Need-operator-byte-requires
+operator-byte-requires c κs = search needs
+
 narrow-requires : tie.Need-narrow-requires
 narrow-requires c κs = search needs
 
 returns : tie.Need-returns
-returns c = handed.feature (c .narrow .ensures)
+returns c = handed.feature (c .narrow .ensures) (c .before .operator-byte .ensures)
 
 pub hand-feature-spec : {M : Type 1} → statement M
-hand-feature-spec = tie.close (tie.spec narrow-requires returns)
+hand-feature-spec = tie.close (tie.spec operator-byte-requires narrow-requires returns)

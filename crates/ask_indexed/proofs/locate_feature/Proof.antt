@@ -16,25 +16,30 @@ enum-known-rule c = search needs
 no-feature-requires : tie.Need-no-feature-requires
 no-feature-requires c κs = search needs
 
-enum-known-entry : tie.Need-enum-known-entry
-enum-known-entry c = search needs
+enum-known-body : tie.Need-enum-known-body
+enum-known-body c = search needs
 
 feature-answer-requires : tie.Need-feature-answer-requires
 feature-answer-requires c κs = search needs
 
 returns : tie.Need-returns
 returns c =
-    let args = c .before .before .before .before .before .before .before .args in
+    let args = c .before .before .before .before .before .before .before .before .args in
     feature-refused
     (subst (EntryAsked (now (args .listing)) (now (args .index)) (args .k) (args .j)) (c .before .before .rule .given .1) (c .before .before .before .before .find-entry .ensures))
     (c .no-feature .ensures)
 
+same-length : tie.Need-same-length
+same-length c = search needs
+
 returns-2 : tie.Need-returns-2
 returns-2 c =
-    let args = c .before .before .before .before .before .before .before .args in
+    let args = c .before .before .before .before .before .before .before .before .before .before .before .args in
+    let find-entry = c .before .before .before .before .before .before .before .find-entry in
+    let body = c .before .before .before .before .before .body in
     feature-answered
-    (subst (EntryAsked (now (args .listing)) (now (args .index)) (args .k) (args .j)) (c .before .before .entry .given .1) (c .before .before .before .before .find-entry .ensures))
-    (c .feature-answer .ensures)
+    (subst (EntryAsked (now (args .listing)) (now (args .index)) (args .k) (args .j)) (body .given .1) (find-entry .ensures))
+    (c .before .before .feature-answer .ensures)
 
 pub locate-feature-spec : {M : Type 1} → statement M
 locate-feature-spec =
@@ -43,7 +48,8 @@ locate-feature-spec =
     find-entry-requires
     enum-known-rule
     no-feature-requires
-    enum-known-entry
+    enum-known-body
     feature-answer-requires
     returns
+    same-length
     returns-2)

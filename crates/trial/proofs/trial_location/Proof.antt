@@ -1,8 +1,6 @@
 -- `trial::trial_location` meets its contract: the answer of `judge_location`, in numbers.
-use mathlib.Core.Path.{subst}
-use Rattle.read_steps.proofs.Parts.{shows-whole}
-use Rattle.location_judge.specs.Judging.{Judges}
 use Rattle.trial.specs.Numbers.{LocationNumbers}
+use Rattle.trial.proofs.Located.{judged}
 use borrow.Author.Needs.{needs}
 use Rattle.trial.proofs.trial_location.Statement.{statement}
 use Rattle.trial.proofs.trial_location.Tie as tie
@@ -26,13 +24,13 @@ flag-requires-3 : tie.Need-flag-requires-3
 flag-requires-3 c κs = search needs
 
 returns : tie.Need-returns
-returns c = LocationNumbers.bad (subst (Judges _ _) (c .enum-told .given .1) (c .before .before .judge-location .ensures .is _ (shows-whole _)))
+returns c = LocationNumbers.bad (judged (c .before .before .judge-location .ensures) (c .enum-told .given .1))
 
 returns-2 : tie.Need-returns-2
 returns-2 c =
     let judge-location = c .before .before .before .before .before .before .judge-location in
     LocationNumbers.is _
-    (subst (Judges _ _) (c .before .before .before .before .f .given .1) (judge-location .ensures .is _ (shows-whole _)))
+    (judged (judge-location .ensures) (c .before .before .before .before .f .given .1))
     (c .before .before .flag .ensures) (c .before .flag2 .ensures) (c .flag3 .ensures)
 
 pub trial-location-spec : {M : Type 1} → statement M

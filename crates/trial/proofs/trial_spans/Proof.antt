@@ -1,97 +1,69 @@
--- `trial::trial_spans` meets its contract: the answer of `spans`, in numbers.
-use mathlib.Core.Path.{sym, ap}
-use Rattle.read_steps.proofs.Parts.{shows-whole}
-use Rattle.trial.specs.Numbers.{numberOf, operatorOf, countOf}
+-- `trial::trial_spans` meets its contract: the verdict, or the answer of `spans`, in numbers.
+use Rattle.trial.specs.Numbers.{SpansNumbers}
+use Rattle.trial.proofs.Located.{judged, spans-wrong, spans-short, spans-are}
 use borrow.Author.Needs.{needs}
 use Rattle.trial.proofs.trial_spans.Statement.{statement}
 use Rattle.trial.proofs.trial_spans.Tie as tie
 
-spans-requires : tie.Need-spans-requires
-spans-requires c κs = search needs
+judge-location-requires : tie.Need-judge-location-requires
+judge-location-requires c κs = search needs
 
 enum-told : tie.Need-enum-told
 enum-told c = search needs
 
+enum-known-f : tie.Need-enum-known-f
+enum-known-f c = search needs
+
+returns : tie.Need-returns
+returns c = spans-wrong (judged (c .before .before .before .before .judge-location .ensures) (c .before .before .f .given .1)) (c .if1 .taken)
+
+spans-requires : tie.Need-spans-requires
+spans-requires c κs = search needs
+
 enum-told-2 : tie.Need-enum-told-2
 enum-told-2 c = search needs
-
-enum-told-3 : tie.Need-enum-told-3
-enum-told-3 c = search needs
 
 enum-known-o : tie.Need-enum-known-o
 enum-known-o c = search needs
 
+returns-2 : tie.Need-returns-2
+returns-2 c = SpansNumbers.bad (judged (c .before .before .judge-location .ensures) (c .enum-told .given .1))
+
 same-length : tie.Need-same-length
 same-length c = search needs
 
-returns : tie.Need-returns
-returns c =
-    let e = c .enum-told .given .1 in
-    record {
-      says = c .before .before .before .before .spans .result;
-      answers = c .before .before .before .before .spans .ensures .is _ (shows-whole _);
-      number-is = sym (ap numberOf e);
-      operator-is = sym (ap operatorOf e);
-      count-is = sym (ap countOf e);
-    }
+returns-3 : tie.Need-returns-3
+returns-3 c =
+    let judge-location = c .before .before .before .before .before .before .before .before .before .before .judge-location in
+    let f = c .before .before .before .before .before .before .before .before .f in
+    let if1 = c .before .before .before .before .before .before .if1 in
+    spans-short (judged (judge-location .ensures) (f .given .1)) (if1 .left)
+    (c .before .before .before .before .spans .ensures) (c .enum-told2 .given .1)
 
 same-length-2 : tie.Need-same-length-2
 same-length-2 c = search needs
 
-returns-2 : tie.Need-returns-2
-returns-2 c =
-    let e = c .enum-told2 .given .1 in
-    record {
-      says = c .before .before .before .before .spans .result;
-      answers = c .before .before .before .before .spans .ensures .is _ (shows-whole _);
-      number-is = sym (ap numberOf e);
-      operator-is = sym (ap operatorOf e);
-      count-is = sym (ap countOf e);
-    }
-
-same-length-3 : tie.Need-same-length-3
-same-length-3 c = search needs
-
-returns-3 : tie.Need-returns-3
-returns-3 c =
-    let e = c .enum-told3 .given .1 in
-    record {
-      says = c .before .before .before .before .spans .result;
-      answers = c .before .before .before .before .spans .ensures .is _ (shows-whole _);
-      number-is = sym (ap numberOf e);
-      operator-is = sym (ap operatorOf e);
-      count-is = sym (ap countOf e);
-    }
-
-same-length-4 : tie.Need-same-length-4
-same-length-4 c = search needs
-
 returns-4 : tie.Need-returns-4
 returns-4 c =
+    let judge-location = c .before .before .before .before .before .before .before .before .before .before .before .judge-location in
+    let f = c .before .before .before .before .before .before .before .before .before .f in
+    let if1 = c .before .before .before .before .before .before .before .if1 in
     let spans = c .before .before .before .before .before .spans in
-    let e = c .before .o .given .1 in
-    record {
-      says = spans .result;
-      answers = spans .ensures .is _ (shows-whole _);
-      number-is = sym (ap numberOf e);
-      operator-is = sym (ap operatorOf e);
-      count-is = sym (ap countOf e);
-    }
+    spans-are (judged (judge-location .ensures) (f .given .1)) (if1 .left) (spans .ensures) (c .before .o .given .1)
 
 pub trial-spans-spec : {M : Type 1} → statement M
 trial-spans-spec =
     tie.close
     (tie.spec
-    spans-requires
+    judge-location-requires
     enum-told
-    enum-told-2
-    enum-told-3
-    enum-known-o
-    same-length
+    enum-known-f
     returns
-    same-length-2
+    spans-requires
+    enum-told-2
+    enum-known-o
     returns-2
-    same-length-3
+    same-length
     returns-3
-    same-length-4
+    same-length-2
     returns-4)

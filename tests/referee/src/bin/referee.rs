@@ -9,9 +9,8 @@ use std::process::ExitCode;
 const USAGE: &str = "\
 referee check FILE
 referee sequence FILE K
-referee feature FILE K F
+referee feature FILE K F [ROOM]
 referee qualifier FILE K F Q
-referee spans FILE K F [ROOM]
 referee translation FILE K F [ROOM]
 referee translations FILE K [ROOM]
 referee index FILE [ROOM]
@@ -69,11 +68,10 @@ fn ask(question: &str, file: &str, words: &[&str]) -> Result<(), String> {
 fn lookup(listing: &Listing, question: &str, numbers: &[u64]) -> Result<Answer, String> {
     Ok(match (question, numbers) {
         ("sequence", &[k]) => sequence(listing, k),
-        ("feature", &[k, f]) => feature(listing, k, f),
-        ("qualifier", &[k, f, q]) => qualifier(listing, k, f, q),
-        ("spans", &[k, f, ref room @ ..]) if room.len() < 2 => {
-            with_room(room, |room| spans(listing, k, f, room))
+        ("feature", &[k, f, ref room @ ..]) if room.len() < 2 => {
+            with_room(room, |room| feature(listing, k, f, room))
         }
+        ("qualifier", &[k, f, q]) => qualifier(listing, k, f, q),
         ("translation", &[k, f, ref room @ ..]) if room.len() < 2 => with_room(room, |room| {
             letters(room, |out| listing.translation(k, f, out))
         }),
@@ -109,10 +107,16 @@ fn sequence(listing: &Listing, k: u64) -> Answer {
     Ok(format!("kind {kind}\nresidues {}\n", shown(answer.residues)).into_bytes())
 }
 
-fn feature(listing: &Listing, k: u64, f: u64) -> Answer {
-    let answer = listing.feature(k, f)?;
+fn feature(listing: &Listing, k: u64, f: u64, room: usize) -> Answer {
+    let mut out = vec![0; room];
+    let answer = listing.feature(k, f, &mut out)?;
     let (key, location) = (shown(answer.key), shown(answer.location));
-    Ok(format!("key {key}\nlocation {location}\n").into_bytes())
+    let (operator, count) = (answer.operator as u8, answer.count);
+    let mut lines = format!("key {key}\nlocation {location}\noperator {operator}\ncount {count}\n");
+    for span in out.chunks(3).take(count as usize) {
+        lines += &format!("span {} {} {}\n", span[0], span[1], span[2]);
+    }
+    Ok(lines.into_bytes())
 }
 
 fn qualifier(listing: &Listing, k: u64, f: u64, q: u64) -> Answer {
@@ -125,17 +129,6 @@ fn qualifier(listing: &Listing, k: u64, f: u64, q: u64) -> Answer {
 /// A part as its start and size.
 fn shown(part: Part) -> String {
     format!("{} {}", part.start, part.size)
-}
-
-fn spans(listing: &Listing, k: u64, f: u64, room: usize) -> Answer {
-    let mut out = vec![0; room];
-    let answer = listing.spans(k, f, &mut out)?;
-    let operator = answer.operator as u8;
-    let mut lines = format!("operator {operator}\ncount {}\n", answer.count);
-    for span in out.chunks(3).take(answer.count as usize) {
-        lines += &format!("span {} {} {}\n", span[0], span[1], span[2]);
-    }
-    Ok(lines.into_bytes())
 }
 
 /// The length, then the bytes themselves on a line of their own.

@@ -20,17 +20,18 @@ returns c =
     start-turned (c .before .before .before .before .complement-at .ensures) (c .before .before .before .if1 .taken)
     (lists-are (c .before .before .list-at .ensures) (c .enum-told .given .1))
 
-enum-known-from : tie.Need-enum-known-from
-enum-known-from c = search needs
+enum-known-operator : tie.Need-enum-known-operator
+enum-known-operator c = search needs
 
 sub-end : tie.Need-sub-end
-sub-end c = let h = lists-are (c .before .before .before .list-at .ensures) (c .before .from .given .1) .within in omega (arith, h .0, h .1 .inside)
+sub-end c =
+    let h = lists-are (c .before .before .before .list-at .ensures) (c .before .operator .given .1) .within in omega (arith, h .0, h .1 .inside)
 
 returns-2 : tie.Need-returns-2
 returns-2 c =
     let complement-at = c .before .before .before .before .before .complement-at in
     start-back (complement-at .ensures) (c .before .before .before .before .if1 .taken)
-    (lists-are (c .before .before .before .list-at .ensures) (c .before .from .given .1))
+    (lists-are (c .before .before .before .list-at .ensures) (c .before .operator .given .1))
 
 list-at-requires-2 : tie.Need-list-at-requires-2
 list-at-requires-2 c κs = search needs
@@ -43,14 +44,14 @@ returns-3 c =
     start-plain (c .before .before .before .before .complement-at .ensures) (c .before .before .before .if1 .left)
     (lists-are (c .before .before .list-at2 .ensures) (c .enum-told2 .given .1))
 
-enum-known-from-2 : tie.Need-enum-known-from-2
-enum-known-from-2 c = search needs
+enum-known-operator-2 : tie.Need-enum-known-operator-2
+enum-known-operator-2 c = search needs
 
 returns-4 : tie.Need-returns-4
 returns-4 c =
     let complement-at = c .before .before .before .before .before .complement-at in
     start-list (complement-at .ensures) (c .before .before .before .before .if1 .left)
-    (lists-are (c .before .before .before .list-at2 .ensures) (c .before .from2 .given .1))
+    (lists-are (c .before .before .before .list-at2 .ensures) (c .before .operator2 .given .1))
 
 pub start-spec : {M : Type 1} → statement M
 start-spec =
@@ -60,11 +61,11 @@ start-spec =
     list-at-requires
     enum-told
     returns
-    enum-known-from
+    enum-known-operator
     sub-end
     returns-2
     list-at-requires-2
     enum-told-2
     returns-3
-    enum-known-from-2
+    enum-known-operator-2
     returns-4)

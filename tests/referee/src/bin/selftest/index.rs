@@ -1,6 +1,6 @@
 //! The index of document 02's request 5: by hand, and against what the generator knows.
 
-use crate::lookups::{all_refused, lent, refusal, BYTE};
+use crate::lookups::{all_refused, lent, refusal, refusals_in_order, BYTE};
 use crate::report::Report;
 use referee::generate::model::Field;
 use referee::generate::{Model, Written};
@@ -49,6 +49,14 @@ fn index_refused(report: &mut Report, bytes: &[u8], wanted: Refusal) {
     report.equal(listing.index_check(b""), Err(wanted), || "no index".into());
     let indexed = listing.indexed(b"").err();
     report.equal(indexed, Some(wanted), || "lookups".into());
+    indexed_refusals(report, &listing, b"", Some(wanted));
+}
+
+/// The refusals of a feature with this index, which come after those of the check and the index.
+fn indexed_refusals(report: &mut Report, listing: &Listing, index: &[u8], before: Option<Refusal>) {
+    refusals_in_order(report, before, |k, f, out| {
+        listing.indexed(index)?.feature(k, f, out)
+    });
 }
 
 /// Listings with every number counted by hand.
@@ -104,9 +112,11 @@ pub fn by_hand(report: &mut Report) {
         place: 181,
     };
     index_refused(report, &damaged, wanted);
-    // The index comes before the number.
+    // The index comes before the number, and before the room.
     let lookup = small.indexed(b"").and_then(|small| small.sequence(0));
     report.equal(lookup, Err(other_index(0)), || "number 0".into());
+    indexed_refusals(report, &small, b"", Some(other_index(0)));
+    indexed_refusals(report, &small, &index, None);
     if let Ok(small) = small.indexed(&index) {
         all_refused(report, small, [0, 0, 0], refusal(30));
         all_refused(report, small, [2, 1, 1], refusal(31));

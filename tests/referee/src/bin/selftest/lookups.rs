@@ -7,7 +7,6 @@ use referee::hand::base::{edited, BASE};
 use referee::hand::values::{GENE, SAMPLES};
 use referee::{
     FeatureAnswer, Kind, Listing, Operator, Part, QualifierAnswer, Refusal, SequenceAnswer,
-    SpansAnswer,
 };
 use std::fmt::Debug;
 
@@ -51,21 +50,52 @@ pub const BYTE: u8 = 0xee;
 /// Lent numbers that are no positions.
 const NUMBER: u32 = 0xdead_beef;
 
-fn spans_hold(
+/// A feature of these parts, with its operator and the numbers of its spans.
+fn feature(
+    [key, location]: [Part; 2],
+    operator: Operator,
+    numbers: &[u32],
+) -> (FeatureAnswer, &[u32]) {
+    let answer = FeatureAnswer {
+        key,
+        location,
+        operator,
+        count: numbers.len() as u64 / 3,
+    };
+    (answer, numbers)
+}
+
+fn feature_holds(
     report: &mut Report,
     listing: &Listing,
     (k, f): (u64, u64),
-    wanted: Result<(Operator, &[u32]), Refusal>,
+    wanted: Result<(FeatureAnswer, &[u32]), Refusal>,
 ) {
     let numbers = wanted.map_or(&[][..], |(_, numbers)| numbers);
-    let answer = wanted.map(|(operator, numbers)| SpansAnswer {
-        operator,
-        count: numbers.len() as u64 / 3,
-    });
-    let name = format!("spans {k} {f}");
+    let answer = wanted.map(|(answer, _)| answer);
+    let name = format!("feature {k} {f}");
     lent(report, &name, (NUMBER, numbers), answer, |out| {
-        listing.spans(k, f, out)
+        listing.feature(k, f, out)
     });
+}
+
+/// Of all that is wrong with a question for a feature, the first in document 01's order refuses it, and nothing is written.
+/// The listing's second sequence is skipped. What refuses before the question is looked at comes first.
+pub fn refusals_in_order(
+    report: &mut Report,
+    before: Option<Refusal>,
+    ask: impl Fn(u64, u64, &mut [u32]) -> Result<FeatureAnswer, Refusal>,
+) {
+    for (k, f, rule) in [(0, 0, 30), (2, 0, 31), (1, 0, 32), (1, 1, 34)] {
+        for room in 0..3 {
+            let mut out = [NUMBER; 2];
+            let wanted = Err(before.unwrap_or(refusal(rule)));
+            report.equal(ask(k, f, &mut out[..room]), wanted, || {
+                format!("{rule} of feature {k} {f}, room {room}")
+            });
+            report.equal(out, [NUMBER; 2], || format!("lent output with {rule}"));
+        }
+    }
 }
 
 fn translation_holds(
@@ -100,12 +130,9 @@ fn translations_hold(
 pub fn all_refused(report: &mut Report, listing: &Listing, numbers: [u64; 3], wanted: Refusal) {
     let [k, f, q] = numbers;
     report.equal(listing.sequence(k), Err(wanted), || format!("sequence {k}"));
-    report.equal(listing.feature(k, f), Err(wanted), || {
-        format!("feature {k} {f}")
-    });
+    feature_holds(report, listing, (k, f), Err(wanted));
     let qualifier = listing.qualifier(k, f, q);
     report.equal(qualifier, Err(wanted), || format!("qualifier {k} {f} {q}"));
-    spans_hold(report, listing, (k, f), Err(wanted));
     translation_holds(report, listing, (k, f), Err(wanted));
     translations_hold(report, listing, k, Err(wanted));
 }
@@ -123,14 +150,14 @@ pub fn by_hand(report: &mut Report) {
     };
     report.equal(listing.sequence(1), Ok(dna), || "first sequence".into());
     report.equal(listing.sequence(3), Ok(aa), || "third sequence".into());
-    for ((k, f), key, location) in [
-        ((1, 1), part(1363, 6), part(1409, 5)),
-        ((1, 2), part(1791, 3), part(1834, 17)),
-        ((3, 1), part(2694, 6), part(2740, 4)),
-        ((3, 2), part(3080, 4), part(3124, 8)),
+    for (numbers, parts, span) in [
+        ((1, 1), [part(1363, 6), part(1409, 5)], [1, 12, 0]),
+        ((1, 2), [part(1791, 3), part(1834, 17)], [1, 12, 1]),
+        ((3, 1), [part(2694, 6), part(2740, 4)], [1, 5, 0]),
+        ((3, 2), [part(3080, 4), part(3124, 8)], [2, 3, 2]),
     ] {
-        let wanted = Ok(FeatureAnswer { key, location });
-        report.equal(listing.feature(k, f), wanted, || format!("feature {k} {f}"));
+        let wanted = feature(parts, Operator::None, &span);
+        feature_holds(report, &listing, numbers, Ok(wanted));
     }
     for ((k, f, q), name, value) in [
         ((1, 1, 1), part(1493, 8), Some(part(1543, 9))),
@@ -147,14 +174,12 @@ pub fn by_hand(report: &mut Report) {
             format!("qualifier {k} {f} {q}")
         });
     }
-    spans_hold(report, &listing, (1, 2), Ok((Operator::None, &[1, 12, 1])));
-    spans_hold(report, &listing, (3, 2), Ok((Operator::None, &[2, 3, 2])));
     translation_holds(report, &listing, (1, 2), Ok(b"MKC"));
     translations_hold(report, &listing, 1, Ok(b"MKC\n"));
     translations_hold(report, &listing, 3, Ok(b""));
     refusals_by_hand(report, &listing);
     samples(report);
-    spans_of_locations(report);
+    locations(report);
 }
 
 fn refusals_by_hand(report: &mut Report, listing: &Listing) {
@@ -166,11 +191,10 @@ fn refusals_by_hand(report: &mut Report, listing: &Listing) {
         all_refused(report, listing, [2, f, f], refusal(31));
     }
     for f in [0, 3, 1 << 32, u64::MAX] {
-        report.equal(listing.feature(1, f), Err(refusal(32)), || "feature".into());
+        feature_holds(report, listing, (1, f), Err(refusal(32)));
         report.equal(listing.qualifier(1, f, 0), Err(refusal(32)), || {
             "qualifier".into()
         });
-        spans_hold(report, listing, (1, f), Err(refusal(32)));
         translation_holds(report, listing, (1, f), Err(refusal(32)));
         translation_holds(report, listing, (3, f), Err(refusal(32)));
     }
@@ -182,6 +206,7 @@ fn refusals_by_hand(report: &mut Report, listing: &Listing) {
     for (k, f) in [(1, 1), (3, 1), (3, 2)] {
         translation_holds(report, listing, (k, f), Err(refusal(35)));
     }
+    refusals_in_order(report, None, |k, f, out| listing.feature(k, f, out));
     let refused = Listing::new(b"");
     all_refused(report, &refused, [1, 1, 1], Refusal { rule: 2, place: 0 });
     let damaged = edited(&[("\"1_2\"", "\"\"")]);
@@ -216,8 +241,8 @@ fn samples(report: &mut Report) {
     }
 }
 
-/// Spans of the second feature for locations of every form.
-fn spans_of_locations(report: &mut Report) {
+/// The second feature, with locations of every form.
+fn locations(report: &mut Report) {
     use Operator::{Join, None, Order};
     let cases: [(&'static str, Operator, &[u32]); 20] = [
         ("7", None, &[7, 7, 0]),
@@ -252,7 +277,9 @@ fn spans_of_locations(report: &mut Report) {
     for (location, operator, numbers) in cases {
         let text = edited(&[GENE, ("complement(1..12)", location)]);
         let listing = Listing::new(&text);
-        spans_hold(report, &listing, (1, 2), Ok((operator, numbers)));
+        let parts = [part(1791, 4), part(1835, location.len())];
+        let wanted = feature(parts, operator, numbers);
+        feature_holds(report, &listing, (1, 2), Ok(wanted));
         translation_holds(report, &listing, (1, 2), Err(refusal(35)));
     }
     let text = edited(&[("complement(1..12)", "&lt;1")]);
@@ -298,16 +325,15 @@ fn sequence_holds(
     report.check(holds, || format!("sequence {k}"));
     let beyond = sequence.features().len() as u64 + 1;
     for f in [0, beyond, u64::MAX] {
-        report.equal(listing.feature(k, f), Err(refusal(32)), || "feature".into());
+        feature_holds(report, listing, (k, f), Err(refusal(32)));
         report.equal(listing.qualifier(k, f, 1), Err(refusal(32)), || {
             "qualifier".into()
         });
-        spans_hold(report, listing, (k, f), Err(refusal(32)));
         translation_holds(report, listing, (k, f), Err(refusal(32)));
     }
     let mut lines = Vec::new();
     for (f, feature) in (1..).zip(sequence.features()) {
-        feature_holds(report, listing, written, (k, f), feature);
+        modelled_feature_holds(report, listing, written, (k, f), feature);
         match &feature.coding {
             Coding::NotCds => (),
             Coding::Unjudged | Coding::StopInside => lines.push("-\n".to_string()),
@@ -317,25 +343,24 @@ fn sequence_holds(
     translations_hold(report, listing, k, Ok(lines.concat().as_bytes()));
 }
 
-fn feature_holds(
+/// The feature, its qualifiers and its translation.
+fn modelled_feature_holds(
     report: &mut Report,
     listing: &Listing,
     written: &Written,
     (k, f): (u64, u64),
-    feature: &Feature,
+    modelled: &Feature,
 ) {
     let (index, feature_index) = (k as usize - 1, f as usize - 1);
-    let holds = listing.feature(k, f).map_or(false, |answer| {
-        is_part(written, answer.key, Field::Key(index, feature_index))
-            && is_part(
-                written,
-                answer.location,
-                Field::Location(index, feature_index),
-            )
-    });
-    report.check(holds, || format!("feature {k} {f}"));
+    let fields = [Field::Key, Field::Location].map(|field| field(index, feature_index));
+    let parts = fields.map(|field| written.spots[&field].part);
+    let location = &modelled.location;
+    let triples = location.spans.iter().map(|s| [s.first, s.last, s.marks]);
+    let numbers: Vec<u32> = triples.flatten().collect();
+    let wanted = feature(parts, location.operator, &numbers);
+    feature_holds(report, listing, (k, f), Ok(wanted));
 
-    for (q, qualifier) in feature.qualifiers().iter().enumerate() {
+    for (q, qualifier) in modelled.qualifiers().iter().enumerate() {
         let name = Field::QualifierName(index, feature_index, q);
         let value = Field::QualifierValue(index, feature_index, q);
         let holds = listing
@@ -350,18 +375,14 @@ fn feature_holds(
             });
         report.check(holds, || format!("qualifier {k} {f} {q}"));
     }
-    let beyond = feature.qualifiers().len() as u64 + 1;
+    let beyond = modelled.qualifiers().len() as u64 + 1;
     for q in [0, beyond, u64::MAX] {
         report.equal(listing.qualifier(k, f, q), Err(refusal(33)), || {
             "qualifier".into()
         });
     }
 
-    let location = &feature.location;
-    let triples = location.spans.iter().map(|s| [s.first, s.last, s.marks]);
-    let numbers: Vec<u32> = triples.flatten().collect();
-    spans_hold(report, listing, (k, f), Ok((location.operator, &numbers)));
-    let translation = match &feature.coding {
+    let translation = match &modelled.coding {
         Coding::NotCds => Err(refusal(35)),
         Coding::Unjudged => Err(refusal(36)),
         Coding::StopInside => Err(refusal(37)),

@@ -72,11 +72,11 @@ fn timed(report: &mut Report, case: &Case) -> f64 {
     seconds
 }
 
-/// The spans and the translation of 700,000 members.
+/// The feature and the translation of 700,000 members.
 fn long_answers(report: &mut Report, case: &Case) {
     let listing = Listing::new(&case.bytes);
     let mut spans = vec![9; 2_100_001];
-    let count = listing.spans(1, 2, &mut spans).map(|answer| answer.count);
+    let count = listing.feature(1, 2, &mut spans).map(|answer| answer.count);
     report.equal(count, Ok(700_000), || "count of long spans".into());
     let all = [4, 6, 1, 1, 3, 1].repeat(350_000);
     let holds = spans[..2_100_000] == all && spans[2_100_000] == 9;
