@@ -18,7 +18,7 @@ fn word(n: usize) -> u32
     (n % 4_294_967_296) as u32
 }
 
-pub fn part_size(part: Range) -> u32
+fn part_size(part: Range) -> u32
     ensures { λ r. ⌜ SizeOfPart part r ⌝ }
 {
     if part.to < part.from {

@@ -10,9 +10,9 @@ use Rattle.paper.specs.Lists.{_∈_, gather, present}
 use Rattle.paper.specs.Tree.{Text, Qualifier, Feature, Sequence, featuresOf, qualifiersOf, qualifierTexts, featureTexts}
 use Rattle.paper.specs.Answers.{give, FindsSequence, FindsFeature, FindsQualifier, FindsLocation, FindsTranslation, FindsTranslations, Part, FeatureShown, noPart, partOf, valuePart, SequenceSays, FeatureSays, QualifierSays, TranslationSays, TranslationsSays, NoSequence, NoFeature, NoQualifier, NothingWritten}
 use Rattle.paper.specs.Index.{FindsIndex, IndexCheckSays, WithIndex}
-use Rattle.paper.specs.Demands.{AnswerOrRefusal, InListing, Demand1, Demand2}
+use Rattle.paper.specs.Demands.{AnswerOrRefusal, InListing, StatedStretch, Demand1, Demand2, OfOneFeature, Request6}
 use Rattle.paper.proofs.Lists.{in-second, in-gather, number-in}
-use Rattle.paper.proofs.Refusals.{checked, own, sequence-refused, feature-refused, qualifier-refused, location-refused, translation-refused, translations-refused, index-refused, index-check-refused, lent-ends}
+use Rattle.paper.proofs.Refusals.{checked, own, sequence-refused, feature-refused, qualifier-refused, location-refused, translation-refused, translations-refused, index-refused, index-check-refused, lent-ends, refusal-some}
 use Rattle.paper.proofs.Inside.{laid-out, accepted-inside}
 use Rattle.paper.proofs.Shown.{parts-shown, residues-stated, feature-stated}
 
@@ -70,13 +70,13 @@ module _ {w : List ℕ} where
   found-inside {k} {s} (FindsSequence.sequence {l = l} c i u) = residues-stated (laid-out c) s (number-in (l .sequences) k s i) .inside
 
   -- a text of a feature
-  text-inside : {k j : ℕ} {s : Sequence ℕ} {f : Feature ℕ} → FindsFeature w k j (give (s, f)) → (t : Text ℕ) → t ∈ featureTexts f → InListing w (partOf t)
-  text-inside {k} {j} {s} {f} (FindsFeature.feature (FindsSequence.sequence {l = l} c i u) n) t m =
-      feature-stated (laid-out c) s (number-in (l .sequences) k s i) f (number-in (featuresOf s) j f n) t m .inside
+  text-stated : {k j : ℕ} {s : Sequence ℕ} {f : Feature ℕ} → FindsFeature w k j (give (s, f)) → (t : Text ℕ) → t ∈ featureTexts f → StatedStretch w t
+  text-stated {k} {j} {s} {f} (FindsFeature.feature (FindsSequence.sequence {l = l} c i u) n) =
+      feature-stated (laid-out c) s (number-in (l .sequences) k s i) f (number-in (featuresOf s) j f n)
 
   qualifier-inside : {k j i : ℕ} {q : Qualifier ℕ} → FindsQualifier w k j i (give q) → (t : Text ℕ) → t ∈ qualifierTexts q → InListing w (partOf t)
   qualifier-inside {i = i} {q} (FindsQualifier.qualifier {f = f} c n) t m =
-      text-inside c t (in-second (f .key ∷ f .location ∷ []) (gather qualifierTexts (qualifiersOf f)) t (in-gather qualifierTexts (qualifiersOf f) q (number-in (qualifiersOf f) i q n) t m))
+      text-stated c t (in-second (f .key ∷ f .location ∷ []) (gather qualifierTexts (qualifiersOf f)) t (in-gather qualifierTexts (qualifiersOf f) q (number-in (qualifiersOf f) i q n) t m)) .inside
 
   sequence-part : {k n p kind : ℕ} {x : Part} → SequenceSays w k n p kind x → InListing w x
   sequence-part (SequenceSays.refused c) = omega arith
@@ -85,7 +85,7 @@ module _ {w : List ℕ} where
   feature-parts : {k j n p : ℕ} {x : FeatureShown} {out after : List ℕ} → FeatureSays w k j out n p x after → InListing w (x .key) × InListing w (x .location)
   feature-parts (FeatureSays.refused c) = (omega arith, omega arith)
   feature-parts (FeatureSays.short c l) = (omega arith, omega arith)
-  feature-parts (FeatureSays.found {f = f} (FindsLocation.location c h) l) = (text-inside c (f .key) (0, refl), text-inside c (f .location) (1, refl))
+  feature-parts (FeatureSays.found {f = f} (FindsLocation.location c h) l) = (text-stated c (f .key) (0, refl) .inside, text-stated c (f .location) (1, refl) .inside)
 
   qualifier-parts : {k j i n p : ℕ} {x y : Part} {b : Bool} → QualifierSays w k j i n p x b y → InListing w x × InListing w y
   qualifier-parts (QualifierSays.refused c) = (omega arith, omega arith)
@@ -118,4 +118,34 @@ demand2 =
       indexed-qualifier = λ w x k j i n p a v b. with-index-part (λ z. (none-inside w (z .0), none-inside w (z .2))) qualifier-parts;
       locations = λ w l c. accepted-inside c;
       total = λ w t s f j u c. c .2 .totals;
+    }
+
+-- ---- request 6
+
+of-one : {w : List ℕ} {k j : ℕ} {x : FeatureShown} {out after : List ℕ} {n p : ℕ} → n ≡ 0 → FeatureSays w k j out n p x after → OfOneFeature w k j out x after
+of-one e (FeatureSays.refused c) = absurd (refusal-some (location-refused c) e)
+of-one e (FeatureSays.short c l) = absurd (omega (arith, e))
+of-one e (FeatureSays.found {f = f} {t = t} (FindsLocation.location {s = s} c h) l) =
+    record {
+      sequence = s;
+      feature = f;
+      location = t;
+      asked = c;
+      key-shown = text-stated c (f .key) (0, refl) .holds;
+      location-shown = text-stated c (f .location) (1, refl) .holds;
+      located = h;
+      operator = refl;
+      count = refl;
+      written = refl;
+    }
+
+nothing-by : {n p m : ℕ} {nothing : Type 0} → n ≡ suc m → AnswerOrRefusal n p nothing → nothing
+nothing-by e (inl z) = absurd (omega (arith, e, z .0))
+nothing-by e (inr z) = z .1
+
+pub request6 : Request6
+request6 =
+    record {
+      one = λ w k j x out after c. of-one refl c;
+      whole = λ w k j p x out after c. nothing-by {m = 33} refl (feature-ends c);
     }

@@ -11,9 +11,9 @@ use Rattle.paper.specs.Bytes.{raw}
 use Rattle.paper.specs.Lists.{_∈_}
 use Rattle.paper.specs.Tree.{Text, Feature, Sequence, Listing, Bare, textsOf, featuresOf}
 use Rattle.paper.specs.Layout.{LaidOut, Writes}
-use Rattle.paper.specs.Locations.{Location, Locates, Span, spans}
+use Rattle.paper.specs.Locations.{Location, Locates, Span, spans, operatorNumber}
 use Rattle.paper.specs.Rules.{L, Breaks}
-use Rattle.paper.specs.Answers.{limit, give, Checked, CheckSays, Part, FeatureShown, shown, partOf, SequenceSays, FeatureSays, QualifierSays, TranslationSays, TranslationsSays, NoSequence, NoFeature, NoQualifier, NothingWritten}
+use Rattle.paper.specs.Answers.{limit, give, Checked, CheckSays, FindsFeature, Part, FeatureShown, shown, partOf, triples, front, SequenceSays, FeatureSays, QualifierSays, TranslationSays, TranslationsSays, NoSequence, NoFeature, NoQualifier, NothingWritten}
 use Rattle.paper.specs.Index.{bodyOf, indexOf, IndexSays, IndexCheckSays, IndexedSequenceSays, IndexedFeatureSays, IndexedQualifierSays, IndexedTranslationSays, IndexedTranslationsSays}
 use Rattle.paper.specs.declared.Verdict.{Verdict}
 use Rattle.paper.specs.declared.Verdict.the-variants.{Accepted, Refused}
@@ -146,3 +146,24 @@ pub record Request5 : Type 0 where
   -- listing w where the numbers of their sequences are the same, whatever else of them differs; and then all of the above holds of it
   pub old : (v w : List ℕ) (l m : Listing ℕ) → Checked v (give l) → Checked w (give m) → map bodyOf (l .sequences) ≡ map bodyOf (m .sequences)
       → IndexCheckSays w (indexOf l) 0 0
+
+-- ---- request 6 of document 02: one call for a feature
+
+-- what is shown, counted and written is of one feature, the one asked for, and of the location text shown beside it
+pub record OfOneFeature (w : List ℕ) (k j : ℕ) (out : List ℕ) (x : FeatureShown) (after : List ℕ) : Type 0 where
+  pub sequence : Sequence ℕ
+  pub feature : Feature ℕ
+  pub location : Location
+  pub asked : FindsFeature w k j (give (sequence, feature))
+  pub key-shown : shown w (x .key) ≡ raw (feature .key .read)
+  pub location-shown : shown w (x .location) ≡ raw (feature .location .read)
+  pub located : Locates location (feature .location .read)
+  pub operator : x .operator ≡ operatorNumber location
+  pub count : x .count ≡ length (spans location)
+  pub written : after ≡ front (triples (spans location)) out
+
+pub record Request6 : Type 0 where
+  -- "one answer with key part, location part, operator, count and spans"
+  pub one : (w : List ℕ) (k j : ℕ) (x : FeatureShown) (out after : List ℕ) → FeatureSays w k j out 0 0 x after → OfOneFeature w k j out x after
+  -- "Short room refuses the whole call, parts included."
+  pub whole : (w : List ℕ) (k j p : ℕ) (x : FeatureShown) (out after : List ℕ) → FeatureSays w k j out 34 p x after → NoFeature x out after
