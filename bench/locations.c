@@ -72,13 +72,11 @@ static const struct question {
 /* The time on the wall of one judgement. */
 static double judge(const struct question *question, struct bytes part)
 {
-    uint32_t operator, wrong, complemented, unjudged;
-    size_t count = 0;
+    uint32_t wrong, complemented, unjudged;
     const double start = wall_time();
-    const uint32_t number =
-        trial_location(part.at, part.length, LONGEST, &operator, &count, &wrong, &complemented, &unjudged);
+    const uint32_t number = trial_location(part.at, part.length, LONGEST, &wrong, &complemented, &unjudged);
     const double time = wall_time() - start;
-    if (number != question->judged || (question->spans > 0 && count != question->spans)) {
+    if (number != question->judged) {
         die(question->words, "judged wrongly");
     }
     return time;

@@ -9,8 +9,8 @@
 size_t trial_layout(const uint8_t *listing, size_t length, size_t *place);
 
 /* 0 with the facts of a location in a sequence of `top` residues, or 24. */
-uint32_t trial_location(const uint8_t *part, size_t length, uint32_t top, uint32_t *operator, size_t *count,
-                        uint32_t *wrong, uint32_t *complemented, uint32_t *unjudged);
+uint32_t trial_location(const uint8_t *part, size_t length, uint32_t top, uint32_t *wrong, uint32_t *complemented,
+                        uint32_t *unjudged);
 
 /* 0 with the spans written, or 24, 25, 34. */
 uint32_t trial_spans(const uint8_t *part, size_t length, uint32_t top, uint32_t *out, size_t room, uint32_t *operator,

@@ -235,7 +235,7 @@ pub fn translations(listing: &[u8], index: &[u8], k: usize, out: &mut [u8]) -> L
             },
             EntryAt::Found(entry) => {
                 let kind = body.kind;
-            let known = known_of(kind, body.residues);
+                let known = known_of(kind, body.residues);
                 let first = feature_from(listing, entry.key, entry.location);
                 translations_answer(listing, known, first, out)
             }

@@ -2,11 +2,11 @@
 use Prim.Native.Nat.{ℕ, zero, suc, _+_, _≤_, _<_}
 use native.Mathlib.Omega.{arith}
 use mathlib.Core.Path.{_≡_, refl, sym, ap, _∙_, subst}
-use mathlib.Core.Bool.{Bool, true, false, _||_, cond, or-false, or-assoc}
+use mathlib.Core.Bool.{Bool, true, false, _||_, or-false, or-assoc}
 use mathlib.Core.Option.{none, some, Option·none-ne-some}
 use mathlib.Core.List.{List, [], _∷_, _++_, append-assoc}
 use lib.ListN.{length, length-append}
-use lib.Dec.{eqb, leb}
+use lib.Dec.{eqb}
 use borrow.Author.Tests.{le-leb, lt-leb}
 use Rattle.paper.specs.Bytes.{bytes, raw}
 use Rattle.paper.specs.Locations.{isOdd, isWrong, Member, Operator, Location, one, many, any, operatorNumber}
@@ -22,7 +22,7 @@ use Rattle.location_judge.specs.declared.judging.Out.the-variants as out
 use Rattle.location_judge.specs.declared.operators.Listed.the-variants as list-is
 use Rattle.location_judge.proofs.Stand.{begun, not-begun, stretch-text, stretch-join}
 use Rattle.location_judge.proofs.Words.{step-else}
-use Rattle.location_judge.proofs.Levels.{operator-number, spans-count}
+use Rattle.location_judge.proofs.Levels.{operator-number}
 
 -- ---- facts of one member more
 
@@ -37,8 +37,6 @@ with-member {L} o ms m {f} {g} h k =
     let n : operatorNumber (many false o ms) ≡ operatorNumber (many false o more) = operator-number false o ms ∙ sym (operator-number false o more) in
     let odd : Member → Bool = λ m. isOdd (m .piece) in
     record {
-      operator = h .operator ∙ n;
-      count = omega (arith, h .count, spans-count (many false o ms), spans-count (many false o more), length-append ms (m ∷ []));
       wrong = (λ i. h .wrong i || k .wrong i) ∙ any-append (λ (m : Member). isWrong L (m .piece)) ms (m ∷ []);
       complemented = (λ i. h .complemented i || (k .complemented ∙ sym (or-false (m .complemented))) i)
           ∙ any-append (λ (m : Member). m .complemented) ms (m ∷ []);
@@ -48,11 +46,11 @@ with-member {L} o ms m {f} {g} h k =
 
 -- the facts of no member yet
 abbrev pub noFacts : ℕ → Facts
-noFacts operator = record { operator = operator; count = 0; wrong = false; complemented = false; unjudged = eqb operator 2 }
+noFacts operator = record { wrong = false; complemented = false; unjudged = eqb operator 2 }
 
 no-facts : {L op : ℕ} (o : Operator) → op ≡ numberOf o → AreFacts L (many false o []) (noFacts op)
 no-facts o e =
-    record { operator = e; count = refl; wrong = refl; complemented = refl; unjudged = ap (λ (n : ℕ). eqb n 2) e ∙ sym (or-false (eqb (numberOf o) 2)) }
+    record { wrong = refl; complemented = refl; unjudged = ap (λ (n : ℕ). eqb n 2) e ∙ sym (or-false (eqb (numberOf o) 2)) }
 
 -- ---- the members so far
 
@@ -68,9 +66,11 @@ prepend-more : (ms : List Member) (m : Member) (g : Got (List Member))
 prepend-more ms m none = refl
 prepend-more ms m (some p) = ap (λ (l : List Member). some (l, p .1)) (sym (append-assoc ms (m ∷ []) (p .0)))
 
--- of the text w the members ms are read, whose facts are f, and the model reads on at i
-record Going (s : List ℕ) (L d : ℕ) (c : Bool) (o : Operator) (w : List ℕ) (i : ℕ) (f : Facts) : Type 0 where
+-- of the text w the members ms are read, whose facts are f, and the model reads on at i: where i is still `from` there are none, else some
+record Going (s : List ℕ) (L d : ℕ) (c : Bool) (o : Operator) (w : List ℕ) (from i : ℕ) (f : Facts) : Type 0 where
   ms : List Member
+  few : from + length ms ≤ i
+  later : from < i → 1 ≤ length ms
   fuel : ℕ
   rest : List ℕ
   stands : RestIs s i rest
@@ -78,22 +78,21 @@ record Going (s : List ℕ) (L d : ℕ) (c : Bool) (o : Operator) (w : List ℕ)
   facts : AreFacts L (many false o ms) f
   is : members (read d c false) (length w) w ≡ prepend ms (members (read d c false) fuel rest)
 
--- the members ms and m are read, and n is behind m
-record Past (s : List ℕ) (L d : ℕ) (c : Bool) (o : Operator) (w : List ℕ) (n : ℕ) (f : Facts) : Type 0 where
-  ms : List Member
+-- then m is read, with the facts g, and n is behind it
+record Past (s : List ℕ) (L d : ℕ) (c : Bool) (o : Operator) (w : List ℕ) (from i n : ℕ) (f g : Facts) : Type 0 where
+  going : Going s L d c o w from i f
   m : Member
   fuel : ℕ
   rest : List ℕ
   stands : RestIs s n rest
   enough : length rest ≤ suc fuel
-  facts : AreFacts L (many false o (ms ++ (m ∷ []))) f
-  is : members (read d c false) (length w) w ≡ prepend ms (step (members (read d c false) fuel) (one m) rest)
+  facts : AreFacts L (many false o (going .ms ++ (m ∷ []))) (withMember f g)
+  is : members (read d c false) (length w) w ≡ prepend (going .ms) (step (members (read d c false) fuel) (one m) rest)
 
 -- the loop's invariant: i is where a member is to be read
 pub record Run (s : List ℕ) (L d : ℕ) (c : Bool) (at from op i : ℕ) (f : Facts) : Type 0 where
-  pub passed : Stretch s at i
-  pub few : f .count < i
-  going : (o : Operator) → op ≡ numberOf o → (w : List ℕ) → RestIs s from w → Going s L d c o w i f
+  passed : Stretch s at i
+  going : (o : Operator) → op ≡ numberOf o → (w : List ℕ) → RestIs s from w → Going s L d c o w from i f
 
 empty : (w : List ℕ) → length w ≤ 0 → w ≡ []
 empty [] h = refl
@@ -104,10 +103,11 @@ module _ {s : List ℕ} {L d : ℕ} {c : Bool} where
   run-start {at} {op} {from} h =
       record {
         passed = h .within .1;
-        few = omega (arith, h .within .0);
         going = λ o e w st.
             record {
               ms = [];
+              few = omega arith;
+              later = λ l. absurd (omega arith);
               fuel = length w;
               rest = w;
               stands = st;
@@ -130,14 +130,14 @@ module _ {s : List ℕ} {L d : ℕ} {c : Bool} where
         go z (suc n) q = rw q
 
     module _ {n : ℕ} {g : Facts} (h : Outs s i L (read d c false) (out-is.Read n g)) where
-      past : (o : Operator) → op ≡ numberOf o → (w : List ℕ) → RestIs s from w → Past s L d c o w n (withMember f g)
+      past : (o : Operator) → op ≡ numberOf o → (w : List ℕ) → RestIs s from w → Past s L d c o w from i n f g
       past o e w st =
           let k = run .going o e w st in
           let m = h .says (k .rest) (k .stands) in
           go (k .fuel) k m refl
         where
-          go : (fuel : ℕ) (k : Going s L d c o w i f) (m : Reads s (λ (t : Location). AreFacts L t g) (read d c false (k .rest)) n) → k .fuel ≡ fuel
-              → Past s L d c o w n (withMember f g)
+          go : (fuel : ℕ) (k : Going s L d c o w from i f) (m : Reads s (λ (t : Location). AreFacts L t g) (read d c false (k .rest)) n) → k .fuel ≡ fuel
+              → Past s L d c o w from i n f g
           go zero k m q =
               let z = empty (k .rest) (omega (arith, k .enough)) in
               absurd (Option·none-ne-some (m .value, m .rest) (sym (read-nil d c false) ∙ sym (ap (read d c false) z) ∙ m .is))
@@ -148,7 +148,7 @@ module _ {s : List ℕ} {L d : ℕ} {c : Bool} where
               = ap (λ (x : Got Location). then x (step (members (read d c false) fuel))) (m .is)
               ∙ ap (λ (t : Location). step (members (read d c false) fuel) t (m .rest)) single in
               record {
-                ms = k .ms;
+                going = k;
                 m = last;
                 fuel = fuel;
                 rest = m .rest;
@@ -163,34 +163,35 @@ module _ {s : List ℕ} {L d : ℕ} {c : Bool} where
       passed-by u x e = stretch-join (run .passed) (stretch-join (h .within) (stretch-text u x e))
 
       module _ {t : Bool} (bracket : There (raw (bytes ")")) s n t) where
-        -- the list ends
+        -- the list ends, behind one member more than those before i
         closed : t ≡ true → (o : Operator) → op ≡ numberOf o → (w : List ℕ) → RestIs s from w
-            → (ms : List Member) × (z : List ℕ) × RestIs s (n + 1) z × AreFacts L (many false o ms) (withMember f g)
-            × (gather (read d c false) o w ≡ cond (leb 2 (length ms)) (some (many false o ms, z)) none)
+            → (k : Going s L d c o w from i f) × (ms : List Member) × (length ms ≡ length (k .ms) + 1) × (z : List ℕ) × RestIs s (n + 1) z
+            × AreFacts L (many false o ms) (withMember f g) × (gather (read d c false) o w ≡ gathered o ms z)
         closed b o e w st =
             let p = past o e w st in
+            let k = p .going in
             let q = begun (bytes ")") bracket (p .stands) b in (
-              p .ms ++ (p .m ∷ []),
+              k,
+              k .ms ++ (p .m ∷ []),
+              length-append (k .ms) (p .m ∷ []),
               q .0,
               q .2,
               p .facts,
               ap (λ (x : Got (List Member)). then x (gathered o))
-                  (p .is ∙ ap (λ (z : List ℕ). prepend (p .ms) (step (members (read d c false) (p .fuel)) (one (p .m)) z)) (q .1)),
+                  (p .is ∙ ap (λ (z : List ℕ). prepend (k .ms) (step (members (read d c false) (p .fuel)) (one (p .m)) z)) (q .1)),
             )
 
-        pub run-one : t ≡ true → f .count + 1 < 2
-            → (o : Operator) → op ≡ numberOf o → (w : List ℕ) → RestIs s from w → gather (read d c false) o w ≡ none
+        pub run-one : t ≡ true → i ≤ from → (o : Operator) → op ≡ numberOf o → (w : List ℕ) → RestIs s from w → gather (read d c false) o w ≡ none
         run-one b l o e w st =
-            let p = closed b o e w st in
-            p .4 ∙ rw (lt-leb 2 (length (p .0)) (omega (arith, p .3 .count, spans-count (many false o (p .0)))))
+            let (k, ms, n, _, _, _, q) = closed b o e w st in
+            q ∙ rw (lt-leb 2 (length ms) (omega (arith, k .few)))
 
-        pub run-closed : t ≡ true → 2 ≤ f .count + 1 → (o : Operator) → op ≡ numberOf o → (w : List ℕ) → RestIs s from w
+        pub run-closed : t ≡ true → ¬ (i ≡ from) → (o : Operator) → op ≡ numberOf o → (w : List ℕ) → RestIs s from w
             → OutSays s L (gather (read d c false) o w) (out-is.Read (n + 1) (withMember f g))
         run-closed b l o e w st =
-            let p = closed b o e w st in
-            let k : gather (read d c false) o w ≡ some (many false o (p .0), p .1)
-            = p .4 ∙ rw (le-leb 2 (length (p .0)) (omega (arith, p .3 .count, spans-count (many false o (p .0))))) in
-            record { value = many false o (p .0); rest = p .1; is = k; stands = p .2; holds = p .3 }
+            let (k, ms, n, z, there, facts, q) = closed b o e w st in
+            let two = le-leb 2 (length ms) (omega (arith, k .later (omega (arith, k .few)))) in
+            record { value = many false o ms; rest = z; is = q ∙ rw two; stands = there; holds = facts }
 
         module _ {u : Bool} (comma : There (raw (bytes ",")) s n u) where
           pub run-other : t ≡ false → u ≡ false
@@ -198,7 +199,7 @@ module _ {s : List ℕ} {L d : ℕ} {c : Bool} where
           run-other a b o e w st =
               let p = past o e w st in
               ap (λ (x : Got (List Member)). then x (gathered o))
-              (p .is ∙ ap (prepend (p .ms))
+              (p .is ∙ ap (prepend (p .going .ms))
               (step-else (members (read d c false) (p .fuel)) (one (p .m)) (p .rest)
               (not-begun (bytes ")") bracket (p .stands) a) (not-begun (bytes ",") comma (p .stands) b)))
 
@@ -206,18 +207,21 @@ module _ {s : List ℕ} {L d : ℕ} {c : Bool} where
           run-next b =
               record {
                 passed = passed-by (bytes ",") comma b;
-                few = omega (arith, run .few, h .within .onward);
                 going = λ o e w st.
                     let p = past o e w st in
+                    let ms = p .going .ms in
+                    let n = length-append ms (p .m ∷ []) in
                     let q = begun (bytes ",") comma (p .stands) b in
                     record {
-                      ms = p .ms ++ (p .m ∷ []);
+                      ms = ms ++ (p .m ∷ []);
+                      few = omega (arith, p .going .few, h .within .onward);
+                      later = λ l. omega arith;
                       fuel = p .fuel;
                       rest = q .0;
                       stands = q .2;
                       enough = omega (arith, p .enough, ap length (q .1));
                       facts = p .facts;
-                      is = p .is ∙ ap (λ (z : List ℕ). prepend (p .ms) (step (members (read d c false) (p .fuel)) (one (p .m)) z)) (q .1)
-                          ∙ prepend-more (p .ms) (p .m) (members (read d c false) (p .fuel) (q .0));
+                      is = p .is ∙ ap (λ (z : List ℕ). prepend ms (step (members (read d c false) (p .fuel)) (one (p .m)) z)) (q .1)
+                          ∙ prepend-more ms (p .m) (members (read d c false) (p .fuel) (q .0));
                     };
               }

@@ -4,12 +4,10 @@ use native.Mathlib.Omega.{arith}
 use mathlib.Core.Path.{_≡_, refl, sym, ap, _∙_, subst}
 use mathlib.Core.Bool.{Bool, true, false, _||_, cond, or-false}
 use mathlib.Core.Option.{none}
-use mathlib.Core.List.{List, map}
-use lib.ListN.{length, length-map, length-reverse}
+use mathlib.Core.List.{List}
 use lib.Dec.{ltb}
 use Rattle.paper.specs.Bytes.{bytes, raw}
-use Rattle.paper.specs.Locations.{Piece, isSegment, isOdd, isWrong, Member, Operator, join, order, operatorName, Location, one, many, memberSpan, spanOf}
-use Rattle.paper.specs.Locations.{spans, membersOf, operatorNumber}
+use Rattle.paper.specs.Locations.{Piece, isSegment, isOdd, isWrong, Member, Operator, join, order, operatorName, Location, one, many, operatorNumber}
 use Rattle.paper.proofs.Locate.Model.{Got, then, uncomplemented, turn, leaf, close, gather, within, read}
 use Rattle.read_bytes.specs.Words.{There}
 use Rattle.location_judge.specs.Places.{RestIs, Stretch}
@@ -44,14 +42,12 @@ out-by s top r e = subst (λ (x : Got Location). OutSays s top x r) (sym e)
 -- ---- a segment or site
 
 abbrev pub leafFacts : Bool → Bool → Facts
-leafFacts wrong odd = record { operator = 0; count = 1; wrong = wrong; complemented = false; unjudged = odd }
+leafFacts wrong odd = record { wrong = wrong; complemented = false; unjudged = odd }
 
 leaf-facts : {L : ℕ} {a : Reach} {odd wrong : Bool} {p : Piece} → L < 4294967296 → Keeps false p a odd
     → wrong ≡ wrongOf L (a .first) (a .last) (a .marks) → AreFacts L (one (uncomplemented p)) (leafFacts wrong odd)
 leaf-facts {L} {p = p} h k e =
     record {
-      operator = refl;
-      count = refl;
       wrong = e ∙ keeps-wrong L h k ∙ sym (or-false (isWrong L p));
       complemented = refl;
       unjudged = k .odds ∙ sym (or-false (isOdd p));
@@ -115,32 +111,17 @@ pub complement-stretch : {s : List ℕ} {at n : ℕ} {t u : Bool} → There (raw
 complement-stretch word e inside bracket b =
     stretch-join (stretch-text (bytes "complement(") word e) (stretch-join inside (stretch-text (bytes ")") bracket b))
 
-pub spans-count : (t : Location) → length (spans t) ≡ length (membersOf t)
-spans-count (one m) = refl
-spans-count (many true op ms) =
-    length-reverse (map (λ (m : Member). spanOf true (m .piece)) ms) ∙ length-map ms (λ (m : Member). spanOf true (m .piece))
-spans-count (many false op ms) = length-map ms memberSpan
-
 pub operator-number : (c : Bool) (op : Operator) (ms : List Member) → operatorNumber (many c op ms) ≡ numberOf op
 operator-number c join ms = refl
 operator-number c order ms = refl
 
 abbrev pub turnedFacts : Facts → Facts
-turnedFacts f =
-    record { operator = f .operator; count = f .count; wrong = f .wrong; complemented = true; unjudged = f .unjudged }
+turnedFacts f = record { wrong = f .wrong; complemented = true; unjudged = f .unjudged }
 
 turned-facts : {L : ℕ} (t : Location) {f : Facts} → AreFacts L t f → AreFacts L (turn t) (turnedFacts f)
-turned-facts (one m) h =
-    record { operator = h .operator; count = h .count; wrong = h .wrong; complemented = refl; unjudged = h .unjudged }
-turned-facts {L} (many c op ms) {f} h =
-    let n : operatorNumber (many c op ms) ≡ operatorNumber (many true op ms) = operator-number c op ms ∙ sym (operator-number true op ms) in
-    record {
-      operator = h .operator ∙ n;
-      count = h .count ∙ spans-count (many c op ms) ∙ sym (spans-count (many true op ms));
-      wrong = h .wrong;
-      complemented = refl;
-      unjudged = rw n at (h .unjudged);
-    }
+turned-facts (one m) h = record { wrong = h .wrong; complemented = refl; unjudged = h .unjudged }
+turned-facts (many c join ms) h = record { wrong = h .wrong; complemented = refl; unjudged = h .unjudged }
+turned-facts (many c order ms) h = record { wrong = h .wrong; complemented = refl; unjudged = h .unjudged }
 
 module _ {s : List ℕ} {at top : ℕ} {c l : Bool} {fc fl : List ℕ → Got Location} {t : Bool} (word : There (raw (bytes "complement(")) s at t) (e : t ≡ true) where
   pub comp-not : c ≡ false → Outs s at top (within fc fl c l) out-is.Bad

@@ -67,8 +67,6 @@ facts-once : {L : ℕ} {t : Location} {f g : Facts} → AreFacts L t f → AreFa
 facts-once h k =
     λ i.
     record {
-      operator = (h .operator ∙ sym (k .operator)) i;
-      count = (h .count ∙ sym (k .count)) i;
       wrong = (h .wrong ∙ sym (k .wrong)) i;
       complemented = (h .complemented ∙ sym (k .complemented)) i;
       unjudged = (h .unjudged ∙ sym (k .unjudged)) i;

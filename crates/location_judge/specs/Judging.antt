@@ -3,9 +3,8 @@ use Prim.Native.Nat.{ℕ}
 use mathlib.Core.Path.{_≡_}
 use mathlib.Core.Bool.{Bool}
 use mathlib.Core.List.{List}
-use lib.ListN.{length}
 use Rattle.paper.specs.Bytes.{raw}
-use Rattle.paper.specs.Locations.{Location, Locates, spans, operatorNumber, breaks25, hasComplement, leavesUnjudged}
+use Rattle.paper.specs.Locations.{Location, Locates, breaks25, hasComplement, leavesUnjudged}
 use Rattle.read_steps.specs.Parts.{ShowsBytes}
 use Rattle.location_judge.specs.declared.judging.Facts.{Facts}
 use Rattle.location_judge.specs.declared.judging.Judgement.{Judgement}
@@ -13,8 +12,6 @@ use Rattle.location_judge.specs.declared.judging.Judgement.the-variants.
 
 -- the facts of the location t, for a sequence of L residues
 pub record AreFacts (L : ℕ) (t : Location) (f : Facts) : Type 0 where
-  pub operator : f .operator ≡ operatorNumber t
-  pub count : f .count ≡ length (spans t)
   pub wrong : f .wrong ≡ breaks25 L t
   pub complemented : f .complemented ≡ hasComplement t
   pub unjudged : f .unjudged ≡ leavesUnjudged t

@@ -117,10 +117,4 @@ pub record Lists (s : List ℕ) (at : ℕ) (r : Listed) : Type 0 where
 -- the facts of members and one more
 abbrev pub withMember : Facts → Facts → Facts
 withMember f g =
-    record {
-      operator = f .operator;
-      count = f .count + 1;
-      wrong = f .wrong || g .wrong;
-      complemented = f .complemented || g .complemented;
-      unjudged = f .unjudged || g .unjudged;
-    }
+    record { wrong = f .wrong || g .wrong; complemented = f .complemented || g .complemented; unjudged = f .unjudged || g .unjudged }

@@ -1,4 +1,4 @@
-// A location, judged: whether it is one (rule 24), and what rules 25 and 26, its spans and a translation ask of it.
+// A location, judged: whether it is one (rule 24), and what rules 25 and 26 and a translation ask of it.
 use crate::operators::Listed;
 use crate::operators::complement_at;
 use crate::operators::list_at;
@@ -8,17 +8,12 @@ use crate::pieces::piece;
 use read_bytes::begins;
 ghost use mathlib.Core.Path.{_≡_};
 ghost use mathlib.Core.Bool.{_&&_, _||_, not};
-ghost use Prim.Native.Nat.{_<_};
 ghost use Rattle.paper.proofs.Locate.Model;
 ghost use Rattle.location_judge.specs.Readings.{Outs, withMember};
 ghost use Rattle.location_judge.specs.Judging.{Judges, JudgesPart, LeavesRegion, LeavesPart};
 
 // What is asked of a location, for a sequence of L residues.
 pub struct Facts {
-    // 0 none, 1 join, 2 order.
-    pub operator: u32,
-    // The number of spans.
-    pub count: usize,
     // It breaks rule 25.
     pub wrong: bool,
     // It has a complement (rule 26).
@@ -53,8 +48,6 @@ fn leaf(s: &[u8], at: usize, top: u32, far: bool) -> Out
                 return Out::Read(
                     n,
                     Facts {
-                        operator: 0,
-                        count: 1,
                         wrong,
                         complemented: false,
                         unjudged: odd,
@@ -78,12 +71,9 @@ fn either(a: bool, b: bool) -> bool
 
 // What is asked of members and one more, whose facts are f and g.
 fn add_member(f: Facts, g: Facts) -> Facts
-    requires { ⌜ f .count < 18446744073709551615 ⌝ }
     ensures { λ r. ⌜ r ≡ withMember f g ⌝ }
 {
     Facts {
-        operator: f.operator,
-        count: f.count + 1,
         wrong: either(f.wrong, g.wrong),
         complemented: either(f.complemented, g.complemented),
         unjudged: either(f.unjudged, g.unjudged),
@@ -110,8 +100,6 @@ fn read(s: &[u8], at: usize, top: u32, depth: usize, turn: bool, far: bool) -> O
                         return Out::Read(
                             n + 1,
                             Facts {
-                                operator: f.operator,
-                                count: f.count,
                                 wrong: f.wrong,
                                 complemented: true,
                                 unjudged: f.unjudged,
@@ -132,8 +120,6 @@ fn read(s: &[u8], at: usize, top: u32, depth: usize, turn: bool, far: bool) -> O
             if far {
                 let mut i = from;
                 let mut all = Facts {
-                    operator,
-                    count: 0,
                     wrong: false,
                     complemented: false,
                     unjudged: operator == 2,
@@ -146,7 +132,8 @@ fn read(s: &[u8], at: usize, top: u32, depth: usize, turn: bool, far: bool) -> O
                         Out::Read(n, f) => {
                             all = add_member(all, f);
                             if begins(s, n, b")") {
-                                if all.count < 2 {
+                                // A list has two members or more.
+                                if i == from {
                                     return Out::Bad;
                                 }
                                 return Out::Read(n + 1, all);
@@ -166,7 +153,7 @@ fn read(s: &[u8], at: usize, top: u32, depth: usize, turn: bool, far: bool) -> O
 }
 
 // The location that the bytes s of a part are written from, for a sequence of `top` residues.
-pub fn judge(s: &[u8], top: u32) -> Judgement
+fn judge(s: &[u8], top: u32) -> Judgement
     ensures { λ r. ⌜ Judges (now (s .entry)) top r ⌝ }
 {
     match read(s, 0, top, 2, true, true) {

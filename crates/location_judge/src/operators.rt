@@ -4,7 +4,7 @@ ghost use Rattle.paper.specs.Bytes.{bytes};
 ghost use Rattle.read_bytes.specs.Words.{There};
 ghost use Rattle.location_judge.specs.Readings.{Lists};
 
-// The operator that stands at a place, by its number, and the place of its first member.
+// The operator that stands at a place, by its number (1 join, 2 order), and the place of its first member.
 pub enum Listed {
     No,
     At(u32, usize),

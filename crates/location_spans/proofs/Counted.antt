@@ -3,23 +3,22 @@ use Prim.Native.Nat.{ℕ, _+_, _-_, _≤_, _<_}
 use Prim.Native.Char.{code}
 use Prim.Native.String.{String}
 use native.Mathlib.Omega.{arith}
-use mathlib.Core.Path.{_≡_, refl, ap, subst}
+use mathlib.Core.Path.{_≡_, refl, ap, _∙_, subst}
 use mathlib.Core.Bool.{Bool, true, false}
-use mathlib.Core.List.{List, [], _∷_, _++_}
-use lib.ListN.{length, getD, drop, drop-of-length-le}
+use mathlib.Core.List.{List, [], _∷_, _++_, map}
+use lib.ListN.{length, length-map, length-reverse, getD, drop, drop-of-length-le}
 use lib.Dec.{eqb}
 use borrow.Author.Tests.{ne-eqb, eq-eqb}
 use Rattle.paper.specs.Bytes.{bytes, raw, all}
 use Rattle.paper.specs.Form.{Form, lit, _·_, given}
 use Rattle.paper.specs.Values.{isDigit}
-use Rattle.paper.specs.Locations.{Piece, point, before, after, range, site, Member, Operator, join, order, Location, one, many, Locates, membersOf}
+use Rattle.paper.specs.Locations.{Piece, point, before, after, range, site, Member, Operator, join, order, Location, one, many, Locates, spanOf, memberSpan, spans, membersOf}
 use Rattle.paper.specs.Locations.{number, sign, pieceText, complement, memberText, membersText, operatorName, locationText}
 use Rattle.paper.proofs.Texts.{raw-append}
 use Rattle.paper.proofs.Decimal.{digit-bounds}
 use Rattle.read_bytes.specs.Numbers.{flag}
 use Rattle.location_judge.proofs.Stand.{suffix}
 use Rattle.location_judge.proofs.Digits.{plain-digit}
-use Rattle.location_judge.proofs.Levels.{spans-count}
 use Rattle.location_spans.specs.Room.{CountsSpans}
 
 abbrev pub commas : List ℕ → ℕ
@@ -102,6 +101,13 @@ has-operator order = word "order("
 has-location : (t : Location) → Has (locationText t) (length (membersOf t) - 1)
 has-location (one m) = has-member m
 has-location (many c op l) = has-complement c (enclosed (has-operator op) (where-so (has-members c l)))
+
+-- a span for each member
+spans-count : (t : Location) → length (spans t) ≡ length (membersOf t)
+spans-count (one m) = refl
+spans-count (many true op ms) =
+    length-reverse (map (λ (m : Member). spanOf true (m .piece)) ms) ∙ length-map ms (λ (m : Member). spanOf true (m .piece))
+spans-count (many false op ms) = length-map ms memberSpan
 
 some-member : (t : Location) {w : List ℕ} → Locates t w → 1 ≤ length (membersOf t)
 some-member (one m) x = omega arith

@@ -170,10 +170,6 @@ kindNumber dna = 1
 kindNumber rna = 2
 kindNumber aa = 3
 
--- what a refusal shows and changes
-abbrev pub NoSequence : (kind : ℕ) (residues : Part) → Type 0
-NoSequence d r = (d ≡ 0) × (r ≡ noPart)
-
 -- what is shown of a feature beside its spans
 pub record FeatureShown : Type 0 where
   pub key : Part
@@ -183,6 +179,10 @@ pub record FeatureShown : Type 0 where
 
 abbrev pub nothingShown : FeatureShown
 nothingShown = record { key = noPart; location = noPart; operator = 0; count = 0 }
+
+-- what a refusal shows and changes
+abbrev pub NoSequence : (kind : ℕ) (residues : Part) → Type 0
+NoSequence d r = (d ≡ 0) × (r ≡ noPart)
 
 abbrev pub NoFeature : FeatureShown → (out after : List ℕ) → Type 0
 NoFeature x out after = (x ≡ nothingShown) × (after ≡ out)

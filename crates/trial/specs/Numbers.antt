@@ -20,10 +20,10 @@ pub data LayoutNumbers (w : List ℕ) : (number place : ℕ) → Type 0 where
   laid : Lays w → LayoutNumbers w 0 0
   refused : {n p : ℕ} → Refuses w n p → LayoutNumbers w n p
 
-pub data LocationNumbers (s : List ℕ) (L : ℕ) : (number operator count wrong complemented unjudged : ℕ) → Type 0 where
-  bad : Judges s L Bad → LocationNumbers s L 24 0 0 0 0 0
+pub data LocationNumbers (s : List ℕ) (L : ℕ) : (number wrong complemented unjudged : ℕ) → Type 0 where
+  bad : Judges s L Bad → LocationNumbers s L 24 0 0 0
   is : (f : Facts) {wrong complemented unjudged : ℕ} → Judges s L (Is f) → wrong ≡ mark (f .wrong) 1 → complemented ≡ mark (f .complemented) 1
-      → unjudged ≡ mark (f .unjudged) 1 → LocationNumbers s L 0 (f .operator) (f .count) wrong complemented unjudged
+      → unjudged ≡ mark (f .unjudged) 1 → LocationNumbers s L 0 wrong complemented unjudged
 
 -- of the location that the bytes are, if they are one; a refusal writes nothing
 pub data SpansNumbers (s : List ℕ) (L : ℕ) (out : List ℕ) : (number operator count : ℕ) (after : List ℕ) → Type 0 where

@@ -39,26 +39,20 @@ fn flag(b: bool, n: u32) -> u32
 pub extern "C" fn trial_location(
     part: &[u8],
     top: u32,
-    operator: &mut u32,
-    count: &mut usize,
     wrong: &mut u32,
     complemented: &mut u32,
     unjudged: &mut u32,
 ) -> u32
-    ensures { λ r. ⌜ LocationNumbers (now (part .entry)) top r (now (operator .exit)) (now (count .exit)) (now (wrong .exit)) (now (complemented .exit)) (now (unjudged .exit)) ⌝ }
+    ensures { λ r. ⌜ LocationNumbers (now (part .entry)) top r (now (wrong .exit)) (now (complemented .exit)) (now (unjudged .exit)) ⌝ }
 {
     match location_judge::judging::judge_location(part, 0, part.len(), top) {
         Judgement::Bad => {
-            *operator = 0;
-            *count = 0;
             *wrong = 0;
             *complemented = 0;
             *unjudged = 0;
             24
         }
         Judgement::Is(f) => {
-            *operator = f.operator;
-            *count = f.count;
             *wrong = flag(f.wrong, 1);
             *complemented = flag(f.complemented, 1);
             *unjudged = flag(f.unjudged, 1);

@@ -1,18 +1,16 @@
 //! Locations: what the proved reader says of a text, and its spans, beside the referee.
 
-use crate::proved;
+use crate::proved::{self, Facts, Spans};
 use crate::report::Count;
 use referee::generate::{location_texts, Rng};
-use referee::{Location, Operator, Span};
+use referee::{Location, Operator};
 
-/// What is asked of a location text, for a sequence of some length.
-#[derive(Clone, Debug, PartialEq, Eq)]
-pub struct Facts {
-    pub operator: u32,
-    pub complement: bool,
-    pub unjudged: bool,
-    /// None where rule 25 is broken.
-    pub spans: Option<Vec<[u32; 3]>>,
+/// What is said of a location text, for a sequence of some length.
+#[derive(Debug, PartialEq, Eq)]
+struct Answers {
+    facts: Facts,
+    /// For each room that was lent.
+    spans: Vec<Spans>,
 }
 
 /// The words that texts are made of besides the signs: digits that matter, a lone dot, and a byte of none.
@@ -28,14 +26,14 @@ const RESIDUES: u32 = 7;
 pub fn run(count: u64, seed: u64) -> Result<bool, String> {
     let mut tally = Tally::default();
     location_texts(&WORDS, LONGEST, &mut |text| {
-        tally.compare(text.as_bytes(), RESIDUES)
+        tally.compare(text.as_bytes(), RESIDUES, proved)
     });
     let short = tally.count.cases;
     let rng = &mut Rng::new(seed);
     for _ in 0..count {
         let residues = rng.between(1, 40) as u32;
         let text = generated(rng, residues);
-        tally.compare(&text, residues);
+        tally.compare(&text, residues, proved);
     }
     println!(
         "{short} texts of up to {LONGEST} words, {count} generated; {} are locations, {} keep rule 25",
@@ -52,32 +50,75 @@ struct Tally {
 }
 
 impl Tally {
-    fn compare(&mut self, text: &[u8], residues: u32) {
-        let said = referee::location(text, residues).map(facts);
-        self.located += usize::from(said.is_some());
-        self.right += usize::from(said.as_ref().map_or(false, |facts| facts.spans.is_some()));
-        let proved = proved::location(&proved::raw(text), residues);
-        self.count.case(proved == said, |_| {
+    /// A reader is asked with the text, the number of residues, and the sizes of room.
+    fn compare(
+        &mut self,
+        text: &[u8],
+        residues: u32,
+        reader: impl Fn(&[u8], u32, &[usize]) -> Answers,
+    ) {
+        let location = referee::location(text, residues);
+        self.located += usize::from(location.is_some());
+        let location = location.as_ref();
+        let sizes = match location.and_then(|location| location.spans.as_ref()) {
+            None => vec![9],
+            Some(spans) => {
+                self.right += 1;
+                let need = 3 * spans.len();
+                vec![need, need - 1, need + 4]
+            }
+        };
+        let said = Answers {
+            facts: facts(location),
+            spans: sizes.iter().map(|&size| spans(location, size)).collect(),
+        };
+        let other = reader(text, residues, &sizes);
+        self.count.case(other == said, |_| {
             let text = String::from_utf8_lossy(text);
-            println!("{text:?} with {residues} residues:\n  referee {said:?}\n  proved {proved:?}");
+            println!("{text:?} with {residues} residues:\n  referee {said:?}\n  proved {other:?}");
         });
     }
 }
 
-fn facts(location: Location) -> Facts {
-    let operator = match location.operator {
-        Operator::None => 0,
-        Operator::Join => 1,
-        Operator::Order => 2,
+/// The proved reader's answers.
+fn proved(text: &[u8], residues: u32, sizes: &[usize]) -> Answers {
+    let part = proved::raw(text);
+    let spans = |&size| proved::spans(&part, residues, size);
+    Answers {
+        facts: proved::facts(&part, residues),
+        spans: sizes.iter().map(spans).collect(),
+    }
+}
+
+/// The facts by the referee.
+fn facts(location: Option<&Location>) -> Facts {
+    location.map_or((24, [0; 3]), |location| {
+        let order = location.operator == Operator::Order;
+        let unjudged = order || location.has_site || location.has_lone_partial;
+        let holds = [location.spans.is_none(), location.has_complement, unjudged];
+        (0, holds.map(u32::from))
+    })
+}
+
+/// The spans into room of this size, by the referee: a refusal writes nothing.
+fn spans(location: Option<&Location>, size: usize) -> Spans {
+    let mut room = proved::room(size);
+    let (number, operator, count) = match location.map(|it| (it.operator, &it.spans)) {
+        None => (24, 0, 0),
+        Some((_, None)) => (25, 0, 0),
+        Some((_, Some(spans))) if size < 3 * spans.len() => (34, 0, 0),
+        Some((operator, Some(spans))) => {
+            for (triple, span) in room.chunks_mut(3).zip(spans) {
+                triple.copy_from_slice(&[span.first, span.last, span.marks]);
+            }
+            (0, operator as u32, spans.len())
+        }
     };
-    let triple = |span: &Span| [span.first, span.last, span.marks];
-    Facts {
+    Spans {
+        number,
         operator,
-        complement: location.has_complement,
-        unjudged: operator == 2 || location.has_site || location.has_lone_partial,
-        spans: location
-            .spans
-            .map(|spans| spans.iter().map(triple).collect()),
+        count,
+        room,
     }
 }
 
@@ -153,13 +194,45 @@ fn position(rng: &mut Rng, residues: u32) -> u64 {
 mod tests {
     use super::*;
 
+    /// How many of the texts differ if the reader errs so.
+    fn differ(texts: &[&str], error: fn(&mut Answers)) -> usize {
+        let mut tally = Tally::default();
+        for text in texts {
+            tally.compare(text.as_bytes(), 7, |text, residues, sizes| {
+                let mut answers = proved(text, residues, sizes);
+                error(&mut answers);
+                answers
+            });
+        }
+        tally.count.differ
+    }
+
     #[test]
     fn a_wrong_answer_is_a_difference() {
-        let mut tally = Tally::default();
-        tally.compare(b"1..3", 7);
-        assert_eq!(tally.count.differ, 0);
-        let right = referee::location(b"1..3", 7).map(facts);
-        let other = referee::location(b"1..4", 7).map(facts);
-        assert_ne!(right, other);
+        let right = ["2^3", "complement(join(1,2..3))", "order(1..2,<4,6..7)"];
+        let other = ["", "join(1)", "order(1,8)", "3..2"];
+        assert_eq!(differ(&[right.as_slice(), &other].concat(), |_| ()), 0);
+        let of_all: [fn(&mut Answers); 7] = [
+            |answers| answers.facts.0 ^= 24,
+            |answers| answers.facts.1[0] ^= 1,
+            |answers| answers.facts.1[1] ^= 1,
+            |answers| answers.facts.1[2] ^= 1,
+            |answers| answers.spans[0].number = 34,
+            |answers| answers.spans[0].operator ^= 1,
+            |answers| answers.spans[0].count += 1,
+        ];
+        for (i, error) in of_all.into_iter().enumerate() {
+            assert_eq!(differ(&right, error), right.len(), "error {i}");
+            assert_eq!(differ(&other, error), other.len(), "error {i}");
+        }
+        // Marks, a write into room that is short, and one past the spans.
+        let of_spans: [fn(&mut Answers); 3] = [
+            |answers| answers.spans[0].room[2] ^= 1,
+            |answers| answers.spans[1].room[0] = 1,
+            |answers| *answers.spans[2].room.last_mut().unwrap() = 0,
+        ];
+        for (i, error) in of_spans.into_iter().enumerate() {
+            assert_eq!(differ(&right, error), right.len(), "error {i} of spans");
+        }
     }
 }

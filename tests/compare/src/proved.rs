@@ -1,6 +1,5 @@
 //! The inner calls of the proved code, as the crate `trial` lends them. Unsafe lines stand here and in boundary.rs only.
 
-use crate::location::Facts;
 use crate::translation::Region;
 use referee::generate::escape;
 use referee::Refusal;
@@ -14,8 +13,6 @@ extern "C" {
         part: *const u8,
         length: usize,
         residues: u32,
-        operator: *mut u32,
-        count: *mut usize,
         wrong: *mut u32,
         complemented: *mut u32,
         unjudged: *mut u32,
@@ -68,89 +65,62 @@ pub fn raw(text: &[u8]) -> Vec<u8> {
 /// A number that no call leaves where it was.
 const UNSET: u32 = 0xdead_beef;
 
-/// What the proved reader says of a location that is written so, its spans with room exact, one short and larger.
-/// An answer that contradicts another is told as a location that the referee never gives.
-pub fn location(part: &[u8], residues: u32) -> Option<Facts> {
-    let (mut operator, mut wrong, mut complement, mut unjudged) = (UNSET, UNSET, UNSET, UNSET);
-    let mut count = usize::MAX;
+/// 0 or 24; and, 1 or 0: it breaks rule 25, it has a complement, it leaves its region unjudged.
+pub type Facts = (u32, [u32; 3]);
+
+/// What is said of a location's spans into lent room.
+#[derive(Debug, PartialEq, Eq)]
+pub struct Spans {
+    pub number: u32,
+    pub operator: u32,
+    pub count: usize,
+    /// The room afterwards.
+    pub room: Vec<u32>,
+}
+
+/// Room before it is lent.
+pub fn room(size: usize) -> Vec<u32> {
+    vec![UNSET; size]
+}
+
+/// What the proved reader says of a location that is written so.
+pub fn facts(part: &[u8], residues: u32) -> Facts {
+    let (mut wrong, mut complemented, mut unjudged) = (UNSET, UNSET, UNSET);
     // SAFETY: the call reads `length` bytes from `part` and writes one number through each pointer.
-    let rule = unsafe {
+    let number = unsafe {
         trial_location(
             part.as_ptr(),
             part.len(),
             residues,
-            &mut operator,
-            &mut count,
             &mut wrong,
-            &mut complement,
+            &mut complemented,
             &mut unjudged,
         )
     };
-    let odd = Some(Facts {
-        operator: UNSET,
-        complement: false,
-        unjudged: false,
-        spans: None,
-    });
-    if rule == 24 {
-        let zeros = (operator, count, wrong, complement, unjudged) == (0, 0, 0, 0, 0);
-        return if zeros && spans(part, residues, 9).0 == 24 {
-            None
-        } else {
-            odd
-        };
-    }
-    let told = if wrong == 1 {
-        if spans(part, residues, 9).0 != 25 {
-            return odd;
-        }
-        None
-    } else {
-        let need = 3 * count;
-        let (number, said, written) = spans(part, residues, need);
-        let more = spans(part, residues, need + 4);
-        let short = spans(part, residues, need - 1);
-        let agrees = (number, said) == (0, (operator, count))
-            && (more.0, more.1) == (0, (operator, count))
-            && more.2[..need] == written[..]
-            && more.2[need..].iter().all(|&n| n == UNSET)
-            && (short.0, short.1) == (34, (0, 0))
-            && short.2.iter().all(|&n| n == UNSET);
-        if !agrees {
-            return odd;
-        }
-        Some(
-            written
-                .chunks(3)
-                .map(|triple| [triple[0], triple[1], triple[2]])
-                .collect(),
-        )
-    };
-    Some(Facts {
-        operator,
-        complement: complement == 1,
-        unjudged: unjudged == 1,
-        spans: told,
-    })
+    (number, [wrong, complemented, unjudged])
 }
 
-/// The number, the operator with the count, and the room afterwards.
-fn spans(part: &[u8], residues: u32, room: usize) -> (u32, (u32, usize), Vec<u32>) {
-    let (mut operator, mut count) = (UNSET, usize::MAX);
-    let mut out = vec![UNSET; room];
+/// What it says of its spans.
+pub fn spans(part: &[u8], residues: u32, size: usize) -> Spans {
+    let mut said = Spans {
+        number: UNSET,
+        operator: UNSET,
+        count: usize::MAX,
+        room: room(size),
+    };
     // SAFETY: the call reads `length` bytes from `part`, writes within `room` numbers of `out` and one through each pointer.
-    let number = unsafe {
+    said.number = unsafe {
         trial_spans(
             part.as_ptr(),
             part.len(),
             residues,
-            out.as_mut_ptr(),
-            out.len(),
-            &mut operator,
-            &mut count,
+            said.room.as_mut_ptr(),
+            said.room.len(),
+            &mut said.operator,
+            &mut said.count,
         )
     };
-    (number, (operator, count), out)
+    said
 }
 
 /// Rules 1 and 2 by the proved reader, in the referee's form.

@@ -160,7 +160,7 @@ module _ (t : ℕ) where
   enum-known-n-2 c = search needs
 
   add-member-requires : read-lts.Need-add-member-requires (claims t) (read-at t) read.Post Inv-loop μ-loop
-  add-member-requires c κs = omega (arith, c .before .before .before .before .loop .inv .few, c .before .before .before .before .loop .inv .passed .inside)
+  add-member-requires c κs = search needs
 
   slice-aggregate-begins-2 : read-lts.Need-slice-aggregate-begins-2 (claims t) (read-at t) read.Post Inv-loop μ-loop
   slice-aggregate-begins-2 c = search needs
@@ -170,44 +170,42 @@ module _ (t : ℕ) where
 
   returns-8 : read-lts.Need-returns-8 (claims t) (read-at t) read.Post Inv-loop μ-loop
   returns-8 c =
-      let a = c .before .before .before .before .before .before .before .before .before .before .before .before .before .before .before .before .before .before .before .before .args in
+      let a = c .before .before .before .before .before .before .before .before .before .before .before .before .before .before .before .before .before .before .before .args in
       deep (a .depth) (a .turn) (a .far)
-      (c .before .before .before .before .before .before .before .before .before .before .before .before .before .before .before .before .before .before .if1 .left)
+      (c .before .before .before .before .before .before .before .before .before .before .before .before .before .before .before .before .before .if1 .left)
       (list-by
-      (lists-are (c .before .before .before .before .before .before .before .before .before .before .before .before .before .before .before .list-at .ensures)
-      (c .before .before .before .before .before .before .before .before .before .before .before .before .before .operator .given .1))
-      (c .before .before .before .before .before .before .before .before .before .before .before .if5 .taken) Bad tt
-      (run-one (c .before .before .before .before .before .before .before .before .before .before .loop .inv)
-      (outs-are (c .before .before .before .before .before .before .before .before .before .read2 .ensures)
-      (c .before .before .before .before .before .before .before .n2 .given .1))
-      (c .before .before .before .begins2 .ensures) (c .before .before .if6 .taken)
-      (rw (c .before .before .before .before .before .add-member .ensures) at (c .if7 .taken))))
+      (lists-are (c .before .before .before .before .before .before .before .before .before .before .before .before .before .before .list-at .ensures)
+      (c .before .before .before .before .before .before .before .before .before .before .before .before .operator .given .1))
+      (c .before .before .before .before .before .before .before .before .before .before .if5 .taken) Bad tt
+      (run-one (c .before .before .before .before .before .before .before .before .before .loop .inv)
+      (outs-are (c .before .before .before .before .before .before .before .before .read2 .ensures)
+      (c .before .before .before .before .before .before .n2 .given .1))
+      (c .before .before .begins2 .ensures) (c .before .if6 .taken) (omega (arith, c .if7 .taken))))
 
   add-t37 : read-lts.Need-add-t37 (claims t) (read-at t) read.Post Inv-loop μ-loop
   add-t37 c =
       omega (
         arith,
-        c .before .before .before .before .before .before .before .before .before .before .before .before .before .before .before .before .before .before .before .before .good .0 .0,
-        room (bytes ")") (c .before .before .before .begins2 .ensures) (c .before .before .if6 .taken),
+        c .before .before .before .before .before .before .before .before .before .before .before .before .before .before .before .before .before .before .before .good .0 .0,
+        room (bytes ")") (c .before .before .begins2 .ensures) (c .before .if6 .taken),
       )
 
   returns-9 : read-lts.Need-returns-9 (claims t) (read-at t) read.Post Inv-loop μ-loop
   returns-9 c =
-      let h = outs-are (c .before .before .before .before .before .before .before .before .before .read2 .ensures)
-      (c .before .before .before .before .before .before .before .n2 .given .1) in
-      let a = c .before .before .before .before .before .before .before .before .before .before .before .before .before .before .before .before .before .before .before .before .args in
+      let h = outs-are (c .before .before .before .before .before .before .before .before .read2 .ensures)
+      (c .before .before .before .before .before .before .n2 .given .1) in
+      let a = c .before .before .before .before .before .before .before .before .before .before .before .before .before .before .before .before .before .before .before .args in
       deep (a .depth) (a .turn) (a .far)
-      (c .before .before .before .before .before .before .before .before .before .before .before .before .before .before .before .before .before .before .if1 .left)
-      (rw (c .before .before .before .before .before .add-member .ensures)
+      (c .before .before .before .before .before .before .before .before .before .before .before .before .before .before .before .before .before .if1 .left)
+      (rw (c .before .before .before .before .add-member .ensures)
       (list-by
-      (lists-are (c .before .before .before .before .before .before .before .before .before .before .before .before .before .before .before .list-at .ensures)
-      (c .before .before .before .before .before .before .before .before .before .before .before .before .before .operator .given .1))
-      (c .before .before .before .before .before .before .before .before .before .before .before .if5 .taken) (Read _ _)
-      (passed-by (c .before .before .before .before .before .before .before .before .before .before .loop .inv) h (bytes ")")
-      (c .before .before .before .begins2 .ensures) (c .before .before .if6 .taken))
-      (run-closed (c .before .before .before .before .before .before .before .before .before .before .loop .inv) h
-      (c .before .before .before .begins2 .ensures) (c .before .before .if6 .taken)
-      (rw (c .before .before .before .before .before .add-member .ensures) at (c .if7 .left)))))
+      (lists-are (c .before .before .before .before .before .before .before .before .before .before .before .before .before .before .list-at .ensures)
+      (c .before .before .before .before .before .before .before .before .before .before .before .before .operator .given .1))
+      (c .before .before .before .before .before .before .before .before .before .before .if5 .taken) (Read _ _)
+      (passed-by (c .before .before .before .before .before .before .before .before .before .loop .inv) h (bytes ")")
+      (c .before .before .begins2 .ensures) (c .before .if6 .taken))
+      (run-closed (c .before .before .before .before .before .before .before .before .before .loop .inv) h
+      (c .before .before .begins2 .ensures) (c .before .if6 .taken) (λ e. omega (arith, c .if7 .left)))))
 
   slice-aggregate-begins-3 : read-lts.Need-slice-aggregate-begins-3 (claims t) (read-at t) read.Post Inv-loop μ-loop
   slice-aggregate-begins-3 c = search needs

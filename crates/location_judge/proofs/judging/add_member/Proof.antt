@@ -1,11 +1,7 @@
 -- The facts of members and one more.
-use Prim.Native.Nat.{_+_}
 use borrow.Author.Needs.{needs}
 use Rattle.location_judge.proofs.judging.add_member.Statement.{statement}
 use Rattle.location_judge.proofs.judging.add_member.Tie as tie
-
-add-t3 : tie.Need-add-t3
-add-t3 c = search needs
 
 either-requires : tie.Need-either-requires
 either-requires c κs = search needs
@@ -18,14 +14,7 @@ either-requires-3 c κs = search needs
 
 returns : tie.Need-returns
 returns c =
-    let a = c .before .before .before .before .args in
-    λ i. record {
-      operator = a .f .operator;
-      count = a .f .count + 1;
-      wrong = c .before .before .either .ensures i;
-      complemented = c .before .either2 .ensures i;
-      unjudged = c .either3 .ensures i;
-    }
+    λ i. record { wrong = c .before .before .either .ensures i; complemented = c .before .either2 .ensures i; unjudged = c .either3 .ensures i }
 
 pub add-member-spec : {M : Type 1} → statement M
-add-member-spec = tie.close (tie.spec add-t3 either-requires either-requires-2 either-requires-3 returns)
+add-member-spec = tie.close (tie.spec either-requires either-requires-2 either-requires-3 returns)
