@@ -22,6 +22,7 @@ use Rattle.ask_answers.specs.declared.LentAnswer.{LentAnswer}
 use Rattle.ask_find.specs.Finds.{SequenceIs, FeatureIs, QualifierIs}
 use Rattle.ask_find.proofs.Found.{feature-given}
 use Rattle.ask_found.specs.Answers as answers
+use Rattle.ask_found.proofs.Accepted.{accepts}
 use Rattle.ask_found.proofs.Translated.{translations-none}
 use Rattle.ask_lookups.specs.Shows.{KnowsSequence}
 
@@ -33,7 +34,7 @@ module _ {w : List ℕ} {k : ℕ} where
         a .says w k (i .asked) (i .finds) (t .says (i .asked .moltype .read) (part-shows (i .is .moltype) h)) (i .is .residues)
 
     found-knows : {known : Known} → KnowsSequence w s known → Knows w (i .asked) known
-    found-knows h = h .says k (i .asked) (i .end) (i .finds) (i .is)
+    found-knows h = h .says (i .asked) (i .end) (accepts (i .finds) .short) (i .is)
 
     pub no-lines : {out : List ℕ} → s .table .present ≡ false → TranslationsSays w k out 0 0 0 out
     no-lines h = translations-none (i .finds) (no-features (i .is) h)

@@ -1,8 +1,9 @@
 -- A part that is shown: what the answer says, and that the part is a stretch of the lent listing itself.
-use Prim.Native.Nat.{ℕ}
+use Prim.Native.Nat.{ℕ, _≤_}
 use mathlib.Core.List.{List}
+use lib.ListN.{length}
 use Rattle.paper.specs.Tree.{Sequence}
-use Rattle.paper.specs.Answers.{give, FindsSequence, SequenceSays, FeatureSays, QualifierSays}
+use Rattle.paper.specs.Answers.{limit, SequenceSays, FeatureSays, QualifierSays}
 use Rattle.walk_items.specs.Items.{IsSequence}
 use Rattle.walk_items.specs.declared.FoundSequence.{FoundSequence}
 use Rattle.judge_faults.specs.Known.{Knows}
@@ -11,7 +12,7 @@ use Rattle.ask_show.specs.Shown.{SequenceView, FeatureView, QualifierView, Show
 
 -- what is known of whichever sequence was found so
 pub record KnowsSequence (s : List ℕ) (f : FoundSequence) (r : Known) : Type 0 where
-  pub says : (k : ℕ) (q : Sequence ℕ) (e : ℕ) → FindsSequence s k (give q) → IsSequence s q e f → Knows s q r
+  pub says : (q : Sequence ℕ) (e : ℕ) → length s ≤ limit → IsSequence s q e f → Knows s q r
 
 -- ---- the listing w stands at `at`
 

@@ -1,6 +1,6 @@
 // The calls of document 01 that show a piece of an accepted listing: each is the check, a walk to the item, and its answer.
 // Any bytes, any numbers and any room may be given; nobody need check anything first.
-// Relies on the other crates of this floor, ask_find and ask_found first, and on the values for the kind.
+// Relies on the other crates of this floor, ask_find and ask_found first, and on the parts of the judge for the kind and L.
 use ask_answers::FeatureAnswer;
 use ask_answers::LentAnswer;
 use ask_answers::QualifierAnswer;
@@ -156,13 +156,13 @@ pub fn qualifier<'l, 'k>(
 
 // ---- translations
 
-// What is known of a sequence that was found.
+// What is known of a sequence that was found, as the check knows it. ask_found's `known_of` would do and read no residue; but then the
+// check alone would scan residues, the compiler would put the scan into its loop, and that takes 5 % longer (docs/SPEED.md).
 fn known_of(listing: &[u8], sequence: FoundSequence) -> Known
     ensures { λ r. ⌜ KnowsSequence (now (listing .entry)) sequence r ⌝ }
 {
-    let moltype = sequence.moltype;
-    let kind = value_words::kind_of(bytes_of(listing, moltype.from, moltype.to));
-    ask_found::known_of(kind, sequence.residues)
+    let symbols = value_residues::symbol_table();
+    judge_texts::known_of(listing, sequence.moltype, sequence.residues, &symbols)
 }
 
 // One translation at the front of out; or nothing is written.
