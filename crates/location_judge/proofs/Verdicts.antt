@@ -50,10 +50,10 @@ module _ {s : List ℕ} {top : ℕ} where
 
 -- ---- bytes that are a location are one text and no other
 
-pub read-as : {s : List ℕ} {t : Location} → Spells s t → (w : List ℕ) → s ≡ raw w → Locates t w
+read-as : {s : List ℕ} {t : Location} → Spells s t → (w : List ℕ) → s ≡ raw w → Locates t w
 read-as {t = t} x w e = subst (Locates t) (raw-once (x .text) w (sym (x .written) ∙ e)) (x .located)
 
-pub spells-once : {s : List ℕ} {t u : Location} → Spells s t → Spells s u → t ≡ u
+spells-once : {s : List ℕ} {t u : Location} → Spells s t → Spells s u → t ≡ u
 spells-once {t = t} {u} x y = locates-once t u (x .located) (read-as y (x .text) (x .written))
 
 -- the verdict on the text as read

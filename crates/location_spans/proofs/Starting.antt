@@ -124,15 +124,15 @@ low-list l order z e = low-letter l e (omega arith)
 
 -- ---- the starts
 
--- what r tells of the location t
-record Tells (s : List ℕ) (t : Location) (r : Started) : Type 0 where
+-- r is the start of the location t
+record StartIs (s : List ℕ) (t : Location) (r : Started) : Type 0 where
   operator : r .operator ≡ operatorNumber t
   walk : (L : ℕ) → breaks25 L t ≡ false → Left s L (r .walk) (spans t)
 
-starts : {s : List ℕ} {r : Started} → ((w : List ℕ) (t : Location) → RestIs s 0 w → locationRest t w [] → Tells s t r) → Starts s r
+starts : {s : List ℕ} {r : Started} → ((w : List ℕ) (t : Location) → RestIs s 0 w → locationRest t w [] → StartIs s t r) → Starts s r
 starts {s} {r} f = record { operator = λ t x. tells x .operator; walk = λ L t x q. tells x .walk L q }
   where
-    tells : {t : Location} → Spells s t → Tells s t r
+    tells : {t : Location} → Spells s t → StartIs s t r
     tells {t} x = f (x .text) t (whole (x .written)) (locates-rest (x .located))
 
 module _ {s : List ℕ} {t : Bool} (word : There (raw (bytes "complement(")) s 0 t) where
@@ -147,7 +147,7 @@ module _ {s : List ℕ} {t : Bool} (word : There (raw (bytes "complement(")) s 0
     pub start-turned : Lists s 11 list-is.No → Starts s (record { operator = 0; walk = walk.Ahead 0 })
     start-turned h = starts go
       where
-        go : (w : List ℕ) (t : Location) → RestIs s 0 w → locationRest t w [] → Tells s t (record { operator = 0; walk = walk.Ahead 0 })
+        go : (w : List ℕ) (t : Location) → RestIs s 0 w → locationRest t w [] → StartIs s t (record { operator = 0; walk = walk.Ahead 0 })
         go w (one m) st y = record { operator = refl; walk = λ L q. one-ahead L m st y q }
         go w (many true o ms) st y = let i = y .2 .1 in absurd (h .says (y .0) (within st (y .1)) o (i .0) (i .1))
         go w (many false o ms) st y = absurd (no-list (y .0) o st (y .1))
@@ -159,7 +159,7 @@ module _ {s : List ℕ} {t : Bool} (word : There (raw (bytes "complement(")) s 0
         single st true p y = let k = h .says (y .0) (within st (y .1)) in low-list (piece-low p (y .0) (y .2 .0) (y .2 .1)) (k .0) (k .2) (k .3)
         single {w} st false p y = low-letter (piece-low p w [] y) (begun (bytes "complement(") word st a .1) (omega arith)
 
-        go : (w : List ℕ) (t : Location) → RestIs s 0 w → locationRest t w [] → Tells s t (record { operator = op; walk = walk.Behind from (length s - 2) })
+        go : (w : List ℕ) (t : Location) → RestIs s 0 w → locationRest t w [] → StartIs s t (record { operator = op; walk = walk.Behind from (length s - 2) })
         go w (one m) st y = absurd (single st (m .complemented) (m .piece) y)
         go w (many false o ms) st y = absurd (no-list (y .0) o st (y .1))
         go w (many true o ms) st y =
@@ -180,7 +180,7 @@ module _ {s : List ℕ} {t : Bool} (word : There (raw (bytes "complement(")) s 0
     pub start-plain : Lists s 0 list-is.No → Starts s (record { operator = 0; walk = walk.Ahead 0 })
     start-plain h = starts go
       where
-        go : (w : List ℕ) (t : Location) → RestIs s 0 w → locationRest t w [] → Tells s t (record { operator = 0; walk = walk.Ahead 0 })
+        go : (w : List ℕ) (t : Location) → RestIs s 0 w → locationRest t w [] → StartIs s t (record { operator = 0; walk = walk.Ahead 0 })
         go w (one m) st y = record { operator = refl; walk = λ L q. one-ahead L m st y q }
         go w (many true o ms) st y = absurd (not-begun (bytes "complement(") word st a (y .0) (y .1))
         go w (many false o ms) st y = absurd (h .says w st o (y .0) (y .1))
@@ -192,7 +192,7 @@ module _ {s : List ℕ} {t : Bool} (word : There (raw (bytes "complement(")) s 0
         single st true p y = not-begun (bytes "complement(") word st a (y .0) (y .1)
         single {w} st false p y = let k = h .says w st in low-list (piece-low p w [] y) (k .0) (k .2) (k .3)
 
-        go : (w : List ℕ) (t : Location) → RestIs s 0 w → locationRest t w [] → Tells s t (record { operator = op; walk = walk.Ahead from })
+        go : (w : List ℕ) (t : Location) → RestIs s 0 w → locationRest t w [] → StartIs s t (record { operator = op; walk = walk.Ahead from })
         go w (one m) st y = absurd (single st (m .complemented) (m .piece) y)
         go w (many true o ms) st y = absurd (not-begun (bytes "complement(") word st a (y .0) (y .1))
         go w (many false o ms) st y =
