@@ -1,5 +1,6 @@
 /*
- * example FILE [INDEX]: the verdict on a listing, then the residues and the translations of each sequence.
+ * example FILE [INDEX]: the verdict on a listing, then of each sequence the residues, the features with their spans, and
+ * the translations.
  *
  * Where the sequences stand is read off the index of the listing, so that one call tells it of all. INDEX is the file of an
  * index that came with the listing; without it, one is made here.
@@ -44,6 +45,28 @@ static uint32_t number(const uint8_t *index, size_t at)
 {
     const uint8_t *byte = index + 4 * at;
     return byte[0] | (uint32_t)byte[1] << 8 | (uint32_t)byte[2] << 16 | (uint32_t)byte[3] << 24;
+}
+
+/* Prints a feature. A location of n bytes has at most n / 2 + 1 spans, and the index has n, so the room suffices. */
+static uint32_t print_feature(const uint8_t *listing, size_t length, uint64_t sequence, uint64_t feature, size_t location)
+{
+    const size_t room = 3 * (location / 2 + 1);
+    uint64_t place, key_start, key_size, location_start, location_size, count;
+    uint8_t operator_;
+    uint32_t *out = malloc(room * sizeof *out);
+    if (out == NULL)
+        return DREICHNOOK_NO_ROOM;
+    const uint32_t refusal = dreichnook_feature(listing, length, sequence, feature, out, room, &place, &key_start, &key_size,
+                                                &location_start, &location_size, &operator_, &count);
+    if (refusal == DREICHNOOK_ANSWERED) {
+        fwrite(listing + key_start, 1, (size_t)key_size, stdout);
+        for (const uint32_t *span = out; span < out + 3 * count; span += 3)
+            printf("%s %" PRIu32 " to %" PRIu32 "%s", span == out ? "" : ",", span[0], span[1],
+                   span[2] & DREICHNOOK_COMPLEMENT ? " complemented" : "");
+        putchar('\n');
+    }
+    free(out);
+    return refusal;
 }
 
 /* Prints all translations of a sequence. The size of the answer isn't known beforehand, so the room grows. */
@@ -91,7 +114,7 @@ static int print_sequences(const uint8_t *listing, size_t length, const uint8_t 
     const uint64_t total = number(index, 0);
     for (uint64_t k = 1; k <= total; k++) {
         const size_t entry = DREICHNOOK_INDEX_HEAD + DREICHNOOK_INDEX_ENTRY * (size_t)(k - 1);
-        const size_t body = number(index, entry) / 4;
+        const size_t body = number(index, entry) / 4, end = body + number(index, entry + 1) / 4;
         const uint32_t kind = number(index, body), start = number(index, body + 1), size = number(index, body + 2);
         printf("sequence %" PRIu64 ": %s", k, kinds[kind]);
         if (kind == DREICHNOOK_KIND_NONE) {
@@ -101,8 +124,14 @@ static int print_sequences(const uint8_t *listing, size_t length, const uint8_t 
         printf(", %" PRIu32 " residues\n", size);
         fwrite(listing + start, 1, size, stdout);
         putchar('\n');
-        if (print_translations(listing, length, k) != DREICHNOOK_ANSWERED) {
-            fprintf(stderr, "the translations of sequence %" PRIu64 " take too much room\n", k);
+        uint32_t refusal = DREICHNOOK_ANSWERED;
+        size_t at = body + DREICHNOOK_INDEX_BODY;
+        for (uint64_t j = 1; at < end && refusal == DREICHNOOK_ANSWERED; j++, at += DREICHNOOK_INDEX_FEATURE)
+            refusal = print_feature(listing, length, k, j, number(index, at + 3));
+        if (refusal == DREICHNOOK_ANSWERED)
+            refusal = print_translations(listing, length, k);
+        if (refusal != DREICHNOOK_ANSWERED) {
+            fprintf(stderr, "sequence %" PRIu64 " takes too much room\n", k);
             return 2;
         }
     }
