@@ -6,7 +6,6 @@ use mathlib.Core.List.{List}
 use lib.ListN.{length}
 use Rattle.paper.specs.Bytes.{raw}
 use Rattle.paper.specs.Tree.{Sequence, Feature}
-use Rattle.paper.specs.Rules.{L}
 use Rattle.paper.specs.Locations.{Location, Locates, spans, operatorNumber, breaks25}
 use Rattle.paper.specs.Answers.{refuse, give, Part, partOf, triples, front, FindsFeature, FindsLocation, FeatureSays}
 use Rattle.paper.specs.Answers as paper

@@ -5,16 +5,16 @@ use mathlib.Core.Path.{_≡_, refl, sym, ap, _∙_, subst}
 use mathlib.Core.Bool.{Bool, true, false, true≢false}
 use mathlib.Core.Logic.{inl, inr}
 use mathlib.Core.List.{List, List-discrete}
-use mathlib.Core.Option.{Option, none, some, Option·none-ne-some}
+use mathlib.Core.Option.{Option, none, some}
 use lib.ListN.{drop}
-use Rattle.paper.specs.Bytes.{bytes, raw, all}
+use Rattle.paper.specs.Bytes.{bytes, raw}
 use Rattle.paper.specs.Lists.{_∈_}
 use Rattle.paper.specs.Form.{each}
 use Rattle.paper.specs.Layout.{child, qualifier}
 use Rattle.paper.specs.Tree.{Text, Sequence, Feature, Qualifier, opt, qualifiersOf}
 use Rattle.paper.specs.Translation.{code1, codingText, dropStop, hasStopInside}
-use Rattle.paper.specs.Locations.{Location, Locates, spans, breaks25}
-use Rattle.paper.specs.Rules.{L, isSymbol, Named, Coding, Unjudged, Judged, valueRead, valuePlace, residues, rule-18, rule-24, rule-25, rule-27, rule-28}
+use Rattle.paper.specs.Locations.{Location, spans}
+use Rattle.paper.specs.Rules.{Named, Coding, Unjudged, Judged, valueRead, valuePlace, residues, rule-27, rule-28}
 use Rattle.paper.proofs.Texts.{raw-once}
 use Rattle.read_steps.specs.Follow.{Starts, closing}
 use Rattle.read_steps.specs.Parts.{ShowsBytes}

@@ -12,7 +12,7 @@ use Rattle.paper.specs.Answers.{give, FindsSequence, FindsFeature, Finds
 use Rattle.paper.specs.Index.{FindsIndex, IndexCheckSays, WithIndex}
 use Rattle.paper.specs.Demands.{AnswerOrRefusal, InListing, StatedStretch, Demand1, Demand2, OfOneFeature, Request6}
 use Rattle.paper.proofs.Lists.{in-second, in-gather, number-in}
-use Rattle.paper.proofs.Refusals.{checked, own, sequence-refused, feature-refused, qualifier-refused, location-refused, translation-refused, translations-refused, index-refused, index-check-refused, lent-ends, refusal-some}
+use Rattle.paper.proofs.Refusals.{checked, own, sequence-refused, qualifier-refused, location-refused, translation-refused, translations-refused, index-refused, index-check-refused, lent-ends, refusal-some}
 use Rattle.paper.proofs.Inside.{laid-out, accepted-inside}
 use Rattle.paper.proofs.Shown.{parts-shown, residues-stated, feature-stated}
 

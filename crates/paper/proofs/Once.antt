@@ -13,7 +13,7 @@ use Rattle.paper.specs.Lists.{Nth, Numbered, Count, end, has, lacks}
 use Rattle.paper.specs.Tree.{Qualifier, Feature, Sequence, Listing, featuresOf, qualifiersOf}
 use Rattle.paper.specs.Layout.{LaidOut}
 use Rattle.paper.specs.Values.{Number}
-use Rattle.paper.specs.Locations.{Location, Locates, spans, operatorNumber}
+use Rattle.paper.specs.Locations.{Location, Locates, spans}
 use Rattle.paper.specs.Translation.{code1, codonsFrom, codingText, dropStop, hasStopInside}
 use Rattle.paper.specs.Rules.{Skipped, Kind, dna, rna, aa, IsKind, kindName, valueRead, CodonStart, absent, stated, Codons, Broken, First}
 use Rattle.paper.specs.Answers.{Prints, page, partOf, isPresent, valuePart, triples, front, Outcome, refuse, give, Strays, Checked, too-long, strays, breaks, accepted, Counts, CheckSays, FindsSequence, FindsFeature, FindsQualifier, FindsLocation, Translates, FindsTranslation, FindsTranslations, Lines, Lent, Part, FeatureShown, shownOf, kindNumber, SequenceSays, FeatureSays, QualifierSays, TranslationSays, TranslationsSays}
