@@ -1,5 +1,7 @@
 // The answers of document 01's calls as structs; and each handed over as numbers: every number lent is set in every case.
 // Any answer may be given. Relies on the paper alone.
+#![tactic(auto)]
+
 ghost use Rattle.std.specs.Prelude.{◌≡◌};
 ghost use Rattle.ask_answers.specs.Handed.{Narrow, flag_of, HandsVerdict, HandsSequence, HandsFeature, HandsQualifier, HandsLent, HandsIndexVerdict};
 ghost use Rattle.ask_answers.specs.Stretches.{no_stretch, no_sequence_answer, no_feature_answer, no_qualifier_answer, nothing_lent};
@@ -7,7 +9,7 @@ ghost use Rattle.ask_answers.specs.Stretches.{no_stretch, no_sequence_answer, no
 use paper::Verdict;
 
 // A stretch of the listing.
-#[derive(Drop)]
+#[derive(Clone, Copy)]
 pub struct Stretch {
     pub start: usize,
     pub size: usize,
@@ -22,7 +24,7 @@ pub fn no_stretch() -> Stretch
 // ---- a sequence
 
 // Its kind, and where its residues stand; or the number of a refusal and its place.
-#[derive(Drop)]
+#[derive(Clone, Copy)]
 pub struct SequenceAnswer {
     pub number: usize,
     pub place: usize,
@@ -45,7 +47,7 @@ pub fn no_sequence(number: usize, place: usize) -> SequenceAnswer
 
 // Where its key and its location stand, the operator (0 none, 1 join, 2 order) and the number of spans; or the number of a refusal and its
 // place.
-#[derive(Drop)]
+#[derive(Clone, Copy)]
 pub struct FeatureAnswer {
     pub number: usize,
     pub place: usize,
@@ -71,7 +73,7 @@ pub fn no_feature(number: usize, place: usize) -> FeatureAnswer
 // ---- a qualifier
 
 // Where its name and its value stand, and whether it has a value; or the number of a refusal and its place.
-#[derive(Drop)]
+#[derive(Clone, Copy)]
 pub struct QualifierAnswer {
     pub number: usize,
     pub place: usize,
@@ -95,7 +97,7 @@ pub fn no_qualifier(number: usize, place: usize) -> QualifierAnswer
 // ---- lent bytes: translations, an index
 
 // The length of what is written; or the number of a refusal and its place.
-#[derive(Drop)]
+#[derive(Clone, Copy)]
 pub struct LentAnswer {
     pub number: usize,
     pub place: usize,
@@ -115,7 +117,7 @@ pub fn nothing_lent(number: usize, place: usize) -> LentAnswer
 // ---- whether an index belongs to a listing
 
 // 0; or the number of a refusal and its place.
-#[derive(Drop)]
+#[derive(Clone, Copy)]
 pub struct IndexVerdict {
     pub number: usize,
     pub place: usize,

@@ -1,4 +1,6 @@
 // The check: rules 1, 2, 10 to 29 and 40 to 42, and the counts. Relies on the layout, and on the parts of the judge.
+#![tactic(auto)]
+
 ghost use Rattle.paper.specs.Answers.{CheckSays};
 ghost use Rattle.ask_check.specs.Checks.{JudgesListing};
 

@@ -1,5 +1,7 @@
 // Finds the sequence, the feature or the qualifier of a number in an accepted listing, with the refusals 30 to 33 in their order.
 // Relies on the check, the judged header for where the sequences stand, and walk_seek for the item of a number.
+#![tactic(auto)]
+
 ghost use Rattle.ask_find.specs.Finds.{FindsFirst, SequenceAsked, FeatureAsked, QualifierAsked};
 
 use judge_header::Headed;
@@ -8,7 +10,7 @@ use walk_items::FoundSequence;
 use walk_seek::{FeatureAt, Item, Place, QualifierAt, feature_in, nth, qualifier_in};
 
 // Where the sequences of an accepted listing start, and the check's counts of sequences and of features; or its refusal.
-#[derive(Drop)]
+#[derive(Clone, Copy)]
 pub enum AcceptedAt {
     Refused {
         rule: usize,
@@ -47,7 +49,7 @@ pub fn accepted(listing: &[u8]) -> AcceptedAt
     }
 }
 
-#[derive(Drop)]
+#[derive(Clone, Copy)]
 pub enum SequenceAt {
     Refused { rule: usize, place: usize },
     Found(FoundSequence),

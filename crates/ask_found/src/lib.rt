@@ -1,6 +1,8 @@
 // The answer of an item that was found in an accepted listing, whoever found it. An answer is promised of whichever item of the paper's
 // tree was found so; of other bytes nothing is said. Relies on what is shown of a part, the spans of a location, the translations, and in
 // its proofs on what the check's acceptance says of a sequence.
+#![tactic(auto)]
+
 ghost use Rattle.ask_found.specs.Answers.{TopOf, KnowsFound, AnswersSequence, AnswersFeature, AnswersQualifier, AnswersTranslation, AnswersTranslations};
 
 use ask_answers::{FeatureAnswer, LentAnswer, QualifierAnswer, SequenceAnswer, no_feature};

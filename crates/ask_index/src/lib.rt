@@ -1,5 +1,7 @@
 // The index of request 5: made in lent bytes, and checked beside a listing. Any bytes may be given as a listing and as an index.
 // Relies on the check, for where the sequences stand and how many there are, and on index_walk for the walk that both share.
+#![tactic(auto)]
+
 ghost use Rattle.paper.specs.Index.{IndexSays, IndexCheckSays};
 ghost use Rattle.ask_index.specs.Takes.{TakesIndex};
 
@@ -34,7 +36,7 @@ pub fn index(listing: &[u8], out: &mut [u8]) -> LentAnswer
 }
 
 // Whether an index belongs to a listing.
-#[derive(Drop)]
+#[derive(Clone, Copy)]
 pub enum Taken {
     Refused { rule: usize, place: usize },
     Belongs,

@@ -1,6 +1,8 @@
 // The lookups with an index: each runs the index's checker, finds the sequence and the feature by the index's own numbers, and goes on from
 // there. Listing and index are two lent slices; whatever is shown is part of the listing. Any bytes, any numbers and any room may be given.
 // Relies on ask_index for the checker, on index_find for the numbers, and on ask_found for the answers.
+#![tactic(auto)]
+
 ghost use Rattle.paper.specs.Index.{IndexedSequenceSays, IndexedFeatureSays, IndexedQualifierSays, IndexedTranslationSays, IndexedTranslationsSays};
 ghost use Rattle.ask_answers.specs.Stretches.{part_is, shown_in, Lies};
 ghost use Rattle.ask_indexed.specs.Finds.{BodyAsked, EntryAsked};
@@ -33,7 +35,7 @@ fn find_body(listing: &[u8], index: &[u8], k: usize) -> BodyAt
 }
 
 // A feature's entry, and the body that has it.
-#[derive(Drop)]
+#[derive(Clone, Copy)]
 pub enum Entered {
     Refused { rule: usize, place: usize },
     Found { body: Body, entry: Entry },

@@ -1,6 +1,8 @@
 // The calls of document 01 that show a piece of an accepted listing: each is the check, a walk to the item, and its answer.
 // Any bytes, any numbers and any room may be given; nobody need check anything first.
 // Relies on the other crates of this floor, ask_find and ask_found first, and on the parts of the judge for the kind and L.
+#![tactic(auto)]
+
 ghost use Rattle.paper.specs.Answers.{SequenceSays, FeatureSays, QualifierSays, TranslationSays, TranslationsSays};
 ghost use Rattle.ask_answers.specs.Stretches.{part_is, shown_in, Lies};
 ghost use Rattle.ask_lookups.specs.Shows.{KnowsSequence, ShowsSequence, ShowsFeature, ShowsQualifier};

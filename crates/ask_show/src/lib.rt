@@ -1,6 +1,8 @@
 // What is shown of what the walk found: a part as a stretch of the listing, a kind as a number, a stretch as a part of the lent slice
 // itself. Any part, any stretch and any bytes may be given. Relies on walk_steps for a part and what may be missing, on value_words for a
 // kind, and on ask_answers for a stretch.
+#![tactic(auto)]
+
 ghost use Rattle.std.specs.Prelude.{◌≡◌};
 ghost use Rattle.ask_show.specs.Shown.{StretchOf, IsPresent, ValueOf, kind_is, PointsAt};
 

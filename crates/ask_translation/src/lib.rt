@@ -1,5 +1,7 @@
 // The translation of one feature of an accepted listing, into lent bytes. Where the listing gives it, it is copied: rule 28 was judged, so
 // the value is the translation. Relies on what the qualifiers of a coding region say, on its location and on the writing of a translation.
+#![tactic(auto)]
+
 ghost use Rattle.std.specs.Prelude.{◌≡◌};
 ghost use Rattle.paper.specs.Translation.{code1};
 ghost use Rattle.paper.specs.Answers.{give};
@@ -23,7 +25,7 @@ use walk_steps::{Maybe, Range};
 // ---- how it is translated
 
 // How a feature is translated.
-#[derive(Drop)]
+#[derive(Clone, Copy)]
 pub enum Plan {
     // It is no CDS of DNA or RNA.
     NoCds,
@@ -36,7 +38,7 @@ pub enum Plan {
 }
 
 // And where its qualifiers end.
-#[derive(Drop)]
+#[derive(Clone, Copy)]
 pub struct Planned {
     pub plan: Plan,
     pub next: usize,

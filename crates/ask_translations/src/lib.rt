@@ -1,6 +1,8 @@
 // All translations of a sequence of an accepted listing, a line for each feature that is a CDS, into lent bytes. One walk along the
 // features measures the lines, and the same walk writes them. Relies on the translation of one feature, the walk along the features and
 // lent_room.
+#![tactic(auto)]
+
 ghost use Rattle.std.specs.Prelude.{◌≤◌, length};
 ghost use Rattle.paper.specs.Translation.{code1};
 ghost use Rattle.protein_code.specs.Tables.{CodeTable};

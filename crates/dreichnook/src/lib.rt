@@ -2,6 +2,8 @@
 // Relies on the check, the index and the lookups with and without one, and on ask_answers, which hands their answers over as numbers: 0
 // or the number of the refusal is returned, every number pointed to is set in every case, and a part is given as start and size within the
 // lent listing.
+#![tactic(auto)]
+
 ghost use Rattle.paper.specs.Demands.{InListing};
 ghost use Rattle.paper.specs.Answers.{SequenceSays, FeatureSays, TranslationSays, TranslationsSays};
 ghost use Rattle.paper.specs.Index.{IndexSays, IndexCheckSays, IndexedSequenceSays, IndexedFeatureSays, IndexedTranslationSays, IndexedTranslationsSays};

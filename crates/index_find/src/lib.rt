@@ -1,5 +1,7 @@
 // Items of an index, found by its own numbers: the body of a sequence, and in it the entry of a feature. Any bytes may be given; a promise
 // speaks of whichever listing they are the index of, and of other bytes it says nothing. Relies on the paper for what an index is.
+#![tactic(auto)]
+
 ghost use Rattle.std.specs.Prelude.{◌<◌, ◌≡◌, get_or};
 ghost use Rattle.index_find.specs.Numbers.{number_at};
 ghost use Rattle.index_find.specs.Finds.{molecule_number, PartFound, BodyFound, EntryFound};
@@ -65,7 +67,7 @@ fn molecule(n: usize) -> Molecule
 }
 
 // A sequence: its kind, where its residues stand in the listing, where its features' entries stand in the index, and how many there are.
-#[derive(Drop)]
+#[derive(Clone, Copy)]
 pub struct Body {
     pub kind: Molecule,
     pub residues: Range,
@@ -73,7 +75,7 @@ pub struct Body {
     pub count: usize,
 }
 
-#[derive(Drop)]
+#[derive(Clone, Copy)]
 pub enum BodyAt {
     Refused { rule: usize, place: usize },
     Found(Body),
@@ -108,13 +110,13 @@ pub fn body_of(index: &[u8], k: usize) -> BodyAt
 // ---- the entry of a feature
 
 // Where its key and its location stand in the listing.
-#[derive(Drop)]
+#[derive(Clone, Copy)]
 pub struct Entry {
     pub key: Range,
     pub location: Range,
 }
 
-#[derive(Drop)]
+#[derive(Clone, Copy)]
 pub enum EntryAt {
     Missing,
     Found(Entry),

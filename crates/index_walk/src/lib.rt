@@ -1,6 +1,8 @@
 // The index of a listing that is laid out: written into lent room, or compared with bytes that are given, by one walk. Contents and bodies
 // go on side by side: a body's size is known behind its last feature. Relies on lent_room for what a pass does, on the walk along the
 // items, and on the values for a kind.
+#![tactic(auto)]
+
 ghost use Rattle.std.specs.Prelude.{◌≡◌, ◌%◌};
 ghost use Rattle.index_walk.specs.Bodies.{SizeOfPart, IsEntry, KindOfBody, IsHead, LaysFeatures, LaysBody, LaysSequences, LaysIndex};
 
@@ -61,7 +63,7 @@ fn body_head(kind: u32, residues: Range) -> [u32; 3]
 }
 
 // What was laid, and its size in bytes.
-#[derive(Drop)]
+#[derive(Clone, Copy)]
 pub struct Sized {
     pub laid: Laid,
     pub size: usize,

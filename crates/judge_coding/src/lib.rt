@@ -1,5 +1,7 @@
 // One coding region of DNA or RNA: rules 27 and 28, and whether it is judged. Relies on what is noted of its qualifiers, the walk along
 // its translations, the values, the judged location and the comparison with the translation.
+#![tactic(auto)]
+
 ghost use Rattle.paper.specs.Translation.{code1};
 ghost use Rattle.protein_code.specs.Tables.{CodeTable, Coded, code_of};
 ghost use Rattle.value_words.specs.Reading.{Tells};
@@ -16,7 +18,7 @@ use walk_items::FoundQualifier;
 use walk_steps::{Maybe, Range};
 
 // The first fault of the region, and whether it is unjudged.
-#[derive(Drop)]
+#[derive(Clone, Copy)]
 pub struct Region {
     pub fault: Fault,
     pub unjudged: bool,
@@ -68,7 +70,7 @@ fn is_settled(fault: Fault, place: usize) -> bool
 }
 
 // The first fault so far, and a value that is known to be right.
-#[derive(Drop)]
+#[derive(Clone, Copy)]
 struct SoFar {
     fault: Fault,
     right: Maybe,

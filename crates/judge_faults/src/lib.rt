@@ -1,5 +1,7 @@
 // What the parts of the judge share: the earlier of two faults, the fault of a test, counters with a cap, and what is known of a sequence
 // while its features are judged. Relies on the paper, the walk and the values.
+#![tactic(auto)]
+
 ghost use Rattle.std.specs.Prelude.{◌≡◌};
 ghost use Rattle.judge_faults.specs.Sets.{Earlier, unless_of};
 ghost use Rattle.judge_faults.specs.Counters.{up_to, up_to_two};
@@ -8,7 +10,7 @@ use value_words::Molecule;
 use walk_steps::Range;
 
 // The first broken rule of some part of a listing, if one is broken.
-#[derive(Drop)]
+#[derive(Clone, Copy)]
 pub enum Fault {
     Clean,
     At { rule: usize, place: usize },
@@ -16,7 +18,7 @@ pub enum Fault {
 
 // What is known of a sequence while its features are judged: the kind that its moltype names, L, where the first residue stands that is
 // no symbol of the kind, or behind them all, and where its residues stand.
-#[derive(Drop)]
+#[derive(Clone, Copy)]
 pub struct Known {
     pub kind: Molecule,
     pub top: u32,

@@ -1,5 +1,7 @@
 // The features of a sequence: rules 21 to 28 and 40 to 42, and the counts of features and coding regions. Relies on the walk along the
 // table, the judged location, the row of a key, one pass over the qualifiers, and the crates for words, a source and a coding region.
+#![tactic(auto)]
+
 ghost use Rattle.std.specs.Prelude.{◌≡◌};
 ghost use Rattle.paper.specs.Translation.{code1};
 ghost use Rattle.protein_code.specs.Tables.{CodeTable};
@@ -13,7 +15,7 @@ use value_words::Molecule;
 use walk_items::{FoundFeature, FoundTable};
 
 // What a feature is, for a count.
-#[derive(Drop)]
+#[derive(Clone, Copy)]
 pub enum Role {
     Source,
     Judged,
@@ -22,7 +24,7 @@ pub enum Role {
 }
 
 // The faults of a feature: its own, and those that it has if it is the only source.
-#[derive(Drop)]
+#[derive(Clone, Copy)]
 pub struct Featured {
     pub fault: Fault,
     pub source: Fault,
@@ -83,7 +85,7 @@ fn role_of(unjudged: bool) -> Role
 }
 
 // What has been judged of some features: their first fault; how many sources, 2 for more, and the faults of the last one; the counts.
-#[derive(Drop)]
+#[derive(Clone, Copy)]
 pub struct Tally {
     pub fault: Fault,
     pub source: Fault,
@@ -187,7 +189,7 @@ fn with_source(a: Tally, place: usize) -> Fault
 }
 
 // The table's faults and counts.
-#[derive(Drop)]
+#[derive(Clone, Copy)]
 pub struct Tabled {
     pub fault: Fault,
     pub features: usize,

@@ -1,4 +1,6 @@
 // The header: rules 10 to 13. Relies on the walk along it, the values and what the judge's parts share.
+#![tactic(auto)]
+
 ghost use Rattle.paper.specs.Values.{Date, Two, is_upper, is_lower};
 ghost use Rattle.judge_header.specs.Headers.{JudgesMaybe, JudgesVersion, JudgesDates, JudgesOffices, JudgesTitles, JudgesLanguages, JudgesHeader};
 
@@ -73,7 +75,7 @@ fn judge_offices(s: &[u8], office: Maybe, first: Maybe) -> Fault
 }
 
 // The first fault of some languages, and where the titles end.
-#[derive(Drop)]
+#[derive(Clone, Copy)]
 pub struct Spoke {
     pub fault: Fault,
     pub next: usize,
@@ -114,7 +116,7 @@ fn judge_languages(s: &[u8], applicant: Maybe, inventor: Maybe, titles: usize) -
 }
 
 // The first fault of the header, where the total stands, and where the first sequence does.
-#[derive(Drop)]
+#[derive(Clone, Copy)]
 pub struct Headed {
     pub fault: Fault,
     pub total: Range,

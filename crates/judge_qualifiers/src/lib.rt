@@ -2,6 +2,8 @@
 // residue its codons start (rule 27), whether it is left unjudged, from where on its translations stand (rule 28), the first name that the
 // key doesn't allow (rule 41), and whether the names that it requires are there (rule 42). A name is looked up once, and asked for by its
 // number. Relies on the walk along the qualifiers, the values, the vocabulary and the judged location; it reads no residue.
+#![tactic(auto)]
+
 ghost use Rattle.std.specs.Prelude.{◌≡◌, ◌||◌, cond};
 ghost use Rattle.value_vocabulary.specs.Tables.{VocabularyTable};
 ghost use Rattle.judge_qualifiers.specs.Qualifiers.{ValueIs, OfName, States, Frames, Excepted, Excepts, IsOrganism, IsMolType, Meets, WithWord, Notes, LeavesOut};
@@ -68,7 +70,7 @@ fn value_is(s: &[u8], value: Maybe, x: &[u8]) -> bool
 }
 
 // Where translation starts: no codon_start was seen, or one, of the value 1, 2 or 3; else rule 27 is broken.
-#[derive(Drop)]
+#[derive(Clone, Copy)]
 pub enum Frame {
     Unstated,
     Stated(usize),
@@ -194,7 +196,7 @@ fn kept(met: bool, rest: usize, next: usize) -> usize
 // ---- rules 41 and 42
 
 // The first fault of a name that the key doesn't allow, and whether the first and the second name that it requires were met.
-#[derive(Drop)]
+#[derive(Clone, Copy)]
 pub struct Worded {
     pub foreign: Fault,
     pub first: bool,
@@ -236,7 +238,7 @@ fn with_word(a: Worded, how: usize, place: usize) -> Worded
 // ---- all of them
 
 // What all qualifiers say. Of organisms and mol_types 2 stands for more. No translation stands before `rest`; they end at `next`.
-#[derive(Drop)]
+#[derive(Clone, Copy)]
 pub struct Noted {
     pub frame: Frame,
     pub excepted: bool,

@@ -1,5 +1,7 @@
 // The sequences of a listing: rules 15 to 29 and 40 to 42, and the counts. Relies on the walk along them, and on the judges of their
 // texts and features.
+#![tactic(auto)]
+
 ghost use Rattle.std.specs.Prelude.{◌≡◌};
 ghost use Rattle.paper.specs.Translation.{code1};
 ghost use Rattle.protein_code.specs.Tables.{CodeTable};
@@ -12,7 +14,7 @@ use judge_features::Tabled;
 use walk_items::FoundSequence;
 
 // One sequence, judged: its first fault, its counts, and where it ends.
-#[derive(Drop)]
+#[derive(Clone, Copy)]
 pub struct One {
     pub fault: Fault,
     pub skipped: bool,
@@ -23,7 +25,7 @@ pub struct One {
 }
 
 // Some sequences, judged.
-#[derive(Drop)]
+#[derive(Clone, Copy)]
 pub struct Total {
     pub fault: Fault,
     pub total: usize,

@@ -1,4 +1,6 @@
 // A source feature: rules 22 and 23. Relies on what is noted of its qualifiers, the values and what the judge's parts share.
+#![tactic(auto)]
+
 ghost use Rattle.judge_source.specs.Sources.{TellsOnce, JudgesSource};
 
 use judge_faults::{Fault, Known};

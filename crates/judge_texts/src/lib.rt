@@ -1,5 +1,7 @@
 // The texts of a sequence: its number, length, kind, division and residues. Rules 15 to 20 and 29, and what is known of a sequence for the
 // judgement of its features. Relies on the walk, the values, the residues and what the judge's parts share.
+#![tactic(auto)]
+
 ghost use Rattle.std.specs.Prelude.{◌≡◌, ◌≤◌, length};
 ghost use Rattle.value_residues.specs.Residues.{SymbolTable};
 ghost use Rattle.judge_texts.specs.Texts.{Sized, LengthOf, Scans, KnowsOf, JudgesNumber, TellsSkipped, TellsEmpty, TellsBlank, JudgesSymbols, JudgesResidues, JudgesTexts, names_one};

@@ -1,4 +1,6 @@
 // The words of a feature: rules 40 to 42. Relies on the row of its key in the vocabulary and on what is noted of its qualifiers.
+#![tactic(auto)]
+
 ghost use Rattle.std.specs.Prelude.{◌≡◌};
 ghost use Rattle.judge_vocabulary.specs.Words.{HasAll, JudgesRow, is_kind, JudgesWords};
 

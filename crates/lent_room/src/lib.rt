@@ -1,6 +1,8 @@
 // Content for lent room: bytes, 32-bit numbers, decimal numbers and texts as read, one behind another. The same calls measure it, write it,
 // or compare it with bytes that are given, so that content is said by one walk. Any place and any room may be given. Relies on the paper
 // for how numbers and texts are written.
+#![tactic(auto)]
+
 ghost use Rattle.std.specs.Prelude.{◌-◌, ◌≤◌, ◌<◌, ◌≡◌, length, take, drop};
 ghost use Rattle.std.proofs.lemmas.List.Edits.{sets};
 ghost use Rattle.paper.specs.Values.{decimal};
@@ -9,7 +11,7 @@ ghost use Rattle.lent_room.specs.Room.{InRoom, Agrees, Lays, LaysMore, LaysRead}
 ghost use Rattle.lent_room.specs.Spelled.{FirstCharacter};
 
 // What a pass over content does with it.
-#[derive(Drop)]
+#[derive(Clone, Copy)]
 pub enum Pass {
     // It asks whether the room holds it, and writes nothing.
     Measure,
@@ -21,14 +23,14 @@ pub enum Pass {
 
 // Whether the pass goes on, and from where. If not, where it stopped: at the room's end, or at the first place where the given bytes
 // aren't the content.
-#[derive(Drop)]
+#[derive(Clone, Copy)]
 pub struct Laid {
     pub on: bool,
     pub at: usize,
 }
 
 // A character as read, and the place behind it.
-#[derive(Drop)]
+#[derive(Clone, Copy)]
 struct Character {
     byte: u8,
     next: usize,

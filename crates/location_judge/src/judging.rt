@@ -9,7 +9,7 @@ use crate::pieces::{FoundPiece, is_wrong, piece};
 use read_bytes::begins;
 
 // What is asked of a location, for a sequence of L residues.
-#[derive(Drop)]
+#[derive(Clone, Copy)]
 pub struct Facts {
     // It breaks rule 25.
     pub wrong: bool,
@@ -20,14 +20,14 @@ pub struct Facts {
 }
 
 // Bad: it breaks rule 24.
-#[derive(Drop)]
+#[derive(Clone, Copy)]
 pub enum Judgement {
     Bad,
     Is(Facts),
 }
 
 // A location that stands at a place: the place past it, and its facts.
-#[derive(Drop)]
+#[derive(Clone, Copy)]
 enum Out {
     Bad,
     Read(usize, Facts),

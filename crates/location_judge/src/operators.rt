@@ -6,7 +6,7 @@ ghost use Rattle.location_judge.specs.Readings.{Lists};
 use read_bytes::begins;
 
 // The operator that stands at a place, by its number (1 join, 2 order), and the place of its first member.
-#[derive(Drop)]
+#[derive(Clone, Copy)]
 pub enum Listed {
     No,
     At(u32, usize),

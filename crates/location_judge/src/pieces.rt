@@ -7,14 +7,14 @@ use read_bytes::begins;
 
 // A number: the place past it, and its value, or 2^32 where that is less: so it fits, and is above every L of 32 bits exactly if the
 // value is.
-#[derive(Drop)]
+#[derive(Clone, Copy)]
 pub enum Num {
     No,
     At(usize, u64),
 }
 
 // What is kept of a segment or site.
-#[derive(Drop)]
+#[derive(Clone, Copy)]
 pub struct Reach {
     pub first: u64,
     pub last: u64,
@@ -22,7 +22,7 @@ pub struct Reach {
 }
 
 // A segment or site: the place past it, and whether it is a site, or a lone `<x` or `>x`.
-#[derive(Drop)]
+#[derive(Clone, Copy)]
 pub enum FoundPiece {
     No,
     At(usize, Reach, bool),

@@ -3,5 +3,7 @@
 // location, that keeps rule 25, the part is written from: whether it is one is asked of location_judge before. The crate relies on that
 // for the words, segments and sites at a place, on the paper for what the spans are, on read_bytes and read_steps for signs at a place
 // and the bytes of a part, and in its proofs on lent_room's laws.
+#![tactic(auto)]
+
 pub mod room;
 pub mod walking;

@@ -4,7 +4,7 @@ ghost use Rattle.location_spans.specs.Room.{CountsSpans, PutsSpans, Answers, Ans
 
 use crate::walking::{Next, Started, Walk, start, step};
 
-#[derive(Drop)]
+#[derive(Clone, Copy)]
 pub enum Answer {
     // The room is shorter than the spans.
     Short,

@@ -9,7 +9,7 @@ use location_judge::pieces::{FoundPiece, Reach, is_wrong, piece};
 use read_bytes::begins;
 
 // "triples of 32-bit numbers (first, last, marks)"
-#[derive(Drop)]
+#[derive(Clone, Copy)]
 pub struct Triple {
     pub first: u32,
     pub last: u32,
@@ -17,21 +17,21 @@ pub struct Triple {
 }
 
 // Where the spans that are left stand: from a place on; or from the second place back to the first.
-#[derive(Drop)]
+#[derive(Clone, Copy)]
 pub enum Walk {
     Done,
     Ahead(usize),
     Behind(usize, usize),
 }
 
-#[derive(Drop)]
+#[derive(Clone, Copy)]
 pub enum Next {
     Done,
     Is(Triple, Walk),
 }
 
 // What the words at the front of a location tell: its operator (0 none, 1 join, 2 order), and the walk over it.
-#[derive(Drop)]
+#[derive(Clone, Copy)]
 pub struct Started {
     pub operator: u32,
     pub walk: Walk,

@@ -6,7 +6,8 @@ use mathlib.Core.Bool.{Bool, true, false, true≢false, ◌||◌, cond, or-false
 use mathlib.Core.List.{List, [], ◌∷◌}
 use lib.Dec.{eqb}
 use borrow.Author.Tests.{eqb-true, eq-eqb}
-use Rattle.paper.specs.Bytes.{among}
+use Prim.Native.Char.{code}
+use Rattle.paper.specs.Bytes.{bytes, among}
 use Rattle.paper.specs.Translation.{all_among, shared, give_exactly, most_restrictive}
 
 among_all : (a b : List ℕ) → all_among b a ≡ true → (x : ℕ) → among a x ≡ true → among b x ≡ true
@@ -65,6 +66,6 @@ both_same c e f i = cond (e i) c (f i)
 -- two lists of the same letters have one letter
 pub restrictive_same : (l m : List ℕ) → all_among m l ≡ true → all_among l m ≡ true → most_restrictive l ≡ most_restrictive m
 restrictive_same l m h k =
-    both_same _ (exactly_same _ l m h k)
-    (both_same _ (exactly_same _ l m h k)
-    (both_same _ (exactly_same _ l m h k) (shared_same l m h k)))
+    both_same (code "B") (exactly_same (bytes "ND") l m h k)
+    (both_same (code "Z") (exactly_same (bytes "QE") l m h k)
+    (both_same (code "J") (exactly_same (bytes "IL") l m h k) (shared_same l m h k)))

@@ -1,6 +1,6 @@
 -- One answer only: two results that a call's relation allows are equal. The one thing that is not a law of the definitions alone, that
 -- bytes are laid out from at most one listing, is a parameter: the layout's reader proves it.
-use Prim.Native.Nat.{ℕ, zero, suc, ◌+◌, ◌≤◌}
+use Prim.Native.Nat.{ℕ, zero, suc, ◌≤◌}
 use native.Mathlib.Omega.{arith}
 use mathlib.Core.Path.{◌≡◌, refl, sym, ap, ◌∙◌, subst}
 use mathlib.Core.Bool.{Bool, true, false}

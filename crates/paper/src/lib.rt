@@ -1,8 +1,9 @@
 // The paper: document 01 as definitions (specs/), and laws about them (proofs/). It relies on nothing but the kit's libraries.
 // No function stands here. An answer that is an enum is declared here, so that a definition gives its numbers.
+#![tactic(auto)]
 
 // What a check answers.
-#[derive(Drop)]
+#[derive(Clone, Copy)]
 pub enum Verdict {
     Accepted {
         total: usize,

@@ -1,5 +1,7 @@
 // The program: a listing of at most 65,536 bytes from standard input, its verdict as lines on standard output.
 // Relies on the check, on the page's lines and on the kit's reading and writing.
+#![tactic(auto)]
+
 ghost use Rattle.program_page.specs.Pages.{ShowsPage};
 
 use libc::{STDIN_FILENO, STDOUT_FILENO};

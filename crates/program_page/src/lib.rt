@@ -1,4 +1,6 @@
 // The program's lines: a verdict as text in lent room. Relies on the paper and on lent_room.
+#![tactic(auto)]
+
 ghost use Rattle.std.specs.Prelude.{◌+◌, ◌≤◌, length};
 ghost use Rattle.paper.specs.Bytes.{bytes};
 ghost use Rattle.paper.specs.Answers.{page};

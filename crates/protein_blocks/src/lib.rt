@@ -1,5 +1,7 @@
 // Blocks: 64 codons at a time, in the 192 residues from a place on. A test of each residue or codon is a number, and all are joined with
 // no branch, so that each loop is compiled to vector code. It relies on the paper and on the tests of protein_code.
+#![tactic(auto)]
+
 ghost use Rattle.std.specs.Prelude.{◌≡◌, ◌+◌, ◌≤◌, length};
 ghost use Rattle.protein_code.specs.Tables.{Coded, code_of};
 ghost use Rattle.protein_blocks.specs.Blocks.{Marks, NoStop, AllPlain};

@@ -2,6 +2,8 @@
 // it at once, with tests of stops and of plain bases. All of a code that is looked up is one lent table (tables.rt), with one promise. It
 // relies on the paper and on read_bytes. A constant array is stored anew wherever it is named, so a table is named once, in the function
 // that hands it out; a public call takes it there and lends it on.
+#![tactic(auto)]
+
 mod tables;
 
 ghost use Rattle.std.specs.Prelude.{◌≡◌, ◌+◌, ◌<◌, false, slice_index};

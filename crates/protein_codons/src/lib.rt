@@ -3,6 +3,8 @@
 // lends it to each call, as `code`. `r` are the residues, `loc` the raw part of the location, `top` is L, the number of residues, and
 // `frame` the codon_start. A promise, here and in the crates above, speaks of whichever location, that keeps rule 25, the part is written
 // from.
+#![tactic(auto)]
+
 ghost use Rattle.std.specs.Prelude.{◌≡◌, true, ◌+◌, ◌*◌, ◌≤◌, ◌<◌, length, get_or};
 ghost use Rattle.protein_code.specs.Tables.{Coded, code_of};
 ghost use Rattle.protein_blocks.specs.Blocks.{AllPlain};
@@ -14,7 +16,7 @@ use protein_code::{codon, letter, plain_letter, set_of};
 
 // What is left to read: of the current span the residues from low to before high, on the complemented strand from the back; and then the
 // spans that are left of the walk.
-#[derive(Drop)]
+#[derive(Clone, Copy)]
 pub struct Reading {
     pub walk: Walk,
     pub low: usize,
@@ -22,14 +24,14 @@ pub struct Reading {
     pub turned: bool,
 }
 
-#[derive(Drop)]
+#[derive(Clone, Copy)]
 pub enum Base {
     Done,
     // The base set of the next residue of the coding text.
     Is(usize, Reading),
 }
 
-#[derive(Drop)]
+#[derive(Clone, Copy)]
 pub enum Letter {
     Done,
     Is(u8, Reading),

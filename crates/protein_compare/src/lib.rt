@@ -1,5 +1,7 @@
 // Translations compared: whether a qualifier's value is the translation (rule 28), letter after letter and without room. It relies on the
 // paper and on the reading of the coding text; parameters and the lent table are as there.
+#![tactic(auto)]
+
 ghost use Rattle.std.specs.Prelude.{◌+◌, ◌*◌, ◌≤◌, length};
 ghost use Rattle.protein_code.specs.Tables.{Coded, code_of};
 ghost use Rattle.protein_codons.specs.Reading.{span_letters, PlainBlock};

@@ -1,5 +1,7 @@
 // Translations measured: a translation's length, with no room and nothing written; and whether a stop stands inside. It relies on the
 // paper, on the reading of the coding text and on the tests of blocks; parameters and the lent table are as in protein_codons.
+#![tactic(auto)]
+
 ghost use Rattle.std.specs.Prelude.{◌≡◌, ◌+◌, ◌*◌, ◌≤◌, length};
 ghost use Rattle.protein_code.specs.Tables.{Coded, code_of};
 ghost use Rattle.protein_codons.specs.Reading.{span_letters};
@@ -9,7 +11,7 @@ ghost use Rattle.protein_measure.specs.Measuring.{Counted, size_of, Measures};
 use protein_blocks::{mark_table, stops};
 use protein_codons::{Letter, begin, block_at, ends, least, letter_at, next, onward};
 
-#[derive(Drop)]
+#[derive(Clone, Copy)]
 pub enum Size {
     // The translation's length.
     Is(usize),
@@ -20,7 +22,7 @@ pub enum Size {
 }
 
 // Letters that were counted: n of them, or more than the room holds. So no count overflows, however often a location's members repeat.
-#[derive(Drop)]
+#[derive(Clone, Copy)]
 pub struct LetterCount {
     pub n: usize,
     pub over: bool,

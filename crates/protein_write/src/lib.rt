@@ -1,5 +1,7 @@
 // Translations written: the translation in lent room. It relies on the paper, on the reading of the coding text and on its measuring,
 // and in its proofs on lent_room's laws; parameters and the lent table are as in protein_codons.
+#![tactic(auto)]
+
 ghost use Rattle.std.specs.Prelude.{◌+◌, ◌*◌, ◌≤◌, length};
 ghost use Rattle.protein_code.specs.Tables.{Coded, code_of};
 ghost use Rattle.protein_codons.specs.Reading.{Ready, span_letters, PlainBlock};

@@ -1,4 +1,6 @@
 // Bytes, wherever they are read: whether a word stands at a place, two of them as one number, and a test of two that is a number.
+#![tactic(auto)]
+
 ghost use Rattle.std.specs.Prelude.{◌≡◌, eqb};
 ghost use Rattle.read_bytes.specs.Words.{There};
 ghost use Rattle.read_bytes.specs.Numbers.{LowFirst, flag};

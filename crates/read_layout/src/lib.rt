@@ -1,5 +1,7 @@
 // The layout of a listing: rules 1 and 2. One function for each element that holds elements, in the order of document 01.
 // Relies on the definitions of the crate paper and on the steps of the crates read_steps and read_tags. Judges no value.
+#![tactic(auto)]
+
 ghost use Rattle.std.specs.Prelude.{◌≡◌};
 ghost use Rattle.paper.specs.Bytes.{bytes, is_blank};
 ghost use Rattle.paper.specs.Form.{each};
@@ -14,7 +16,7 @@ ghost use Rattle.read_layout.specs.Says.{ShapeSays};
 use read_steps::Step;
 
 // What the layout says of some bytes.
-#[derive(Drop)]
+#[derive(Clone, Copy)]
 pub enum Shape {
     Laid,
     Refused { rule: usize, place: usize },

@@ -49,6 +49,7 @@ clash_apart (a ∷ x) (b ∷ w) z y p e =
     same_head h p = rw (eq-eqb a b h) at p
 
 pub starts_apart : (x : List ℕ) (l : List (List ℕ)) (z y : List ℕ) → clashes x l ≡ true → z ≡ x ++ y → Starts l z → ⊥
+starts_apart x [] z y p e x4 = elim x4 [ ]
 starts_apart x (k ∷ l) z y p e (first v n) = clash_apart x k y v ((and-eq-true_iff (clash x k) (clashes x l)).0 p).0 (sym e ∙ n)
 starts_apart x (k ∷ l) z y p e (later n) = starts_apart x l z y ((and-eq-true_iff (clash x k) (clashes x l)).0 p).1 e n
 
@@ -59,6 +60,7 @@ not_is true e = sym e
 not_is false e = refl
 
 pub starts_sharp : (f : ℕ → Bool) (l : List (List ℕ)) → sharp f l ≡ true → (z : List ℕ) → Starts l z → Not f z
+starts_sharp f [] p z n = elim n [ ]
 starts_sharp f ([] ∷ l) p z n = absurd (false_true p)
 starts_sharp f ((b ∷ k) ∷ l) p z (first v n) =
     subst (Not f) (sym n) (not_is (f b) ((and-eq-true_iff (not (f b)) (sharp f l)).0 p).0)
@@ -102,6 +104,7 @@ begun_starts (j ∷ l) k y p = go (prefix j k) refl p (begun_starts l k y)
 
 -- fewer or longer words
 pub starts_wider : (l m : List (List ℕ)) → covers l m ≡ true → (z : List ℕ) → Starts m z → Starts l z
+starts_wider l [] p z x'' = elim x'' [ ]
 starts_wider l (k ∷ m) p z (first v n) =
     subst (Starts l) (sym n) (begun_starts l k v ((and-eq-true_iff (begun l k) (covers l m)).0 p).0)
 starts_wider l (k ∷ m) p z (later n) = starts_wider l m ((and-eq-true_iff (begun l k) (covers l m)).0 p).1 z n

@@ -1,5 +1,7 @@
 // Reading bytes: words, blanks, texts and the end, each as a step from one place to the next; and the bytes of a part.
 // Relies on the definitions of the crate paper (forms and layout) and on read_bytes. Knows no tag.
+#![tactic(auto)]
+
 ghost use Rattle.std.specs.Prelude.{◌≡◌, true, false, [], max, ◌+◌, ◌≤◌, length};
 ghost use Rattle.paper.specs.Bytes.{is_blank};
 ghost use Rattle.paper.specs.Form.{these, one};
@@ -16,7 +18,7 @@ use read_bytes::{equal, two};
 
 // The cursor of a listing, how far a reading got: `next` is where the next part starts, `far` the furthest place to which some layout
 // goes.
-#[derive(Drop)]
+#[derive(Clone, Copy)]
 pub enum Step {
     Ok { next: usize, far: usize },
     Fail(usize),

@@ -1,5 +1,7 @@
 // Tags, attributes and leaves, each as a step from one place to the next. Relies on the definitions of the crate paper (forms and layout)
 // and on the steps of the crates read_bytes and read_steps. Knows no element of the listing by name.
+#![tactic(auto)]
+
 ghost use Rattle.std.specs.Prelude.{◌≡◌, true, false};
 ghost use Rattle.paper.specs.Bytes.{is_blank};
 ghost use Rattle.paper.specs.Layout;

@@ -1,5 +1,7 @@
 // Calls of the inner crates as C functions, so that they can be compared and measured outside the prover (tests/compare, bench).
 // Relies on those crates; nothing of the product relies on it.
+#![tactic(auto)]
+
 ghost use Rattle.std.specs.Prelude.{◌≡◌};
 ghost use Rattle.paper.specs.Locations.{mark};
 ghost use Rattle.trial.specs.Numbers.{LayoutNumbers, LocationNumbers, SpansNumbers, TranslationNumbers, RightNumbers};

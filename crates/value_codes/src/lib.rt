@@ -1,5 +1,7 @@
 // The values of the header's texts: dates, and the codes of offices and languages. Each test takes the raw part of the listing, as those
 // of the crate value_words do, on whose laws it relies. It knows no element of the listing.
+#![tactic(auto)]
+
 ghost use Rattle.std.specs.Prelude.{◌≡◌};
 ghost use Rattle.paper.specs.Values.{Date, Two, is_upper, is_lower, is_leap, days_in};
 ghost use Rattle.value_words.specs.Reading.{Tells, OfRead};

@@ -1,6 +1,8 @@
 // A lent dictionary: the number of a text among those that it has, by one slot and one comparison, eight or four bytes at a time.
 // A dictionary is a part of a lent table, from a place on: a slot for each hash, with a text's number; where each text starts and how long
 // it is, in two bytes; the texts. Which texts they are, this crate doesn't know. Relies on the bytes and steps of reading.
+#![tactic(auto)]
+
 ghost use Rattle.std.specs.Prelude.{◌≡◌, ◌+◌, ◌<◌, ◌≤◌, length, drop};
 ghost use Rattle.value_dictionary.specs.Texts.{byte_of, pair_of, slot_of, FindsText};
 

@@ -1,6 +1,8 @@
 // The residues of a sequence: how many characters they are, where the first stands that is no symbol of its kind, and whether enough of
 // them are defined. Relies on the paper, on read_bytes, and on the laws of value_words: what a test tells, and what is written as it
 // reads. It calls none of the functions of value_words.
+#![tactic(auto)]
+
 ghost use Rattle.std.specs.Prelude.{◌≡◌, ◌+◌, ◌<◌, ◌≤◌, length};
 ghost use Rattle.read_bytes.specs.Numbers.{flag};
 ghost use Rattle.value_residues.specs.Residues.{NextCharacter, SameOf64, Passes, Others, Characters, HasDefined, SymbolTable, Symbols, is_outside, Strange, Block, Reach, Foreign};
@@ -9,7 +11,7 @@ use read_bytes::equal;
 use std::num::wrapping_add_u8;
 
 // Some characters, counted: those that begin with another byte than a given one, and where the next character starts.
-#[derive(Drop)]
+#[derive(Clone, Copy)]
 struct Passed {
     count: usize,
     next: usize,

@@ -2,6 +2,8 @@
 // up is one lent table (tables.rt): dictionaries of the names and of the keys of each kind, and the rows, two bits for each name. The table
 // is named once, in the function that hands it out; a public call takes it there and lends it on. Relies on the paper, the kinds of
 // value_words and the look-up of value_dictionary.
+#![tactic(auto)]
+
 mod tables;
 
 ghost use Rattle.std.specs.Prelude.{◌≡◌, ◌+◌, ◌<◌, drop};

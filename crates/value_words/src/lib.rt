@@ -1,12 +1,14 @@
 // The values of texts: numbers, words and kinds. Each test takes the raw part of the listing, and its promise speaks of
 // whichever text as read that part is written from. It relies on the paper alone, and knows no element of the listing.
+#![tactic(auto)]
+
 ghost use Rattle.std.specs.Prelude.{◌≡◌};
 ghost use Rattle.paper.specs.Values.{Number};
 ghost use Rattle.paper.specs.Rules.{Whole};
 ghost use Rattle.value_words.specs.Reading.{Tells, OfRead, Moltypes};
 
 // What a moltype names.
-#[derive(Drop)]
+#[derive(Clone, Copy)]
 pub enum Molecule {
     Dna,
     Rna,

@@ -1,6 +1,8 @@
 // The header of a listing that is known to be laid out: where the texts stand that a rule asks of, the titles, the total and the first
 // sequence. A promise speaks of whatever listing is laid out so; of other bytes it says nothing. Relies on the paper and the steps of the
 // walk, and in its proofs on the laws of read_steps and read_tags of what may follow what.
+#![tactic(auto)]
+
 ghost use Rattle.paper.specs.Bytes.{bytes, is_blank};
 ghost use Rattle.paper.specs.Layout as Form;
 ghost use Rattle.read_bytes.specs.Words.{There};
@@ -38,7 +40,7 @@ pub fn title(s: &[u8], at: usize) -> Found
 }
 
 // What is asked of an identification, and what follows it.
-#[derive(Drop)]
+#[derive(Clone, Copy)]
 pub struct FoundIdentification {
     pub office: Maybe,
     pub filed: Maybe,
@@ -116,7 +118,7 @@ fn heading(s: &[u8], at: usize) -> FoundIdentification
 }
 
 // What is asked of the root's attributes.
-#[derive(Drop)]
+#[derive(Clone, Copy)]
 pub struct FoundAttributes {
     pub version: Range,
     pub produced: Maybe,
@@ -145,7 +147,7 @@ fn attributes(s: &[u8], at: usize) -> FoundAttributes
 }
 
 // What is asked of the elements before the titles.
-#[derive(Drop)]
+#[derive(Clone, Copy)]
 pub struct FoundParties {
     pub office: Maybe,
     pub filed: Maybe,
@@ -198,7 +200,7 @@ fn line_over(s: &[u8], at: usize) -> usize
 }
 
 // What is asked of a listing's header, and where its titles start.
-#[derive(Drop)]
+#[derive(Clone, Copy)]
 pub struct FoundHeader {
     pub version: Range,
     pub produced: Maybe,

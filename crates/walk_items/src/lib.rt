@@ -1,6 +1,8 @@
 // The items of a listing that is known to be laid out: where the texts of a qualifier, a feature and a sequence stand, and what comes
 // next. A promise speaks of whatever item of the tree stands at the place; of other bytes it says nothing. Relies on the paper and the
 // steps of the walk, and in its proofs on the laws of read_steps of what may follow what.
+#![tactic(auto)]
+
 ghost use Rattle.std.specs.Prelude.{◌+◌, ◌≤◌, false, length};
 ghost use Rattle.paper.specs.Bytes.{is_blank};
 ghost use Rattle.paper.specs.Layout as Form;
@@ -13,7 +15,7 @@ use walk_steps::{Found, FoundMaybe, Maybe, Opened, Range};
 
 // ---- qualifiers and features
 
-#[derive(Drop)]
+#[derive(Clone, Copy)]
 pub struct FoundQualifier {
     pub name: Range,
     pub value: Maybe,
@@ -41,7 +43,7 @@ pub fn qualifier(s: &[u8], at: usize) -> FoundQualifier
 }
 
 // A feature's texts, and where its qualifiers stand. `long` says how its qualifiers end.
-#[derive(Drop)]
+#[derive(Clone, Copy)]
 pub struct FoundFeature {
     pub key: Range,
     pub location: Range,
@@ -196,7 +198,7 @@ fn table_end(s: &[u8], first: usize) -> usize
 // ---- sequences
 
 // A feature table that may be missing: its place, and where its features stand.
-#[derive(Drop)]
+#[derive(Clone, Copy)]
 pub struct FoundTable {
     pub present: bool,
     pub place: usize,
@@ -227,7 +229,7 @@ fn table(s: &[u8], at: usize) -> FoundTable
 }
 
 // Past other-seqids, and whether they are there.
-#[derive(Drop)]
+#[derive(Clone, Copy)]
 pub struct FoundIds {
     pub present: bool,
     pub next: usize,
@@ -253,7 +255,7 @@ fn other_ids(s: &[u8], at: usize) -> FoundIds
     }
 }
 
-#[derive(Drop)]
+#[derive(Clone, Copy)]
 pub struct FoundSequence {
     pub number: Range,
     pub declared: Range,

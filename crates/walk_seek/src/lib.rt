@@ -1,6 +1,8 @@
 // The item of a number: the sequence, feature or qualifier number k of those that stand from a place on; the feature of a sequence that
 // was found, and the qualifier of a feature that was found, with the refusals 32 and 33. Relies on the walk along the items only, not on
 // the check.
+#![tactic(auto)]
+
 ghost use Rattle.paper.specs.Bytes.{is_blank};
 ghost use Rattle.read_steps.specs.Follow.{Not};
 ghost use Rattle.walk_steps.specs.Stands.{Over};
@@ -10,7 +12,7 @@ ghost use Rattle.walk_seek.specs.Within.{FeatureFound, QualifierFound};
 use walk_items::{FoundFeature, FoundQualifier, FoundSequence};
 
 // What is asked for by its number.
-#[derive(Drop)]
+#[derive(Clone, Copy)]
 pub enum Item {
     Sequence,
     Feature,
@@ -48,7 +50,7 @@ fn item_over(s: &[u8], at: usize, item: Item) -> usize
 }
 
 // Where an item stands.
-#[derive(Drop)]
+#[derive(Clone, Copy)]
 pub enum Place {
     Missing,
     At(usize),
@@ -82,7 +84,7 @@ pub fn nth(s: &[u8], first: usize, k: usize, item: Item) -> Place
 
 // ---- in what was found
 
-#[derive(Drop)]
+#[derive(Clone, Copy)]
 pub enum FeatureAt {
     Refused {
         rule: usize,
@@ -110,7 +112,7 @@ pub fn feature_in(listing: &[u8], sequence: FoundSequence, j: usize) -> FeatureA
     }
 }
 
-#[derive(Drop)]
+#[derive(Clone, Copy)]
 pub enum QualifierAt {
     Refused { rule: usize, place: usize },
     Found(FoundQualifier),

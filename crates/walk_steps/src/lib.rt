@@ -2,6 +2,8 @@
 // children of an element. Each says where its text stands, and what comes next. What is known to stand is passed by its length and not
 // compared again. A promise speaks of whatever stands at the place; of other bytes it says nothing. Relies on the paper, on
 // read_bytes, read_steps and read_tags for what it compares or passes, and in its proofs on their laws of what may follow what.
+#![tactic(auto)]
+
 ghost use Rattle.std.specs.Prelude.{◌≡◌, ◌+◌, ◌≤◌, false, length, slice_index};
 ghost use Rattle.paper.specs.Bytes.{is_blank};
 ghost use Rattle.paper.specs.Layout as Form;
@@ -11,14 +13,14 @@ ghost use Rattle.read_steps.specs.Texts.{allowed_in, is_plain, Scanned};
 ghost use Rattle.walk_steps.specs.Stands.{Past, others, tag_of, TellsChild, Ends, Finds, FindsContent, FindsIf, FindsMaybe, FindsLast, entering, leaving, shutting, OpensSo, FindsAttribute, FindsAttributeMaybe};
 
 // A text of the listing, from its first byte to the one behind its last.
-#[derive(Drop)]
+#[derive(Clone, Copy)]
 pub struct Range {
     pub from: usize,
     pub to: usize,
 }
 
 // A text, and where what follows it starts.
-#[derive(Drop)]
+#[derive(Clone, Copy)]
 pub struct Found {
     pub part: Range,
     pub next: usize,
@@ -136,13 +138,13 @@ pub fn leaf(s: &[u8], at: usize, name: &[u8]) -> Found
 }
 
 // A text that may be missing.
-#[derive(Drop)]
+#[derive(Clone, Copy)]
 pub enum Maybe {
     Absent,
     Present(Range),
 }
 
-#[derive(Drop)]
+#[derive(Clone, Copy)]
 pub struct FoundMaybe {
     pub part: Maybe,
     pub next: usize,
@@ -221,7 +223,7 @@ pub fn leave(s: &[u8], at: usize, name: &[u8]) -> usize
 }
 
 // An element that may be missing, or written `<X/>`: where its children stand if it is `long`, and what follows it if it isn't.
-#[derive(Drop)]
+#[derive(Clone, Copy)]
 pub struct Opened {
     pub present: bool,
     pub long: bool,

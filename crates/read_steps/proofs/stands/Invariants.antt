@@ -1,0 +1,12 @@
+-- `read_steps::stands` meets its contract. The loop's invariant: the text has the first `i` bytes of the word. The measure is what is
+-- left of the word.
+use Rattle.read_bytes.proofs.Words.{Alike}
+use lib.ListN.{length}
+use Prim.Native.Nat.{◌-◌, ◌≤◌}
+use Rattle.read_steps.proofs.stands.Given as goal
+
+abbrev pub invariant-loop-i : goal.invariant-loop-i
+invariant-loop-i l = (l.i ≤ length l.x) × Alike l.x l.s l.at l.i
+
+abbrev pub decreases-loop-i : goal.decreases-loop-i
+decreases-loop-i l = length l.x - l.i
