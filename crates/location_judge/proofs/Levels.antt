@@ -123,7 +123,7 @@ turned_facts_lem (one m) h = record { wrong = h.wrong; complemented = refl; unju
 turned_facts_lem (many c join ms) h = record { wrong = h.wrong; complemented = refl; unjudged = h.unjudged }
 turned_facts_lem (many c order ms) h = record { wrong = h.wrong; complemented = refl; unjudged = h.unjudged }
 
-module _ {s : List ℕ} {at top : ℕ} {c l : Bool} {fc fl : List ℕ → Got Location} {t : Bool} (word : There (raw (bytes "complement(")) s at t) (e : t ≡ true) where
+module _ {s : List ℕ} {at top : ℕ} (c l : Bool) (fc fl : List ℕ → Got Location) {t : Bool} (word : There (raw (bytes "complement(")) s at t) (e : t ≡ true) where
   pub comp_not : c ≡ false → Outs s at top (within fc fl c l) out-is.Bad
   comp_not k =
       record {
@@ -171,7 +171,7 @@ module _ {s : List ℕ} {at top : ℕ} {c l : Bool} {fc fl : List ℕ → Got Lo
 
 -- ---- no word, and a list
 
-module _ {s : List ℕ} {at top : ℕ} {c l : Bool} {fc fl : List ℕ → Got Location} {t : Bool} (word : There (raw (bytes "complement(")) s at t) (e : t ≡ false) where
+module _ {s : List ℕ} {at top : ℕ} (c l : Bool) (fc fl : List ℕ → Got Location) {t : Bool} (word : There (raw (bytes "complement(")) s at t) (e : t ≡ false) where
   pub level_leaf : Lists s at list-is.No → {r : Out} → Outs s at top (leaf l) r → Outs s at top (within fc fl c l) r
   level_leaf h {r} k =
       record {
@@ -179,7 +179,7 @@ module _ {s : List ℕ} {at top : ℕ} {c l : Bool} {fc fl : List ℕ → Got Lo
         says = λ w st. out_by s top r (within_else fc fl c l w (not_begun (bytes "complement(") word st e) (h.says w st)) (k.says w st);
       }
 
-module _ {s : List ℕ} {at top : ℕ} {c l : Bool} {fc fl : List ℕ → Got Location} {op from : ℕ} (h : Lists s at (list-is.At op from)) where
+module _ {s : List ℕ} {at top : ℕ} (c l : Bool) (fc fl : List ℕ → Got Location) {op from : ℕ} (h : Lists s at (list-is.At op from)) where
   pub list_by : l ≡ true → (r : Out) → out_within s at r
       → ((o : Operator) → op ≡ number_of o → (z : List ℕ) → RestIs s from z → OutSays s top (gather fl o z) r) → Outs s at top (within fc fl c l) r
   list_by k r i f =

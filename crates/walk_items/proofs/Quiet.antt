@@ -184,6 +184,7 @@ first_ending {s} {at} {r} f = record { is = ends }
 
     -- where the end tag stands
     ended : (e : ℕ) → Starts table_closing (drop e s) → (e + 6 < length s) × EndingAt s e
+    ended e (Rattle.read_steps.specs.Follow.later x4) = elim x4 [ ]
     ended e (first y h) = (
       omega (arith, length-drop e s, ap length h),
       (sym (byte e) ∙ ap (λ (u : List ℕ). get_or u 0 0) h, sym (get_or-drop e s 6 0) ∙ ap (λ (u : List ℕ). get_or u 6 0) h),

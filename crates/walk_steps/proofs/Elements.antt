@@ -114,6 +114,7 @@ child_tells {s} {at} {p} byte i n =
     record { inside = λ h. i; tells = λ name c. record { other = λ h st. ends (drop at s) refl st; none = λ h. absurd (true≢false h) } }
   where
     ends : (z : List ℕ) → drop at s ≡ z → Starts closing z → ⊥
+    ends z e (later x4) = elim x4 [ ]
     ends z e (first y g) = n (sym (second s at (bytes "</") y byte (e ∙ g)))
 
 pub end_tells : {s : List ℕ} {at p : ℕ} → p ≡ get_or s (at + 1) 0 → p ≡ 47 → TellsChild s at false
@@ -285,6 +286,7 @@ module _ {A : Type 0} (name : List ℕ) (nothing : A → Type 0) (C : A → Form
             record { stop = u.0; children = wider (held-as x) (from en v.2); follows = closing_first (drop u.0 s) cl; ends = join u.2 after }
           where
             closing_first : (z : List ℕ) → Starts closing z → Starts (bytes "</" ∷ l) z
+            closing_first z (later x8) = elim x8 [ ]
             closing_first z (first y h) = first y h
 
     pub within : {at : ℕ} {here : Bool} {r : Opened} → TellsTag name l s at here → OpensSo name here s at r → (o : Option A) → Stands (maybe (child E) o) s at e

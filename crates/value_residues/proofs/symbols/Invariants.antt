@@ -1,0 +1,11 @@
+-- `value_residues::symbols` meets its contract. The loop's invariant: each byte passed is a symbol of the class. The measure is what is
+-- left.
+use Rattle.value_residues.specs.Residues.{Reach}
+use Rattle.std.proofs.Common.{◌-◌, length}
+use Rattle.value_residues.proofs.symbols.Given as goal
+
+abbrev pub invariant-loop-i : goal.invariant-loop-i
+invariant-loop-i l = Reach l.w l.class 0 l.i
+
+abbrev pub decreases-loop-i : goal.decreases-loop-i
+decreases-loop-i l = length l.w - l.i
