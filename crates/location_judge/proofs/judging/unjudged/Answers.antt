@@ -3,6 +3,7 @@ use mathlib.Core.Path.{sym, ◌∙◌}
 use mathlib.Core.Logic.{⊎_elim}
 use Rattle.location_judge.proofs.Signs.{decided, scanned_all, here, scanned_comma, scanned_other}
 use Rattle.location_judge.proofs.judging.unjudged.Goals as goal
+use Rattle.location_judge.proofs.judging.unjudged.Goals.{then-b-eq44+else-is_lone, else-b-eq44}
 
 pub returns-then-b-eq100 : goal.returns-then-b-eq100
 returns-then-b-eq100 c = decided (here c.loop-i.invariant c.loop-i-test.true (code "d") c.if-b-eq100.true)
@@ -20,10 +21,12 @@ pub loop-i-preserved : goal.loop-i-preserved
 loop-i-preserved c =
     let p = c.loop-i.invariant in
     let h = c.loop-i-test.true in
-    ⊎_elim
-    (λ w. scanned_comma p h w.0.taken w.1.ensures w.2.left w.3 w.4)
-    (λ w. scanned_other p h c.if-b-eq100.false c.if-b-eq94.false w.0.left (w.3 ∙ w.1.ensures) (w.4 ∙ w.2.ensures))
-    c.if-b-eq44.branch
+    elim c.if-b-eq44.branch [
+      then-b-eq44+else-is_lone w ↦ scanned_comma p h w.if-b-eq44.true w.is_lone.ensures w.if-is_lone.false w.signed-is w.ranged-is
+    | else-b-eq44 w ↦
+        scanned_other p h c.if-b-eq100.false c.if-b-eq94.false w.if-b-eq44.false (w.signed-is ∙ w.either-signed.ensures)
+        (w.ranged-is ∙ w.either-ranged.ensures)
+    ]
 
 pub returns : goal.returns
 returns c = scanned_all c.loop-i.invariant c.loop-i-test.false c.is_lone-2.ensures
