@@ -10,5 +10,5 @@ returns c =
     let bytes_of = c.bytes_of in
     let kind-of = c.kind_of-kind in
     knows bytes_of.ensures kind-of.ensures c.bytes_of-w.ensures
-    c.before_foreign-n.ensures c.length_of.ensures ?c.before.type_size.ensures
+    c.before_foreign-n.ensures c.length_of.ensures c.size_of-top.ensures
     c.wrapping_add_usize-foreign.ensures.value

@@ -22,10 +22,10 @@ loop-i-preserved c =
     let p = c.loop-i.invariant in
     let h = c.loop-i-test.true in
     elim c.if-b-eq44.branch [
-      then-b-eq44+else-is_lone w ↦ scanned_comma p h w.if-b-eq44.true w.is_lone.ensures w.if-is_lone.false w.signed-is w.ranged-is
-    | else-b-eq44 w ↦
-        scanned_other p h c.if-b-eq100.false c.if-b-eq94.false w.if-b-eq44.false (w.signed-is ∙ w.either-signed.ensures)
-        (w.ranged-is ∙ w.either-ranged.ensures)
+      | then-b-eq44+else-is_lone w ↦ scanned_comma p h w.if-b-eq44.true w.is_lone.ensures w.if-is_lone.false w.signed-is w.ranged-is
+      | else-b-eq44 w ↦
+          scanned_other p h c.if-b-eq100.false c.if-b-eq94.false w.if-b-eq44.false (w.signed-is ∙ w.either-signed.ensures)
+          (w.ranged-is ∙ w.either-ranged.ensures)
     ]
 
 pub returns : goal.returns
