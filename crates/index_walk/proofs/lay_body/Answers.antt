@@ -1,6 +1,6 @@
 -- Its head, and then its features' entries.
 use Rattle.std.proofs.Common.{◌∙◌}
-use borrow.Author.Tests.{not-false}
+use borrow.Author.Tests.{not-true, not-false}
 use Rattle.index_walk.proofs.Bodies.{body_head, skipped_none, table_none, body_features}
 use Rattle.index_walk.proofs.lay_body.Goals as goal
 
@@ -25,7 +25,7 @@ returns-then-not-table c =
     let body-head' = c.body_head-numbers in
     let lay-more = c.lay_more-laid in
     body_head kind-of-body.ensures body-head'.ensures lay-more.ensures
-    (table_none kind-of-body.ensures body-head'.ensures lay-more.ensures c.if-kind-eq0.false (c.if-not-table.true))
+    (table_none kind-of-body.ensures body-head'.ensures lay-more.ensures c.if-kind-eq0.false (not-true _ c.if-not-table.true))
 
 pub shape_of-room : goal.shape_of-room
 shape_of-room c =
