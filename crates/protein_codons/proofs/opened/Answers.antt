@@ -1,0 +1,12 @@
+-- A span as a reading: none of it where it ends before it starts, else all of it.
+use Rattle.protein_codons.proofs.Residues.{opens_none, opens_some}
+use Rattle.protein_codons.proofs.opened.Goals as goal
+
+pub returns-then-x : goal.returns-then-x
+returns-then-x c = opens_none c.args.x c.args.walk c.if-x.true
+
+pub returns : goal.returns
+returns c =
+    let args = c.args in
+    let pre' = c.requires in
+    opens_some args.x args.walk (pre') c.if-x.false

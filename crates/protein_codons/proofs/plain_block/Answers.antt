@@ -1,0 +1,26 @@
+-- The tests of the block's residues.
+use Prim.Native.Nat.{ℕ}
+use native.Mathlib.Omega.{arith}
+use mathlib.Core.Path.{sym, subst}
+use mathlib.Core.Bool.{true≢false}
+use borrow.Author.Tests.{eqb-true}
+use Rattle.protein_blocks.specs.Blocks.{AllPlain}
+use Rattle.protein_codons.proofs.plain_block.Goals as goal
+
+pub overflow_sub-r : goal.overflow_sub-r
+overflow_sub-r c = omega (arith, c.block_at-at.ensures.1)
+
+pub returns-then-r-at-lt193 : goal.returns-then-r-at-lt193
+returns-then-r-at-lt193 c = λ e. absurd (true≢false (sym e))
+
+pub strange-requires : goal.strange-requires
+strange-requires c = omega (arith, c.block_at-at.ensures.1)
+
+pub returns : goal.returns
+returns c =
+    λ e.
+    let at = c.block_at-at.ensures.0 in
+    record {
+      room = omega (arith, at, c.block_at-at.ensures.1);
+      plain = subst (λ (at : ℕ). AllPlain c.args.r.now at 192) at (c.strange.ensures (eqb-true c.strange.result 0 e));
+    }
