@@ -48,7 +48,7 @@ def antt():
 
 def is_made(path):
     """A proof of one function: what it declares is named after Rattle's goals."""
-    return os.path.basename(path) in ("Proof.antt", "Answers.antt", "Invariants.antt")
+    return "/proofs/" in path and os.path.basename(path) in ("Proof.antt", "Answers.antt", "Invariants.antt")
 
 
 def snake(name):

@@ -4,7 +4,9 @@
 
 ghost use Rattle.program_page.specs.Pages.{ShowsPage};
 
-use libc::{STDIN_FILENO, STDOUT_FILENO};
+// Standard input and output, as every process has them.
+const STDIN_FILENO: i32 = 0;
+const STDOUT_FILENO: i32 = 1;
 
 // What is printed for a listing, at the front of lent room: how many bytes.
 fn print(listing: &[u8], out: &mut [u8; 256]) -> usize
