@@ -61,6 +61,7 @@ module _ (k : Kind) (l : List (Qualifier ℕ)) (o : List ℕ → ℕ) (below : (
   lacks (u ∷ v ∷ []) few true true s t true h = λ x. two x.0 x.1 x.2
     where
       two : (w : List ℕ) → w ∈ (u ∷ v ∷ []) → ((q : Qualifier ℕ) → q ∈ l → ¬ CountsAs k q.name.read w) → ⊥
+      two w (suc (suc _), e) n = elim e [ ]
       two w (zero, e) n = n s.0 s.1 (stands_first (o _) (below _) u (counted (upper_in k) s.0.name.read) (v ∷ []) few s.2 ∙ sym e)
       two w (suc zero, e) n = n t.0 t.1 (stands_second (o _) (below _) u (counted (upper_in k) t.0.name.read) v t.2 ∙ sym e)
   lacks (u ∷ v ∷ []) few true true s t false h = absurd (h ((λ z. refl), (λ z. refl)))
