@@ -3,7 +3,7 @@ use Rattle.std.specs.Prelude.{ℕ, ◌≡◌, List, length, drop}
 use Rattle.paper.specs.Form.{each}
 use Rattle.paper.specs.Tree.{Qualifier, Sequence, Listing}
 use Rattle.paper.specs.Layout.{child, sequence}
-use Rattle.paper.specs.Answers.{refuse, give, Checked, everyFeature, FindsSequence, FindsFeature, FindsQualifier}
+use Rattle.paper.specs.Answers.{refuse, give, Checked, every_feature, FindsSequence, FindsFeature, FindsQualifier}
 use Rattle.read_steps.specs.Follow.{Starts, closing}
 use Rattle.walk_steps.specs.Stands.{Stands}
 use Rattle.walk_items.specs.Items.{IsSequence, IsQualifier}
@@ -26,7 +26,7 @@ pub record FirstIs (w : List ℕ) (at total features : ℕ) : Type 0 where
   pub listing : Listing ℕ
   pub accepted : Checked w (give listing)
   pub totals : total ≡ length listing.sequences
-  pub featured : features ≡ length (everyFeature listing)
+  pub featured : features ≡ length (every_feature listing)
   pub end : ℕ
   pub sequences : Stands (each (child sequence) listing.sequences) w at end
   pub closes : Starts closing (drop end w)

@@ -9,7 +9,7 @@ use Rattle.paper.specs.Lists.{◌∈◌}
 use Rattle.paper.specs.Tree.{Sequence, Feature, features_of}
 use Rattle.paper.specs.Rules.{dna, rna, aa, IsKind, InTexts, InFeature}
 use Rattle.paper.specs.Rules as Rules
-use Rattle.paper.specs.Answers.{limit, give, kindNumber, FindsSequence, FindsFeature}
+use Rattle.paper.specs.Answers.{limit, give, kind_number, FindsSequence, FindsFeature}
 use Rattle.paper.specs.Answers as paper
 use Rattle.value_words.specs.Reading.{KindIs}
 use Rattle.value_words.specs.declared.Molecule.{Molecule}
@@ -58,7 +58,7 @@ named {q = q} a = by (is? dna) (is? rna) (is? aa)
 pub record KindOf (q : Sequence ℕ) (c : Molecule) : Type 0 where
   pub kind : Rules.Kind
   pub is : IsKind kind q
-  pub number : kind_is c ≡ kindNumber kind
+  pub number : kind_is c ≡ kind_number kind
 
 pub kind_found : {w : List ℕ} {q : Sequence ℕ} (c : Molecule) → Accepts w q → KindIs q.moltype.read c → KindOf q c
 kind_found Dna a h = record { kind = dna; is = h; number = refl }

@@ -3,7 +3,7 @@ use Prim.Native.Nat.{ℕ}
 use mathlib.Core.Path.{◌≡◌, sym, ◌∙◌, subst, subst₂}
 use mathlib.Core.Bool.{Bool}
 use mathlib.Core.List.{List}
-use Rattle.paper.specs.Answers.{refuse, isPresent, FindsSequence, FindsQualifier, SequenceSays, QualifierSays}
+use Rattle.paper.specs.Answers.{refuse, is_present, FindsSequence, FindsQualifier, SequenceSays, QualifierSays}
 use Rattle.paper.specs.Answers as paper
 use Rattle.value_words.specs.declared.Molecule.{Molecule}
 use Rattle.walk_steps.specs.declared.Range.{Range}
@@ -47,7 +47,7 @@ qualifier_located {x = x} {y} a t v =
           let n = a.says w q.name is.name in
           let z = v.says w q.value is.value in (
             subst (λ (b : Bool). QualifierSays w k j i 0 0 (part_is x) b (part_is y)) (sym (t.says w q.value is.value))
-                (subst₂ (λ (x y : paper.Part). QualifierSays w k j i 0 0 x (isPresent q.value) y) (sym n.0) (sym z.0) (paper.found finds)),
+                (subst₂ (λ (x y : paper.Part). QualifierSays w k j i 0 0 x (is_present q.value) y) (sym n.0) (sym z.0) (paper.found finds)),
             (n.1, z.1),
           );
     }

@@ -25,7 +25,7 @@ use Rattle.ask_found.specs.Answers.{FeatureGiven, TopOf, AnswersFeature}
 use Rattle.ask_found.proofs.Accepted.{feature_keeps}
 
 -- nothing is shown of a refusal, and the lent numbers stay as they are
-nothing_given : {w : List ℕ} {k j n p : ℕ} {out : List ℕ} {r : FeatureAnswer} → r ≡ no_feature_answer n p → FeatureSays w k j out n p paper.nothingShown out
+nothing_given : {w : List ℕ} {k j n p : ℕ} {out : List ℕ} {r : FeatureAnswer} → r ≡ no_feature_answer n p → FeatureSays w k j out n p paper.nothing_shown out
     → FeatureGiven w k j out r out
 nothing_given {w} {k} {j} {out = out} e h = subst (λ (r : FeatureAnswer). FeatureGiven w k j out r out) (sym e) (h, (lies_none w, lies_none w))
 

@@ -6,7 +6,7 @@ use mathlib.Core.List.{List}
 use Rattle.paper.specs.Tree.{Sequence}
 use Rattle.paper.specs.Rules.{Kind, dna, rna, aa, IsKind}
 use Rattle.paper.specs.Rules as Rules
-use Rattle.paper.specs.Answers.{kindNumber}
+use Rattle.paper.specs.Answers.{kind_number}
 use Rattle.paper.specs.Answers as paper
 use Rattle.paper.proofs.Index.{kind_in_lem}
 use Rattle.value_words.specs.Reading.{KindIs}
@@ -22,7 +22,7 @@ use Rattle.ask_indexed.specs.Finds.{BodyHere}
 use Rattle.ask_indexed.proofs.Found.{residues_part}
 
 -- the kind of a number is the one that the moltype names
-kind_numbered : (q : Sequence ℕ) (c : Molecule) (d : Kind) → molecule_number c ≡ kindNumber d → IsKind d q → KindIs q.moltype.read c
+kind_numbered : (q : Sequence ℕ) (c : Molecule) (d : Kind) → molecule_number c ≡ kind_number d → IsKind d q → KindIs q.moltype.read c
 kind_numbered q Dna dna e h = h
 kind_numbered q Dna rna e h = absurd (omega (arith, e))
 kind_numbered q Dna aa e h = absurd (omega (arith, e))

@@ -8,7 +8,7 @@ use mathlib.Core.Option.{Option, none, some}
 use lib.ListN.{length, take, drop, length-append, length-drop}
 use Rattle.paper.specs.Bytes.{raw}
 use Rattle.paper.specs.Tree.{Text}
-use Rattle.paper.specs.Answers.{isPresent, valuePart}
+use Rattle.paper.specs.Answers.{is_present, value_part}
 use Rattle.walk_steps.specs.Stands.{MaybeIs}
 use Rattle.walk_steps.specs.declared.Range.{Range}
 use Rattle.walk_steps.specs.declared.Maybe.TheVariants.{Absent, Present}
@@ -41,28 +41,28 @@ lies_none w = omega arith
 pub present_none : IsPresent Absent false
 present_none = record { says = λ s o h. none_so s o h }
   where
-    none_so : (s : List ℕ) (o : Option (Text ℕ)) → MaybeIs s o Absent → false ≡ isPresent o
+    none_so : (s : List ℕ) (o : Option (Text ℕ)) → MaybeIs s o Absent → false ≡ is_present o
     none_so s none h = refl
     none_so s (some x) h = absurd h
 
 pub present_some : (p : Range) → IsPresent (Present p) true
 present_some p = record { says = λ s o h. some_so s o h }
   where
-    some_so : (s : List ℕ) (o : Option (Text ℕ)) → MaybeIs s o (Present p) → true ≡ isPresent o
+    some_so : (s : List ℕ) (o : Option (Text ℕ)) → MaybeIs s o (Present p) → true ≡ is_present o
     some_so s none h = absurd h
     some_so s (some x) h = refl
 
 pub value_none : ValueOf Absent no_stretch
 value_none = record { says = λ s o h. none_so s o h }
   where
-    none_so : (s : List ℕ) (o : Option (Text ℕ)) → MaybeIs s o Absent → (part_is no_stretch ≡ valuePart o) × Lies s no_stretch
+    none_so : (s : List ℕ) (o : Option (Text ℕ)) → MaybeIs s o Absent → (part_is no_stretch ≡ value_part o) × Lies s no_stretch
     none_so s none h = (refl, lies_none s)
     none_so s (some x) h = absurd h
 
 pub value_some : {p : Range} {r : Stretch} → StretchOf p r → ValueOf (Present p) r
 value_some {p} {r} t = record { says = λ s o h. some_so s o h }
   where
-    some_so : (s : List ℕ) (o : Option (Text ℕ)) → MaybeIs s o (Present p) → (part_is r ≡ valuePart o) × Lies s r
+    some_so : (s : List ℕ) (o : Option (Text ℕ)) → MaybeIs s o (Present p) → (part_is r ≡ value_part o) × Lies s r
     some_so s none h = absurd h
     some_so s (some x) h = t.says s x h
 

@@ -3,7 +3,7 @@
 use Rattle.std.specs.Prelude.{ℕ, ◌+◌, ◌-◌, ◌≤◌, ◌<◌, ◌≡◌, Bool, List}
 use Rattle.std.proofs.Math.Option.{Option}
 use Rattle.paper.specs.Tree.{Text}
-use Rattle.paper.specs.Answers.{shown, no_part, part_of, isPresent, valuePart}
+use Rattle.paper.specs.Answers.{shown, no_part, part_of, is_present, value_part}
 use Rattle.paper.specs.Answers as paper
 use Rattle.value_words.specs.declared.Molecule.{Molecule}
 use Rattle.value_words.specs.declared.Molecule.TheVariants.{Dna, Rna, Aa, Other}
@@ -20,10 +20,10 @@ pub record StretchOf (p : Range) (r : Stretch) : Type 0 where
   pub says : (s : List ℕ) (x : Text ℕ) → IsPart s x p → (part_is r ≡ part_of x) × Lies s r
 
 pub record IsPresent (p : Maybe) (r : Bool) : Type 0 where
-  pub says : (s : List ℕ) (o : Option (Text ℕ)) → MaybeIs s o p → r ≡ isPresent o
+  pub says : (s : List ℕ) (o : Option (Text ℕ)) → MaybeIs s o p → r ≡ is_present o
 
 pub record ValueOf (p : Maybe) (r : Stretch) : Type 0 where
-  pub says : (s : List ℕ) (o : Option (Text ℕ)) → MaybeIs s o p → (part_is r ≡ valuePart o) × Lies s r
+  pub says : (s : List ℕ) (o : Option (Text ℕ)) → MaybeIs s o p → (part_is r ≡ value_part o) × Lies s r
 
 abbrev pub kind_is : Molecule → ℕ
 kind_is Dna = 1

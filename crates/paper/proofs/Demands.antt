@@ -8,7 +8,7 @@ use mathlib.Core.Option.{Option, none, some}
 use mathlib.Core.List.{List, [], ◌∷◌}
 use Rattle.paper.specs.Lists.{◌∈◌, gather, present}
 use Rattle.paper.specs.Tree.{Text, Qualifier, Feature, Sequence, features_of, qualifiers_of, qualifier_texts, feature_texts}
-use Rattle.paper.specs.Answers.{give, FindsSequence, FindsFeature, FindsQualifier, FindsLocation, FindsTranslation, FindsTranslations, Part, FeatureShown, no_part, part_of, valuePart, SequenceSays, FeatureSays, QualifierSays, TranslationSays, TranslationsSays, NoSequence, NoFeature, NoQualifier, NothingWritten}
+use Rattle.paper.specs.Answers.{give, FindsSequence, FindsFeature, FindsQualifier, FindsLocation, FindsTranslation, FindsTranslations, Part, FeatureShown, no_part, part_of, value_part, SequenceSays, FeatureSays, QualifierSays, TranslationSays, TranslationsSays, NoSequence, NoFeature, NoQualifier, NothingWritten}
 use Rattle.paper.specs.Index.{FindsIndex, IndexCheckSays, WithIndex}
 use Rattle.paper.specs.Demands.{AnswerOrRefusal, InListing, StatedStretch, Demand1, Demand2, OfOneFeature, Request6}
 use Rattle.paper.proofs.Lists.{in_second, in_gather, number_in}
@@ -91,7 +91,7 @@ module _ {w : List ℕ} where
   qualifier_parts (QualifierSays.refused c) = (omega arith, omega arith)
   qualifier_parts (QualifierSays.found {q = q} c) = (qualifier_inside c q.name (0, refl), of_value q.value (λ t m. qualifier_inside c t (suc m.0, m.1)))
     where
-      of_value : (o : Option (Text ℕ)) → ((t : Text ℕ) → t ∈ present o → InListing w (part_of t)) → InListing w (valuePart o)
+      of_value : (o : Option (Text ℕ)) → ((t : Text ℕ) → t ∈ present o → InListing w (part_of t)) → InListing w (value_part o)
       of_value none h = omega arith
       of_value (some t) h = h t (0, refl)
 

@@ -12,7 +12,7 @@ use Rattle.paper.specs.Lists.{◌∈◌, gather}
 use Rattle.paper.specs.Tree.{Text, Feature, Sequence, Listing, features_of}
 use Rattle.paper.specs.Layout.{LaidOut}
 use Rattle.paper.specs.Rules.{Skipped, Kind, dna, rna, aa, IsKind}
-use Rattle.paper.specs.Answers.{give, Checked, everyFeature, part_of, kindNumber}
+use Rattle.paper.specs.Answers.{give, Checked, every_feature, part_of, kind_number}
 use Rattle.paper.specs.Demands.{InListing}
 use Rattle.paper.specs.Index.{little_end, in_bytes, size_of, place_and_length, is_skipped, is_of, kind_in, feature_entry, body_of, entries, first_body, contents_of, index_of}
 use Rattle.paper.proofs.Texts.{same_is}
@@ -62,7 +62,7 @@ module _ (s : Sequence ℕ) where
   pub kind_skipped : Skipped s → kind_in s ≡ 0
   kind_skipped k = rw (is_skipped_lem k)
 
-  pub kind_in_lem : (d : Kind) → IsKind d s → ¬ Skipped s → kind_in s ≡ kindNumber d
+  pub kind_in_lem : (d : Kind) → IsKind d s → ¬ Skipped s → kind_in s ≡ kind_number d
   kind_in_lem dna e u = rw (not_skipped u, e)
   kind_in_lem rna e u = rw (not_skipped u, e)
   kind_in_lem aa e u = rw (not_skipped u, e)
@@ -70,7 +70,7 @@ module _ (s : Sequence ℕ) where
   pub kind_none : kind_in s ≡ 0 → Skipped s
   kind_none e = by (is_skipped s) refl e
     where
-      some_kind : (a b : Bool) → ¬ (cond a (kindNumber dna) (cond b (kindNumber rna) (kindNumber aa)) ≡ 0)
+      some_kind : (a b : Bool) → ¬ (cond a (kind_number dna) (cond b (kind_number rna) (kind_number aa)) ≡ 0)
       some_kind true b e = omega arith
       some_kind false true e = omega arith
       some_kind false false e = omega arith
@@ -128,7 +128,7 @@ index_ends l =
     )
 
 module _ {w : List ℕ} {l : Listing ℕ} where
-  pub index_size : Checked w (give l) → length (index_of l) ≡ 4 + 20 * length l.sequences + 16 * length (everyFeature l)
+  pub index_size : Checked w (give l) → length (index_of l) ≡ 4 + 20 * length l.sequences + 16 * length (every_feature l)
   index_size c = omega (arith, index_ends l, length_bodies l.sequences (accepted_body c))
 
   -- it takes at most a quarter of what the listing takes
@@ -148,7 +148,7 @@ entry_most f start (x ∷ l) n (suc (suc i), e) =
 pub kind_small : (s : Sequence ℕ) → kind_in s < 4
 kind_small s = by (is_skipped s) (is_of dna s) (is_of rna s)
   where
-    by : (a b c : Bool) → cond a 0 (cond b (kindNumber dna) (cond c (kindNumber rna) (kindNumber aa))) < 4
+    by : (a b c : Bool) → cond a 0 (cond b (kind_number dna) (cond c (kind_number rna) (kind_number aa))) < 4
     by true b c = omega arith
     by false true c = omega arith
     by false false true = omega arith

@@ -16,7 +16,7 @@ use Rattle.paper.specs.Values.{Number}
 use Rattle.paper.specs.Locations.{Location, Locates, spans}
 use Rattle.paper.specs.Translation.{code1, codons_from, coding_text, drop_stop, has_stop_inside}
 use Rattle.paper.specs.Rules.{Skipped, Kind, dna, rna, aa, IsKind, kind_name, value_read, CodonStart, absent, stated, Codons, Broken, First}
-use Rattle.paper.specs.Answers.{Prints, page, part_of, isPresent, valuePart, triples, front, Outcome, refuse, give, Strays, Checked, too_long, strays, breaks, accepted, Counts, CheckSays, FindsSequence, FindsFeature, FindsQualifier, FindsLocation, Translates, FindsTranslation, FindsTranslations, Lines, Lent, Part, FeatureShown, shown_of, kindNumber, SequenceSays, FeatureSays, QualifierSays, TranslationSays, TranslationsSays}
+use Rattle.paper.specs.Answers.{Prints, page, part_of, is_present, value_part, triples, front, Outcome, refuse, give, Strays, Checked, too_long, strays, breaks, accepted, Counts, CheckSays, FindsSequence, FindsFeature, FindsQualifier, FindsLocation, Translates, FindsTranslation, FindsTranslations, Lines, Lent, Part, FeatureShown, shown_of, kind_number, SequenceSays, FeatureSays, QualifierSays, TranslationSays, TranslationsSays}
 use Rattle.paper.specs.Index.{index_of, agree, FindsIndex, IndexSays, ChecksIndex, IndexCheckSays, WithIndex, IndexedSequenceSays, IndexedFeatureSays, IndexedQualifierSays, IndexedTranslationSays, IndexedTranslationsSays}
 use Rattle.paper.specs.declared.Verdict.{Verdict}
 use Rattle.paper.specs.declared.Verdict.TheVariants.{Accepted, Refused}
@@ -279,7 +279,7 @@ module _ {w : List ℕ} (once : (l m : Listing ℕ) → LaidOut l w → LaidOut 
     sequence_once (SequenceSays.found d b i) (SequenceSays.refused a) = absurd (not_both (finds_sequence_once a b))
     sequence_once (SequenceSays.found {s = s} d a h) (SequenceSays.found {s = t} e b i) =
         let z : s ≡ t = same_given (finds_sequence_once a b) in
-        (refl, refl, ap kindNumber (kind_once s d e h (subst (λ (x : Sequence ℕ). IsKind e x) (sym z) i)), λ i. part_of (z i).residues)
+        (refl, refl, ap kind_number (kind_once s d e h (subst (λ (x : Sequence ℕ). IsKind e x) (sym z) i)), λ i. part_of (z i).residues)
 
     pub finds_translations_once : {a b : Outcome (List ℕ)} → FindsTranslations w k a → FindsTranslations w k b → a ≡ b
     finds_translations_once (FindsTranslations.earlier a) (FindsTranslations.earlier b) = same_refused (finds_sequence_once a b)
@@ -374,7 +374,7 @@ module _ {w : List ℕ} (once : (l m : Listing ℕ) → LaidOut l w → LaidOut 
       qualifier_once (QualifierSays.found b) (QualifierSays.refused a) = absurd (not_both (finds_qualifier_once a b))
       qualifier_once (QualifierSays.found a) (QualifierSays.found b) =
           let z = same_given (finds_qualifier_once a b) in
-          (refl, refl, (λ i. part_of (z i).name), (λ i. isPresent (z i).value), λ i. valuePart (z i).value)
+          (refl, refl, (λ i. part_of (z i).name), (λ i. is_present (z i).value), λ i. value_part (z i).value)
 
   -- ---- lookups with an index
 

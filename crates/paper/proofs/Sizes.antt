@@ -11,7 +11,7 @@ use Rattle.paper.specs.Form.{Form, lit, ◌·◌, ◌∪◌, given, each, each�
 use Rattle.paper.specs.Lists.{gather}
 use Rattle.paper.specs.Tree.{Text, Feature, Table, Sequence, Listing, features_in, features_of}
 use Rattle.paper.specs.Layout.{blanks, text, tag, close, attribute, content, leaf, spoken, child, child?, holding, quals, feature, table, other_ids, inner, sequence, attributes, parties, doctype, LaidOut}
-use Rattle.paper.specs.Answers.{everyFeature}
+use Rattle.paper.specs.Answers.{every_feature}
 use Rattle.paper.proofs.Least.{AtLeast, any, enough, word, ◌⊗◌}
 use Rattle.paper.proofs.Lists.{length-map, total}
 
@@ -118,7 +118,7 @@ rooms (s ∷ l) = omega (arith, length_featured s l, rooms l)
 
 -- ---- the listing: its first line takes four times what the count of sequences takes
 
-pub listing_room : {w : List ℕ} {l : Listing ℕ} → LaidOut l w → 4 * (4 + 20 * length l.sequences + 16 * length (everyFeature l)) ≤ length w
+pub listing_room : {w : List ℕ} {l : Listing ℕ} → LaidOut l w → 4 * (4 + 20 * length l.sequences + 16 * length (every_feature l)) ≤ length w
 listing_room {w} {l} laid =
     let name = bytes "ST26SequenceListing" in
     let before = parties l · each⁺ (child (spoken (bytes "InventionTitle"))) l.titles · child (leaf (bytes "SequenceTotalQuantity")) l.total in

@@ -17,7 +17,7 @@ use Rattle.paper.specs.Layout.{blanks, leaf, root, doctype, LaidOut}
 use Rattle.paper.specs.Locations.{Member, Operator, Location, many, Locates, spans, span_of, breaks25}
 use Rattle.paper.specs.Vocabulary.{Row, nucleotide_rows, nucleotide_names, amino_rows, amino_names, is_one_of, counted}
 use Rattle.paper.specs.Rules.{L, Skipped, Kind, dna, rna, aa, is_symbol, upper_in, value_read, vocabulary, InResidues, rule_18, rule_19}
-use Rattle.paper.specs.Answers.{limit, Checked, Counts, CheckSays, kindNumber, page, Prints}
+use Rattle.paper.specs.Answers.{limit, Checked, Counts, CheckSays, kind_number, page, Prints}
 use Rattle.paper.specs.Index.{in_bytes, body_of, contents_of, agree}
 use Rattle.paper.specs.declared.Verdict.TheVariants.{Accepted, Refused}
 use Rattle.paper.proofs.Accepted.{listing, tree, laid}
@@ -91,7 +91,7 @@ longest : (16777216 ≤ limit) × (limit < 16777217)
 longest = (omega arith, omega arith)
 
 -- the numbers of the kinds, as the header tells them to the box
-kinds : (kindNumber dna ≡ 1) × (kindNumber rna ≡ 2) × (kindNumber aa ≡ 3)
+kinds : (kind_number dna ≡ 1) × (kind_number rna ≡ 2) × (kind_number aa ≡ 3)
 kinds = (refl, refl, refl)
 
 -- "or `verdict refused`, `rule 2`, `place 0` (this is empty input, whole)"

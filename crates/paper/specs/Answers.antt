@@ -43,8 +43,8 @@ pub data Checked (w : List ℕ) : Outcome (Listing ℕ) → Type 0 where
   accepted : {l : Listing ℕ} → length w ≤ limit → LaidOut l w → ((n p : ℕ) → ¬ Broken l n p) → Checked w (give l)
 
 -- every feature of a listing, with its sequence
-abbrev pub everyFeature : {P : Type 0} → Listing P → List (Sequence P × Feature P)
-everyFeature {P} l =
+abbrev pub every_feature : {P : Type 0} → Listing P → List (Sequence P × Feature P)
+every_feature {P} l =
     gather (λ (s : Sequence P). map {A = Feature P} {B = Sequence P × Feature P} (λ f. (s, f)) (features_of s)) l.sequences
 
 abbrev pub JudgedCds : {P : Type 0} → Sequence P × Feature P → Type 0
@@ -57,9 +57,9 @@ UnjudgedCds x = Coding x.0 x.1 × Unjudged x.1
 pub record Counts {P : Type 0} (l : Listing P) (total skipped features judged unjudged : ℕ) : Type 0 where
   pub totals : total ≡ length l.sequences
   pub skips : Count Skipped l.sequences skipped
-  pub featured : features ≡ length (everyFeature l)
-  pub judges : Count JudgedCds (everyFeature l) judged
-  pub unjudges : Count UnjudgedCds (everyFeature l) unjudged
+  pub featured : features ≡ length (every_feature l)
+  pub judges : Count JudgedCds (every_feature l) judged
+  pub unjudges : Count UnjudgedCds (every_feature l) unjudged
 
 -- "Check: accepted, with total, skipped, features, judged CDSs, unjudged CDSs; or rule and place."
 abbrev pub CheckSays : List ℕ → Verdict → Type 0
@@ -161,10 +161,10 @@ no_part = record { start = 0; size = 0 }
 abbrev pub part_of : Text ℕ → Part
 part_of t = record { start = t.place; size = length (raw t.read) }
 
-abbrev pub kindNumber : Kind → ℕ
-kindNumber dna = 1
-kindNumber rna = 2
-kindNumber aa = 3
+abbrev pub kind_number : Kind → ℕ
+kind_number dna = 1
+kind_number rna = 2
+kind_number aa = 3
 
 -- what is shown of a feature beside its spans
 pub record FeatureShown : Type 0 where
@@ -173,15 +173,15 @@ pub record FeatureShown : Type 0 where
   pub operator : ℕ
   pub count : ℕ
 
-abbrev pub nothingShown : FeatureShown
-nothingShown = record { key = no_part; location = no_part; operator = 0; count = 0 }
+abbrev pub nothing_shown : FeatureShown
+nothing_shown = record { key = no_part; location = no_part; operator = 0; count = 0 }
 
 -- what a refusal shows and changes
 abbrev pub NoSequence : (kind : ℕ) (residues : Part) → Type 0
 NoSequence d r = (d ≡ 0) × (r ≡ no_part)
 
 abbrev pub NoFeature : FeatureShown → (out after : List ℕ) → Type 0
-NoFeature x out after = (x ≡ nothingShown) × (after ≡ out)
+NoFeature x out after = (x ≡ nothing_shown) × (after ≡ out)
 
 abbrev pub NoQualifier : (name : Part) (present : Bool) (value : Part) → Type 0
 NoQualifier a b v = (a ≡ no_part) × (b ≡ false) × (v ≡ no_part)
@@ -192,7 +192,7 @@ NothingWritten z out after = (z ≡ 0) × (after ≡ out)
 -- "Sequence: its kind, and its residues as the part of the lent listing."
 pub data SequenceSays (w : List ℕ) (k : ℕ) : (number place kind : ℕ) (residues : Part) → Type 0 where
   refused : {n p : ℕ} → FindsSequence w k (refuse n p) → SequenceSays w k n p 0 no_part
-  found : {s : Sequence ℕ} (d : Kind) → FindsSequence w k (give s) → IsKind d s → SequenceSays w k 0 0 (kindNumber d) (part_of s.residues)
+  found : {s : Sequence ℕ} (d : Kind) → FindsSequence w k (give s) → IsKind d s → SequenceSays w k 0 0 (kind_number d) (part_of s.residues)
 
 -- "Feature: its key and location parts."; "Spans of a feature: operator (none, join, order), count, triples into lent 32-bit numbers.";
 -- and of request 6 of 02: "Merge the two calls: one answer with key part, location part, operator, count and spans, refusals in 01's
@@ -205,25 +205,25 @@ abbrev pub shown_of : Feature ℕ → Location → FeatureShown
 shown_of f t = record { key = part_of f.key; location = part_of f.location; operator = operator_number t; count = length (spans t) }
 
 pub data FeatureSays (w : List ℕ) (k j : ℕ) (out : List ℕ) : (number place : ℕ) → FeatureShown → (after : List ℕ) → Type 0 where
-  refused : {n p : ℕ} → FindsLocation w k j (refuse n p) → FeatureSays w k j out n p nothingShown out
+  refused : {n p : ℕ} → FindsLocation w k j (refuse n p) → FeatureSays w k j out n p nothing_shown out
   short : {f : Feature ℕ} {t : Location} → FindsLocation w k j (give (f, t)) → length out < length (triples (spans t))
-      → FeatureSays w k j out 34 0 nothingShown out
+      → FeatureSays w k j out 34 0 nothing_shown out
   found : {f : Feature ℕ} {t : Location} → FindsLocation w k j (give (f, t)) → length (triples (spans t)) ≤ length out
       → FeatureSays w k j out 0 0 (shown_of f t) (front (triples (spans t)) out)
 
 -- "Qualifier: its name part, whether a value is present, and its part (empty if absent)."
-abbrev pub isPresent : Option (Text ℕ) → Bool
-isPresent none = false
-isPresent (some t) = true
+abbrev pub is_present : Option (Text ℕ) → Bool
+is_present none = false
+is_present (some t) = true
 
-abbrev pub valuePart : Option (Text ℕ) → Part
-valuePart none = no_part
-valuePart (some t) = part_of t
+abbrev pub value_part : Option (Text ℕ) → Part
+value_part none = no_part
+value_part (some t) = part_of t
 
 pub data QualifierSays (w : List ℕ) (k j i : ℕ) : (number place : ℕ) (name : Part) (present : Bool) (value : Part) → Type 0 where
   refused : {n p : ℕ} → FindsQualifier w k j i (refuse n p) → QualifierSays w k j i n p no_part false no_part
   found : {q : Qualifier ℕ} → FindsQualifier w k j i (give q)
-      → QualifierSays w k j i 0 0 (part_of q.name) (isPresent q.value) (valuePart q.value)
+      → QualifierSays w k j i 0 0 (part_of q.name) (is_present q.value) (value_part q.value)
 
 -- "One translation into lent bytes, with its length."
 pub record TranslationSays (w : List ℕ) (k j : ℕ) (out : List ℕ) (number place size : ℕ) (after : List ℕ) : Type 0 where
@@ -239,8 +239,8 @@ pub record TranslationsSays (w : List ℕ) (k : ℕ) (out : List ℕ) (number pl
 
 -- ---- the program: "reads standard input up to 65,536 bytes and prints these lines, byte 10 after each"
 
-abbrev pub programLimit : ℕ
-programLimit = 65536
+abbrev pub program_limit : ℕ
+program_limit = 65536
 
 abbrev pub line : List ℕ → ℕ → List ℕ
 line word n = word ++ (bytes " " ++ (decimal n ++ bytes "\n"))
@@ -254,5 +254,5 @@ page (Refused n p) = bytes "verdict refused\n" ++ (line (bytes "rule") n ++ line
 
 -- what is printed for the bytes w: ".. More bytes give the one line `verdict too long for this program`."
 pub data Prints (w : List ℕ) : List ℕ → Type 0 where
-  too_long : programLimit < length w → Prints w (bytes "verdict too long for this program\n")
-  verdict : (v : Verdict) → length w ≤ programLimit → CheckSays w v → Prints w (page v)
+  too_long : program_limit < length w → Prints w (bytes "verdict too long for this program\n")
+  verdict : (v : Verdict) → length w ≤ program_limit → CheckSays w v → Prints w (page v)

@@ -6,7 +6,7 @@ use Rattle.paper.specs.Bytes.{bytes, same, raw}
 use Rattle.paper.specs.Lists.{gather}
 use Rattle.paper.specs.Tree.{Text, Feature, Sequence, Listing, features_of}
 use Rattle.paper.specs.Rules.{Kind, dna, rna, aa, kind_name}
-use Rattle.paper.specs.Answers.{Outcome, refuse, give, Checked, Lent, kindNumber, Part, FeatureShown, SequenceSays, FeatureSays, QualifierSays, TranslationSays, TranslationsSays, NoSequence, NoFeature, NoQualifier, NothingWritten}
+use Rattle.paper.specs.Answers.{Outcome, refuse, give, Checked, Lent, kind_number, Part, FeatureShown, SequenceSays, FeatureSays, QualifierSays, TranslationSays, TranslationsSays, NoSequence, NoFeature, NoQualifier, NothingWritten}
 
 -- ---- "All numbers are 32-bit, little-endian; .."
 
@@ -35,7 +35,7 @@ is_of k s = same s.moltype.read (bytes (kind_name k))
 
 -- "kinds are 0 skipped, 1 DNA, 2 RNA, 3 AA"; an accepted sequence that isn't skipped has one of these (rule 16)
 abbrev pub kind_in : Sequence ℕ → ℕ
-kind_in s = cond (is_skipped s) 0 (cond (is_of dna s) (kindNumber dna) (cond (is_of rna s) (kindNumber rna) (kindNumber aa)))
+kind_in s = cond (is_skipped s) 0 (cond (is_of dna s) (kind_number dna) (cond (is_of rna s) (kind_number rna) (kind_number aa)))
 
 -- "for each feature the places and lengths of key and location"
 abbrev pub feature_entry : Feature ℕ → List ℕ
