@@ -1,0 +1,12 @@
+-- `judge_features::judge_features` meets its contract. The loop's invariant: what has been seen is added up. The measure is what is left
+-- of the text.
+use Prim.Native.Nat.{◌-◌}
+use lib.ListN.{length}
+use Rattle.judge_features.proofs.Sums.{Adding}
+use Rattle.judge_features.proofs.judge_features.Given as goal
+
+abbrev pub invariant-loop-x : goal.invariant-loop-x
+invariant-loop-x l = Adding l.s l.first l.at l.known l.tally
+
+abbrev pub decreases-loop-x : goal.decreases-loop-x
+decreases-loop-x l = length l.s - l.at
