@@ -6,6 +6,7 @@ ghost use Rattle.program_page.specs.Pages.{ShowsPage};
 
 // Standard input and output, as every process has them.
 const STDIN_FILENO: i32 = 0;
+
 const STDOUT_FILENO: i32 = 1;
 
 // What is printed for a listing, at the front of lent room: how many bytes.
