@@ -45,7 +45,7 @@ pub fn sequence<'l>(
     place: &mut usize,
     kind: &mut u8,
 ) -> &'l [u8]
-    ensures { ShowsSequence listing.now listing.entry.ref_ptr k (record { number = number.exit.now; place = place.new; kind = kind.new; residues = record { bytes = result.now; ptr = result.ref_ptr } }) }
+    ensures { ShowsSequence listing.now listing.entry.ref_ptr k (record { number = number.new; place = place.new; kind = kind.new; residues = record { bytes = result.now; ptr = result.ref_ptr } }) }
 {
     let SequenceAnswer {
         number: n,
@@ -90,7 +90,7 @@ pub fn feature<'l, 'k>(
     operator: &mut u32,
     count: &mut usize,
 ) -> &'l [u8]
-    ensures { ShowsFeature listing.now listing.entry.ref_ptr k j out.old (record { number = number.exit.now; place = place.new; key = record { bytes = key.new.now; ptr = key.new.ptr }; location = record { bytes = result.now; ptr = result.ref_ptr }; operator = operator.new; count = count.new; after = out.new }) }
+    ensures { ShowsFeature listing.now listing.entry.ref_ptr k j out.old (record { number = number.new; place = place.new; key = record { bytes = key.new.now; ptr = key.new.ref_ptr }; location = record { bytes = result.now; ptr = result.ref_ptr }; operator = operator.new; count = count.new; after = out.new }) }
 {
     let FeatureAnswer {
         number: n,
@@ -131,7 +131,7 @@ pub fn qualifier<'l, 'k>(
     present: &mut bool,
     name: &'k mut &'l [u8],
 ) -> &'l [u8]
-    ensures { ShowsQualifier listing.now listing.entry.ref_ptr k j i (record { number = number.exit.now; place = place.new; name = record { bytes = name.new.now; ptr = name.new.ptr }; present = present.new; value = record { bytes = result.now; ptr = result.ref_ptr } }) }
+    ensures { ShowsQualifier listing.now listing.entry.ref_ptr k j i (record { number = number.new; place = place.new; name = record { bytes = name.new.now; ptr = name.new.ref_ptr }; present = present.new; value = record { bytes = result.now; ptr = result.ref_ptr } }) }
 {
     let QualifierAnswer {
         number: n,
