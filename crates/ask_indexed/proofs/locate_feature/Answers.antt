@@ -14,4 +14,3 @@ returns-in-Found c =
     let args = c.args in
     let find-entry = c.find_entry in
     let p = feature_answered (subst (EntryAsked args.listing.now args.index.now args.k args.j) c.in-Found.is find-entry.ensures) c.feature_answer.ensures in record { indexed_feature_says = p.0; lies = p.1 }
-

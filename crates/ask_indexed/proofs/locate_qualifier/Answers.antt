@@ -22,4 +22,3 @@ returns-in-Found-qualifier_in c =
     let find-entry = c.find_entry in
     let feature_from = c.feature_from-feature in
     let p = qualifier_answered (subst (EntryAsked args.listing.now args.index.now args.k args.j) c.in-Found.is find-entry.ensures) feature_from.ensures c.qualifier_in.ensures c.in-Found-qualifier_in.is c.qualifier_answer.ensures in record { indexed_qualifier_says = p.0; lies = p.1 }
-

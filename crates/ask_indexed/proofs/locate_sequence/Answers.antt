@@ -13,4 +13,3 @@ pub returns-in-Found : goal.returns-in-Found
 returns-in-Found c =
     let args = c.args in
     let p = sequence_answered (subst (BodyAsked args.listing.now args.index.now args.k) c.in-Found.is c.find_body.ensures) c.sequence_answer.ensures in record { indexed_sequence_says = p.0; lies = p.1 }
-
