@@ -7,7 +7,7 @@ use mathlib.Core.List.{List, [], ◌∷◌}
 use lib.Dec.{eqb}
 use borrow.Author.Tests.{eqb-true, eq-eqb}
 use Prim.Native.Char.{code}
-use Rattle.paper.specs.Bytes.{bytes, among}
+use Rattle.paper.specs.Bytes.{among}
 use Rattle.paper.specs.Translation.{all_among, shared, give_exactly, most_restrictive}
 
 among_all : (a b : List ℕ) → all_among b a ≡ true → (x : ℕ) → among a x ≡ true → among b x ≡ true
@@ -59,13 +59,8 @@ exactly_same those l m h k = go (give_exactly those l) (give_exactly those m) re
     go false true e f = sym e ∙ from m l k h f
     go false false e f = refl
 
--- of two choices with the same test and the same otherwise
-both_same : (c : ℕ) {p q : Bool} {x y : ℕ} → p ≡ q → x ≡ y → cond p c x ≡ cond q c y
-both_same c e f i = cond (e i) c (f i)
-
 -- two lists of the same letters have one letter
 pub restrictive_same : (l m : List ℕ) → all_among m l ≡ true → all_among l m ≡ true → most_restrictive l ≡ most_restrictive m
 restrictive_same l m h k =
-    both_same (code "B") (exactly_same (bytes "ND") l m h k)
-    (both_same (code "Z") (exactly_same (bytes "QE") l m h k)
-    (both_same (code "J") (exactly_same (bytes "IL") l m h k) (shared_same l m h k)))
+    let e : (those : List ℕ) → give_exactly those l ≡ give_exactly those m = λ those. exactly_same those l m h k in
+    simp (e, shared_same l m h k)

@@ -65,10 +65,13 @@ broken_ruled (sequence k q i h) = in_sequence h
     in_sequence (SequenceBy.table u h) = in_table h
     in_sequence (SequenceBy.rule_29 u h) = of_value 29 (omega arith) (omega arith)
 
+broken_value : {l : Listing ℕ} {n p : ℕ} → Broken l n p → Refusal n p
+broken_value h = ruled (broken_ruled h)
+
 pub checked : {w : List ℕ} {n p : ℕ} → Checked w (refuse n p) → Refusal n p
 checked (Checked.too_long h) = Refusal.too_long
 checked (Checked.strays h s) = Refusal.not_laid_out
-checked (Checked.breaks l h d f) = ruled (broken_ruled f.broken)
+checked (Checked.breaks l h d f) = broken_value f.broken
 
 -- one of the lookups' own
 pub own : (n : ℕ) → 30 ≤ n → n ≤ 37 → Refusal n 0
