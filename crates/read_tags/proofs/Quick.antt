@@ -1,5 +1,5 @@
 -- A tag that stands there with no blank in it is read as any tag: one step for the words of it, and no step for the blanks.
-use Prim.Native.Nat.{ℕ, ◌+◌, ◌<◌, max}
+use Prim.Native.Nat.{ℕ, ◌+◌, max}
 use native.Mathlib.Omega.{arith}
 use mathlib.Core.Path.{◌≡◌, refl, sym, ap, ◌∙◌}
 use mathlib.Core.Bool.{false}

@@ -1,7 +1,6 @@
 -- `value_codes::is_two` meets its contract: by the tests of the length and of both bytes.
 use native.Mathlib.Omega.{arith}
 use mathlib.Core.Path.{sym, ◌∙◌}
-use borrow.Author.Tests.{not-true, not-false}
 use Rattle.value_codes.specs.Parts.{between}
 use Rattle.value_codes.proofs.Pairs.{two_not, two_is}
 use Rattle.value_codes.proofs.is_two.Goals as goal

@@ -1,7 +1,6 @@
 -- `value_codes::two_digits` meets its contract: by the tests of both bytes.
 use native.Mathlib.Omega.{arith}
 use mathlib.Core.Path.{sym, ◌∙◌}
-use borrow.Author.Tests.{not-true, not-false}
 use Rattle.paper.proofs.Decimal.{digit_bounds}
 use Rattle.value_codes.proofs.Dates.{two_value, first_none, second_none}
 use Rattle.value_codes.proofs.two_digits.Goals as goal

@@ -1,6 +1,5 @@
 -- `value_residues::sweep` meets its contract.
 use Rattle.value_residues.proofs.Residues.{reach_join}
-use Rattle.std.proofs.Common.{⊎_elim, arith}
 use Rattle.value_residues.proofs.sweep.Goals as goal
 
 pub returns : goal.returns

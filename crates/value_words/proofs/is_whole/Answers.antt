@@ -3,7 +3,6 @@ use Prim.Native.Nat.{ℕ}
 use native.Mathlib.Omega.{arith}
 use mathlib.Core.Bool.{false}
 use mathlib.Core.Path.{refl, sym, subst}
-use borrow.Author.Tests.{not-true, not-false}
 use Rattle.paper.specs.Rules.{Whole}
 use Rattle.paper.specs.Bytes.{bytes}
 use Rattle.value_words.specs.Reading.{OfRead}
