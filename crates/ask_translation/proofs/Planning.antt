@@ -14,7 +14,7 @@ use Rattle.paper.specs.Layout.{child, qualifier}
 use Rattle.paper.specs.Tree.{Text, Sequence, Feature, Qualifier, opt, qualifiers_of}
 use Rattle.paper.specs.Translation.{code1, coding_text, drop_stop, has_stop_inside}
 use Rattle.paper.specs.Locations.{Location, spans}
-use Rattle.paper.specs.Rules.{Named, Coding, Unjudged, Judged, value_read, value_place, residues, rule_27, rule_28}
+use Rattle.paper.specs.Rules.{Named, Coding, Unjudged, Judged, value_read, value_place, rule_27, rule_28}
 use Rattle.paper.proofs.Texts.{raw_once}
 use Rattle.read_steps.specs.Follow.{Starts, closing}
 use Rattle.read_steps.specs.Parts.{ShowsBytes}

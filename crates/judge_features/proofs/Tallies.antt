@@ -1,5 +1,5 @@
 -- Features added up, one by one, and the table's faults from the sum.
-use Prim.Native.Nat.{ℕ, zero, suc, ◌+◌, ◌<◌}
+use Prim.Native.Nat.{ℕ, zero, suc, ◌<◌}
 use native.Mathlib.Omega.{arith}
 use mathlib.Core.Path.{◌≡◌, refl, sym, ap, ◌∙◌, subst}
 use mathlib.Core.Logic.{◌⊎◌, inl, inr}
@@ -7,9 +7,8 @@ use mathlib.Core.List.{List, [], ◌∷◌, ◌++◌}
 use lib.ListN.{length, length-append}
 use Rattle.paper.specs.Lists.{Nth, ◌∈◌, Count, end, has, lacks}
 use Rattle.paper.specs.Tree.{Sequence, Feature}
-use Rattle.paper.specs.Rules.{Kind, IsKind, Keyed, upper_in, source_name, Unjudged, Source, InSource, InFeature}
+use Rattle.paper.specs.Rules.{Kind, IsKind, Keyed, upper_in, source_name, InSource, InFeature}
 use Rattle.judge_faults.specs.declared.Fault.{Fault}
-use Rattle.judge_faults.proofs.Parts.{◌or◌}
 use Rattle.judge_faults.specs.Sets.{Firsts, Some}
 use Rattle.judge_faults.proofs.Faults.{some_none, some_more, nth_split}
 use Rattle.judge_faults.proofs.Seen.{count_has, count_lacks}

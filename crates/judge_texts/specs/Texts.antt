@@ -1,6 +1,5 @@
 -- What is promised of the judgement of a sequence's texts.
 use Rattle.std.specs.Prelude.{◌≡◌, ℕ, ◌+◌, ◌≤◌, Bool, true, false, List, [], length, drop}
-use Rattle.std.proofs.Math.Option.{none}
 use Rattle.paper.specs.Bytes.{raw, leading}
 use Rattle.paper.specs.Tree.{Text, Sequence}
 use Rattle.paper.specs.Values.{Number}

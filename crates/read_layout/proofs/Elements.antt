@@ -1,18 +1,18 @@
 -- Each element of the listing, from the readings of its parts: what the proofs of the functions cite. A few lines for each.
-use Prim.Native.Nat.{ℕ, ◌<◌}
+use Prim.Native.Nat.{ℕ}
 use mathlib.Core.Path.{◌≡◌, refl}
 use mathlib.Core.Option.{Option, none}
 use mathlib.Core.List.{List, [], ◌∷◌}
 use Rattle.paper.specs.Bytes.{bytes, is_blank}
 use Rattle.paper.specs.Form.{Form, ◌·◌, each, each⁺}
 use Rattle.paper.specs.Tree.{Text, Qualifier, Feature, Table}
-use Rattle.paper.specs.Layout.{tag, leaf, child, child?, holding, holding?, qualifier, quals, feature, table, other_ids}
+use Rattle.paper.specs.Layout.{tag, leaf, child, child?, holding?, qualifier, quals, feature, table, other_ids}
 use Rattle.paper.proofs.Forms.{Evers}
 use Rattle.read_steps.specs.Reads.{Reads, Passes, Tried}
 use Rattle.read_steps.specs.Follow.{Not, Starts, StandsBefore, anything, closing}
 use Rattle.read_steps.specs.declared.Step.{Step}
 use Rattle.read_steps.proofs.Steps.{as_reads}
-use Rattle.read_tags.proofs.Tags.{Element, Children, leaf_element, holding?_element, ev_holding?, Void, optional_reads, some_reads, ev_holding}
+use Rattle.read_tags.proofs.Tags.{Element, Children, leaf_element, holding?_element, ev_holding?, Void, optional_reads, some_reads}
 use Rattle.read_steps.proofs.Soles.{sole_as}
 use Rattle.read_layout.specs.Parts.{Enters, Leaves, Held, held}
 use Rattle.read_layout.proofs.Runs.{Run, run_one, run_maybe, run_each, run_some, run_seq, run_reads, one_reads, run_children, Whole, whole_element, whole_reads}

@@ -13,7 +13,7 @@ use Rattle.read_steps.specs.Reads.{Reads, Passes, Tried, stayed}
 use Rattle.read_steps.specs.Follow.{Not, Starts, StandsBefore, anything, closing}
 use Rattle.read_steps.specs.declared.Step.{Step}
 use Rattle.read_steps.specs.declared.Step.TheVariants.{Ok, Fail}
-use Rattle.read_steps.proofs.Steps.{as_reads, before, seq, pass_then, either_first, either_second, tried, failed_at, failed_again, step_is, step_to}
+use Rattle.read_steps.proofs.Steps.{as_reads, seq, pass_then, either_first, either_second, tried, failed_at, failed_again, step_is, step_to}
 use Rattle.read_steps.proofs.Fronts.{Leads, leads_seq, leads_all, leads_starts, starts_wider}
 use Rattle.read_tags.proofs.Tags.{Element, leaf_element, spoken_element, holding_reads, ev_holding, child_leads, child_ever, child_reads, sole_attribute, sole_holding, optional_reads, ev_attribute, apart_leads}
 use Rattle.read_steps.proofs.Soles.{sure_these, sole_seq, sole_after, sole_as, sole_of, sole_or}

@@ -1,10 +1,10 @@
 -- The root, the document type line and the whole text; and from the reading of the whole to what the paper says of it.
-use Prim.Native.Nat.{ℕ, suc, ◌+◌, ◌≤◌, ◌<◌}
+use Prim.Native.Nat.{ℕ, suc, ◌≤◌}
 use native.Mathlib.Decide.{dec_le}
 use native.Mathlib.Omega.{arith}
 use mathlib.Core.Path.{◌≡◌, refl, sym, ap, ◌∙◌, subst}
 use mathlib.Core.Bool.{true}
-use mathlib.Core.Option.{Option, none}
+use mathlib.Core.Option.{Option}
 use mathlib.Core.List.{List, [], ◌∷◌, ◌++◌, append_assoc, append-nil}
 use lib.ListN.{length, take, length-append}
 use lib.Seq.{take-append_seam, length-take-le}
@@ -19,7 +19,7 @@ use Rattle.read_steps.specs.Follow.{Not, Starts, StandsBefore, anything, nothing
 use Rattle.read_steps.specs.declared.Step.{Step}
 use Rattle.read_steps.specs.declared.Step.TheVariants.{Ok, Fail}
 use Rattle.read_steps.proofs.Laws.{agree_le}
-use Rattle.read_steps.proofs.Steps.{as_reads, before, seq, pass_then, then_pass}
+use Rattle.read_steps.proofs.Steps.{as_reads, seq, pass_then, then_pass}
 use Rattle.read_steps.proofs.Fronts.{Leads, leads_seq, leads_all, leads_starts, leads_sharp, StartsBy, skip_blanks, skip_none}
 use Rattle.read_tags.proofs.Tags.{leaf_element, spoken_element, holding_reads, ev_holding, some_reads, ev_attribute, sole_attribute, sole_attribute_optional, attribute_optional, attribute_starts, sole_holding, sure_gap, Inner, inner_leads}
 use Rattle.read_steps.proofs.Soles.{Sole, Sure, sure_these, sure_run, sure_seq, sole_seq, sole_then, sole_after, sole_as}

@@ -1,5 +1,4 @@
 -- `judge_coding::check` meets its contract.
-use borrow.Author.Tests.{not-false}
 use Rattle.judge_coding.proofs.Rights.{checks_other, checks_absent, checks_settled, checks_right, checks_wrong}
 use Rattle.judge_coding.proofs.check.Goals as goal
 

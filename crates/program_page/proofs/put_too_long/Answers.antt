@@ -3,7 +3,6 @@ use native.Mathlib.Omega.{arith}
 use Rattle.paper.specs.Bytes.{bytes}
 use Rattle.program_page.proofs.Ends.{shows_text}
 use borrow.Author.Rules.{rules}
-use Rattle.program_page.proofs.put_text.Reads as put-text-reads
 use Rattle.program_page.proofs.put_too_long.Goals as goal
 
 pub returns : goal.returns

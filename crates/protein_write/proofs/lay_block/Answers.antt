@@ -1,5 +1,4 @@
 -- A plain block by the letters of plain codons, another codon by codon.
-use native.Mathlib.Omega.{arith}
 use Rattle.protein_write.proofs.lay_block.Goals as goal
 
 pub lay_plain-requires : goal.lay_plain-requires

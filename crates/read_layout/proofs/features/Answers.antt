@@ -3,7 +3,6 @@ use Rattle.read_steps.proofs.Steps.{step_is, step_from, failed_again}
 use Rattle.read_tags.proofs.Tags.{items_stop, items_more, item_onwards}
 use Rattle.read_layout.proofs.Elements.{feature_element, features_last}
 use Rattle.read_steps.specs.Follow.{closing}
-use Rattle.paper.specs.Layout.{feature}
 use Rattle.read_layout.proofs.features.Goals as goal
 
 pub returns-in_default : goal.returns-in_default

@@ -4,7 +4,6 @@ use Rattle.read_tags.proofs.Tags.{items_stop, items_more, item_onwards}
 use Rattle.read_layout.proofs.Header.{sequence_element}
 use Rattle.read_layout.proofs.Wholes.{sequences_last}
 use Rattle.read_steps.specs.Follow.{closing}
-use Rattle.paper.specs.Layout.{sequence}
 use Rattle.read_layout.proofs.sequences.Goals as goal
 
 pub returns-in_default : goal.returns-in_default

@@ -1,5 +1,4 @@
 -- A segment, or a site where one may stand.
-use mathlib.Core.Logic.{⊎_elim}
 use mathlib.Core.Bool.{or-true}
 use borrow.Author.Tests.{lt-ltb, le-ltb}
 use Rattle.location_judge.proofs.Levels.{pieces_are, leaf_bad, leaf_read, leaf_site}

@@ -1,6 +1,5 @@
 use Prim.Native.Char.{code}
 use mathlib.Core.Path.{sym, ◌∙◌}
-use mathlib.Core.Logic.{⊎_elim}
 use Rattle.location_judge.proofs.Signs.{decided, scanned_all, here, scanned_comma, scanned_other}
 use Rattle.location_judge.proofs.judging.unjudged.Goals as goal
 use Rattle.location_judge.proofs.judging.unjudged.Goals.{then-b-eq44+else-is_lone, else-b-eq44}
