@@ -14,56 +14,62 @@ use Rattle.paper.specs.Demands.{Refusal, AnswerOrRefusal}
 abbrev Ruled : ℕ → Type 0
 Ruled n = ((10 ≤ n) × (n ≤ 29)) ⊎ ((40 ≤ n) × (n ≤ 42))
 
-of_value : (n : ℕ) → 10 ≤ n → n ≤ 29 → Ruled n
-of_value n h k = inl (h, k)
+in_values : (n : ℕ) → 10 ≤ n → n ≤ 29 → Ruled n
+in_values n h k = inl (h, k)
 
-of_words : (n : ℕ) → 40 ≤ n → n ≤ 42 → Ruled n
-of_words n h k = inr (h, k)
+in_words : (n : ℕ) → 40 ≤ n → n ≤ 42 → Ruled n
+in_words n h k = inr (h, k)
+
+of_value : (n : ℕ) → 10 ≤ n → n ≤ 29 → {p : ℕ} → Refusal n p
+of_value n h k = Refusal.value h k
+
+of_words : (n : ℕ) → 40 ≤ n → n ≤ 42 → {p : ℕ} → Refusal n p
+of_words n h k = Refusal.vocabulary h k
 
 ruled : {n p : ℕ} → Ruled n → Refusal n p
-ruled (inl (h, k)) = Refusal.value h k
-ruled (inr (h, k)) = Refusal.vocabulary h k
+ruled {n} (inl (h, k)) = of_value n h k
+ruled {n} (inr (h, k)) = of_words n h k
 
 -- the value rules
 broken_ruled : {l : Listing ℕ} {n p : ℕ} → Broken l n p → Ruled n
 broken_ruled (header h) = in_header h
   where
     in_header : {l : Listing ℕ} {n p : ℕ} → InHeader l n p → Ruled n
-    in_header (InHeader.rule_10 h) = of_value 10 (omega arith) (omega arith)
-    in_header (InHeader.rule_11 t i h) = of_value 11 (omega arith) (omega arith)
-    in_header (InHeader.rule_12 t i h) = of_value 12 (omega arith) (omega arith)
-    in_header (InHeader.rule_13 t i h) = of_value 13 (omega arith) (omega arith)
-broken_ruled (rule_14 h) = of_value 14 (omega arith) (omega arith)
+    in_header (InHeader.rule_10 h) = in_values 10 (omega arith) (omega arith)
+    in_header (InHeader.rule_11 t i h) = in_values 11 (omega arith) (omega arith)
+    in_header (InHeader.rule_12 t i h) = in_values 12 (omega arith) (omega arith)
+    in_header (InHeader.rule_13 t i h) = in_values 13 (omega arith) (omega arith)
+broken_ruled (rule_14 h) = in_values 14 (omega arith) (omega arith)
 broken_ruled (sequence k q i h) = in_sequence h
   where
     in_texts : {q : Sequence ℕ} {n p : ℕ} → InTexts q n p → Ruled n
-    in_texts (TextsBy.rule_16 h) = of_value 16 (omega arith) (omega arith)
-    in_texts (TextsBy.rule_17 h) = of_value 17 (omega arith) (omega arith)
-    in_texts (TextsBy.residues (ResiduesBy.rule_18 k i h)) = of_value 18 (omega arith) (omega arith)
-    in_texts (TextsBy.residues (ResiduesBy.rule_19 k i m c h)) = of_value 19 (omega arith) (omega arith)
-    in_texts (TextsBy.rule_20 h) = of_value 20 (omega arith) (omega arith)
+    in_texts (TextsBy.rule_16 h) = in_values 16 (omega arith) (omega arith)
+    in_texts (TextsBy.rule_17 h) = in_values 17 (omega arith) (omega arith)
+    in_texts (TextsBy.residues (ResiduesBy.rule_18 k i h)) = in_values 18 (omega arith) (omega arith)
+    in_texts (TextsBy.residues (ResiduesBy.rule_19 k i m c h)) = in_values 19 (omega arith) (omega arith)
+    in_texts (TextsBy.rule_20 h) = in_values 20 (omega arith) (omega arith)
 
     in_feature : {q : Sequence ℕ} {f : Feature ℕ} {n p : ℕ} → InFeature q f n p → Ruled n
-    in_feature (inl (InLocation.rule_24 h)) = of_value 24 (omega arith) (omega arith)
-    in_feature (inl (InLocation.rule_25 t x h)) = of_value 25 (omega arith) (omega arith)
-    in_feature (inl (InLocation.rule_26 a t x h)) = of_value 26 (omega arith) (omega arith)
-    in_feature (inr (inl (InCoding.rule_27 c h))) = of_value 27 (omega arith) (omega arith)
-    in_feature (inr (inl (InCoding.rule_28 x j y i t h))) = of_value 28 (omega arith) (omega arith)
-    in_feature (inr (inr (InVocabulary.rule_40 k i h))) = of_words 40 (omega arith) (omega arith)
-    in_feature (inr (inr (InVocabulary.rule_41 k i r o q m h))) = of_words 41 (omega arith) (omega arith)
-    in_feature (inr (inr (InVocabulary.rule_42 k i r o w m h))) = of_words 42 (omega arith) (omega arith)
+    in_feature (inl (InLocation.rule_24 h)) = in_values 24 (omega arith) (omega arith)
+    in_feature (inl (InLocation.rule_25 t x h)) = in_values 25 (omega arith) (omega arith)
+    in_feature (inl (InLocation.rule_26 a t x h)) = in_values 26 (omega arith) (omega arith)
+    in_feature (inr (inl (InCoding.rule_27 c h))) = in_values 27 (omega arith) (omega arith)
+    in_feature (inr (inl (InCoding.rule_28 x j y i t h))) = in_values 28 (omega arith) (omega arith)
+    in_feature (inr (inr (InVocabulary.rule_40 k i h))) = in_words 40 (omega arith) (omega arith)
+    in_feature (inr (inr (InVocabulary.rule_41 k i r o q m h))) = in_words 41 (omega arith) (omega arith)
+    in_feature (inr (inr (InVocabulary.rule_42 k i r o w m h))) = in_words 42 (omega arith) (omega arith)
 
     in_table : {q : Sequence ℕ} {n p : ℕ} → InTable q n p → Ruled n
-    in_table (InTable.rule_21 k i h) = of_value 21 (omega arith) (omega arith)
-    in_table (InTable.source k i f s (InSource.rule_22 h)) = of_value 22 (omega arith) (omega arith)
-    in_table (InTable.source k i f s (InSource.rule_23 h)) = of_value 23 (omega arith) (omega arith)
+    in_table (InTable.rule_21 k i h) = in_values 21 (omega arith) (omega arith)
+    in_table (InTable.source k i f s (InSource.rule_22 h)) = in_values 22 (omega arith) (omega arith)
+    in_table (InTable.source k i f s (InSource.rule_23 h)) = in_values 23 (omega arith) (omega arith)
     in_table (InTable.feature f m h) = in_feature h
 
     in_sequence : {k : ℕ} {q : Sequence ℕ} {n p : ℕ} → InSequence k q n p → Ruled n
-    in_sequence (SequenceBy.rule_15 h) = of_value 15 (omega arith) (omega arith)
+    in_sequence (SequenceBy.rule_15 h) = in_values 15 (omega arith) (omega arith)
     in_sequence (SequenceBy.texts u h) = in_texts h
     in_sequence (SequenceBy.table u h) = in_table h
-    in_sequence (SequenceBy.rule_29 u h) = of_value 29 (omega arith) (omega arith)
+    in_sequence (SequenceBy.rule_29 u h) = in_values 29 (omega arith) (omega arith)
 
 broken_value : {l : Listing ℕ} {n p : ℕ} → Broken l n p → Refusal n p
 broken_value h = ruled (broken_ruled h)
