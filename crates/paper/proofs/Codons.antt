@@ -6,7 +6,6 @@ use mathlib.Core.Bool.{Bool, true, false, true≢false, ◌||◌, cond, or-false
 use mathlib.Core.List.{List, [], ◌∷◌}
 use lib.Dec.{eqb}
 use borrow.Author.Tests.{eqb-true, eq-eqb}
-use Prim.Native.Char.{code}
 use Rattle.paper.specs.Bytes.{among}
 use Rattle.paper.specs.Translation.{all_among, shared, give_exactly, most_restrictive}
 
@@ -45,19 +44,19 @@ shared_same (x ∷ l) (y ∷ m) h k = go (all_among (x ∷ []) l) (all_among (y 
     go false true e f = absurd (true≢false (sym (alone y x m l h f).1 ∙ e))
     go false false e f = refl
 
-exactly_same : (those l m : List ℕ) → all_among m l ≡ true → all_among l m ≡ true → give_exactly those l ≡ give_exactly those m
-exactly_same those l m h k = go (give_exactly those l) (give_exactly those m) refl refl
-  where
-    from : (a b : List ℕ) → all_among b a ≡ true → all_among a b ≡ true → give_exactly those a ≡ true → give_exactly those b ≡ true
-    from a b h k e =
-        let p = (and-eq-true_iff _ _).0 e in
-        (and-eq-true_iff _ _).1 (all_trans b a _ k p.0, all_trans those a b p.1 h)
+-- two tests of which each holds where the other does
+both_ways : (p q : Bool) → (p ≡ true → q ≡ true) → (q ≡ true → p ≡ true) → p ≡ q
+both_ways true q f g = sym (f refl)
+both_ways false true f g = g refl
+both_ways false false f g = refl
 
-    go : (p q : Bool) → give_exactly those l ≡ p → give_exactly those m ≡ q → p ≡ q
-    go true true e f = refl
-    go true false e f = sym (from l m h k e) ∙ f
-    go false true e f = sym e ∙ from m l k h f
-    go false false e f = refl
+exactly_same : (those l m : List ℕ) → all_among m l ≡ true → all_among l m ≡ true → give_exactly those l ≡ give_exactly those m
+exactly_same those l m h k =
+    let e : (x : List ℕ) → all_among x l ≡ all_among x m =
+    λ x. both_ways (all_among x l) (all_among x m) (all_trans m l x k) (all_trans l m x h) in
+    let f : (x : List ℕ) → all_among l x ≡ all_among m x =
+    λ x. both_ways (all_among l x) (all_among m x) (λ i. all_trans x l m i h) (λ i. all_trans x m l i k) in
+    simp (e, f)
 
 -- two lists of the same letters have one letter
 pub restrictive_same : (l m : List ℕ) → all_among m l ≡ true → all_among l m ≡ true → most_restrictive l ≡ most_restrictive m
