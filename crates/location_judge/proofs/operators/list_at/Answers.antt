@@ -5,10 +5,6 @@ use Rattle.location_judge.proofs.Stand.{room}
 use Rattle.location_judge.proofs.Levels.{list_join, list_order, list_no}
 use Rattle.location_judge.proofs.operators.list_at.Goals as goal
 
--- TODO overflow-add-t8
--- add-t8 : tie.Need-overflow-add-t8
--- add-t8 c = omega (arith, room (bytes "join(") c.before.begins.ensures c.if1.true)
-
 pub returns-then-begins : goal.returns-then-begins
 returns-then-begins c = list_join c.begins.ensures c.if-begins.true
 

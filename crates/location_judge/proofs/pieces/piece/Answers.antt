@@ -16,18 +16,6 @@ returns-in-No c =
     args.complemented
     (number_is c.number.ensures c.in-No.is)
 
--- TODO overflow-add-t19
--- add-t19 : tie.Need-overflow-add-t19
--- add-t19 c =
---     let args = c.before.before.before.before.before.before.before.before.before.args in
---     let mark-if = c.before.before.before.before.before.before.before.mark-if in
---     omega (
---       arith,
---       mark-if.ensures,
---       mark_most
---           args.complemented 1,
---     )
-
 pub returns-in-At : goal.returns-in-At
 returns-in-At c =
     let mark-if = c.mark_if-base in
