@@ -1,6 +1,6 @@
 -- What was found in an accepted listing, from where its items stand; and the refusals 30 to 33.
 use Prim.Native.Nat.{ℕ}
-use mathlib.Core.Path.{◌≡◌}
+use mathlib.Core.Path.{◌≡◌, subst}
 use mathlib.Core.Bool.{Bool, true, false}
 use mathlib.Core.List.{List}
 use Rattle.paper.specs.Layout.{child}
@@ -27,7 +27,10 @@ use Rattle.walk_seek.specs.declared.QualifierAt.TheVariants as qualifier
 use Rattle.judge_header.specs.Headers.{JudgesHeader}
 use Rattle.judge_header.specs.declared.Headed.{Headed}
 use Rattle.judge_texts.specs.Texts.{TellsSkipped}
-use Rattle.ask_find.specs.Finds.{FirstIs, SequenceIs, FeatureIs, FeatureAsked, QualifierAsked}
+use Rattle.walk_seek.proofs.Within.{placed}
+use Rattle.ask_find.specs.declared.AcceptedAt.{AcceptedAt}
+use Rattle.ask_find.specs.declared.AcceptedAt.TheVariants as accepted
+use Rattle.ask_find.specs.Finds.{FindsFirst, FirstIs, SequenceIs, FeatureIs, FeatureAsked, QualifierAsked}
 
 pub first_found : {w : List ℕ} {t s f j u : ℕ} {h : Headed} → CheckSays w (Accepted t s f j u) → JudgesHeader w h → FirstIs w h.first t f
 first_found c j =
@@ -68,6 +71,13 @@ module _ {w : List ℕ} {first total features k : ℕ} (f : FirstIs w first tota
     pub sequence_so : b ≡ false → SequenceIs w k r
     sequence_so h =
         record { asked = here.item; finds = paper.sequence f.accepted here.numbered (tells_false b h skips); end = here.end; is = is }
+
+-- as the code finds it
+module _ {w : List ℕ} {k first total features at : ℕ} {a : AcceptedAt} {p : Place} {r : FoundSequence} {b : Bool} (f : FindsFirst w a)
+    (i : a ≡ accepted.At first total features) (n : SeeksIn (child layout.sequence) w first k p) (j : p ≡ At at) (m : items.MeetsSequence w at r)
+    (t : TellsSkipped w r.residues b) where
+  pub skipped_found : b ≡ true → FindsSequence w k (refuse 31 0)
+  skipped_found = skipped_so (subst (FindsFirst w) i f) (placed j n) m t
 
 -- ---- a feature
 

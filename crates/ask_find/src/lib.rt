@@ -56,6 +56,7 @@ pub enum SequenceAt {
 }
 
 // The sequence number k, if it isn't skipped.
+#[tactic(auto, using(crate::proofs::Found::skipped_found))]
 pub fn find_sequence(listing: &[u8], k: usize) -> SequenceAt
     ensures { SequenceAsked listing.now k result }
 {

@@ -114,6 +114,7 @@ fn frame_with(s: &[u8], frame: Frame, name: usize, value: Maybe) -> Frame
 }
 
 // Whether a qualifier of this name leaves its region unjudged, whatever its value.
+#[tactic(auto, using(crate::proofs::Exceptions::excepted_first, crate::proofs::Exceptions::excepted_second, crate::proofs::Exceptions::excepted_third, crate::proofs::Exceptions::excepted_fourth, crate::proofs::Exceptions::excepted_none))]
 fn is_excepted(name: usize) -> bool
     ensures { OfName name Excepted result }
 {
@@ -213,6 +214,7 @@ fn either(a: bool, b: bool) -> bool
 }
 
 // The same, after one name more, which stands so in the key's row. The one branch is seldom taken.
+#[tactic(auto, using(crate::proofs::Words::word_foreign))]
 fn with_word(a: Worded, how: usize, place: usize) -> Worded
     ensures { WithWord how place a result }
 {

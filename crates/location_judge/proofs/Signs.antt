@@ -161,6 +161,10 @@ module _ {s : List ℕ} {i : ℕ} {a d : Bool} (p : Scanned s i a d) where
     pub here : (b : ℕ) → get_or s i 0 ≡ b → scan (b ∷ drop (i + 1) s) a d ≡ scan s false false
     here b e = rw (suffix s i b h (sym e)) at p.left
 
+    -- where a site stands
+    pub site_stands : get_or s i 0 ≡ code "^" → LeavesRegion s true
+    site_stands e = decided (here (code "^") e)
+
     pub scanned_comma : {l x y : Bool} → get_or s i 0 ≡ code "," → l ≡ is_lone a d → l ≡ false → x ≡ false → y ≡ false → Scanned s (i + 1) x y
     scanned_comma e k q f g = record { left = rw (f, g) (rw (sym k ∙ q) at (here (code ",") e)) }
 

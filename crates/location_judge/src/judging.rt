@@ -187,6 +187,7 @@ fn is_lone(signed: bool, ranged: bool) -> bool
 
 // Whether the location that the bytes s of a part are written from leaves its region unjudged. It isn't read again: `d` stands only in an
 // order, `^` only in a site; and between two commas `&` without `.` is a lone `<x` or `>x`.
+#[tactic(auto, using(crate::proofs::Signs::site_stands))]
 fn unjudged(s: &[u8]) -> bool
     ensures { LeavesRegion s.now result }
 {

@@ -1,5 +1,5 @@
 -- The root, the document type line and the whole text; and from the reading of the whole to what the paper says of it.
-use Prim.Native.Nat.{ℕ, suc, ◌≤◌}
+use Prim.Native.Nat.{ℕ, suc, ◌≤◌, ◌<◌}
 use native.Mathlib.Decide.{dec_le}
 use native.Mathlib.Omega.{arith}
 use mathlib.Core.Path.{◌≡◌, refl, sym, ap, ◌∙◌, subst}
@@ -12,8 +12,9 @@ use Rattle.paper.specs.Bytes.{bytes, is_blank}
 use Rattle.paper.specs.Form.{Form, these, lit, ◌·◌, each, each⁺}
 use Rattle.paper.specs.Tree.{Text, Spoken, Sequence, Listing, Bare, forget}
 use Rattle.paper.specs.Layout.{blanks, gap, tag, close, attribute, attribute?, leaf, spoken, child, holding, sequence, attributes, root, doctype, document, LaidOut, Writes}
-use Rattle.paper.specs.Answers.{Strays, Begins}
+use Rattle.paper.specs.Answers.{limit, Strays, Begins}
 use Rattle.paper.proofs.Forms.{Ever, ev_seq, ev_these, ev_run, ev_gap, Evers, evs_both, evs_after, evs_maybe}
+use Rattle.read_layout.specs.Says.{Refuses}
 use Rattle.read_steps.specs.Reads.{Lost, Reads, Passes, Tried}
 use Rattle.read_steps.specs.Follow.{Not, Starts, StandsBefore, anything, nothing, closing, clashes, sharp, skip}
 use Rattle.read_steps.specs.declared.Step.{Step}
@@ -242,6 +243,10 @@ accepted {s} n f e h =
     (omega (arith, e.is.2, x.size, ap length x.split ∙ length-append x.word x.rest)) in
     let w : x.word ≡ s = sym (x.split ∙ ap (λ (u : List ℕ). x.word ++ u) k ∙ append-nil x.word) in
     (x.value, record { is = subst (document x.value 0) w x.laid })
+
+-- more bytes than the limit
+pub refused_long : (w : List ℕ) → limit < length w → Refuses w 1 0
+refused_long w h = Refuses.too_long h
 
 pub refused : {s : List ℕ} (k : ℕ) → Reads document nothing s (Ok 0 0) (Fail k) → Strays s k
 refused {s} k e =

@@ -420,6 +420,7 @@ fn document(s: &[u8], t: &[u8; 256]) -> Step
 }
 
 // Whether some bytes are laid out as a listing; or the rule, 1 or 2, and its place.
+#[tactic(auto, using(crate::proofs::Wholes::refused_long))]
 pub fn layout(listing: &[u8]) -> Shape
     ensures { ShapeSays listing.now result }
 {

@@ -142,6 +142,9 @@ module _ (w : List ℕ) (class : ℕ) where
     pub of_none : ¬ (get_or t (get_or w i 0) 0 ≡ class) → (k : Rules.Kind) → class ≡ symbol_class k → is_symbol k (get_or w i 0) ≡ false
     of_none n k q = sym (told k q) ∙ ne_eqb (get_or t (get_or w i 0) 0) class n
 
+    pub foreign_here : {from : ℕ} → Reach w class from i → ¬ (get_or t (get_or w i 0) 0 ≡ class) → Foreign w class from i
+    foreign_here r n = record { reach = r; there = λ h. of_none n }
+
   pub reach_none : (i : ℕ) → i ≤ length w → Reach w class i i
   reach_none i h = record { onward = omega arith; inside = h; each = between_none i }
 

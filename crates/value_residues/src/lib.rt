@@ -44,6 +44,7 @@ pub fn symbol_table() -> [u8; 256]
 }
 
 // Where the next character starts, behind an entity's `;`.
+#[tactic(auto, using(crate::proofs::Counting::one_byte, crate::proofs::Counting::inside_first))]
 fn next_character(w: &[u8], at: usize) -> usize
     requires { at < length w.now }
     ensures { NextCharacter w.now at result }
@@ -217,6 +218,7 @@ fn reach(w: &[u8], from: usize, end: usize, class: u8, rarer: bool) -> usize
 }
 
 // The first byte from `from` on that is no symbol of the class, by the table.
+#[tactic(auto, using(crate::proofs::Residues::foreign_here))]
 fn foreign(w: &[u8], from: usize, class: u8, t: &[u8; 256]) -> usize
     requires from_in_bounds { from ≤ length w.now }
     requires symbol_table { SymbolTable t.now }

@@ -34,6 +34,7 @@ pub fn same(w: &[u8], x: &[u8]) -> bool
 }
 
 // Whether these bytes are the number n. No value that is kept is above n, so none wraps.
+#[tactic(auto, using(crate::proofs::Numbers::not_zero))]
 fn is_decimal(w: &[u8], n: usize) -> bool
     ensures { Tells result (Number n w.now) }
 {

@@ -3,17 +3,8 @@ use mathlib.Core.Path.{subst}
 use Rattle.paper.specs.Answers as paper
 use Rattle.ask_find.specs.Finds.{FindsFirst}
 use Rattle.walk_seek.proofs.Within.{placed}
-use Rattle.ask_find.proofs.Found.{no_sequence, skipped_so, sequence_so}
+use Rattle.ask_find.proofs.Found.{no_sequence, sequence_so}
 use Rattle.ask_find.proofs.find_sequence.Goals as goal
-
-pub returns-then-is_skipped : goal.returns-then-is_skipped
-returns-then-is_skipped c =
-    let args = c.args in
-    let accepted = c.accepted in
-    let nth = c.nth in
-    skipped_so (subst (FindsFirst args.listing.now) c.in-At.is accepted.ensures)
-    (placed c.in-At-nth.is nth.ensures) c.sequence-found.ensures
-    c.is_skipped.ensures c.if-is_skipped.true
 
 pub returns-in-Refused : goal.returns-in-Refused
 returns-in-Refused c =

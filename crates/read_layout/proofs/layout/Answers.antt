@@ -4,11 +4,8 @@ use mathlib.Core.Path.{subst}
 use Rattle.read_steps.specs.Reads.{AtEnd}
 use Rattle.read_steps.proofs.Steps.{step_is}
 use Rattle.read_layout.proofs.Wholes.{accepted, refused}
-use Rattle.read_layout.specs.Says.{too_long, strays}
+use Rattle.read_layout.specs.Says.{strays}
 use Rattle.read_layout.proofs.layout.Goals as goal
-
-pub returns-then-listing-gt-LIMIT : goal.returns-then-listing-gt-LIMIT
-returns-then-listing-gt-LIMIT c = too_long c.if-listing-gt-LIMIT.true
 
 pub returns-in-Ok : goal.returns-in-Ok
 returns-in-Ok c =

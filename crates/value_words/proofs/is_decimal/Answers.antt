@@ -2,19 +2,17 @@ use native.Mathlib.Omega.{arith}
 use lib.Dec.{eqb}
 use borrow.Author.Tests.{eqb-true, eqb-false}
 use Rattle.value_words.proofs.Tests.{tells}
-use Rattle.value_words.proofs.Numbers.{not_empty, not_zero, begin, digit, next, all_read, read_all}
+use Rattle.value_words.proofs.Numbers.{not_empty, begin, digit, next, all_read, read_all}
 use Rattle.value_words.proofs.is_decimal.Goals as goal
+use borrow.Author.Rules.{rules}
 
 pub returns-then-w-eq0 : goal.returns-then-w-eq0
 returns-then-w-eq0 c = let a = c.args in not_empty a.w.now a.n c.if-w-eq0.true
 
-pub returns-then-w-eq48 : goal.returns-then-w-eq48
-returns-then-w-eq48 c = let a = c.args in not_zero a.w.now a.n c.if-w-eq48.true
-
 pub loop-i-init : goal.loop-i-init
 loop-i-init c =
     let a = c.args in
-    (omega arith, omega arith, begin a.w.now a.n c.if-w-eq0.false c.if-w-eq48.false)
+    (omega arith, omega arith, begin a.w.now a.n c.if-w-eq0.false (search rules))
 
 pub returns-then-b-lt48 : goal.returns-then-b-lt48
 returns-then-b-lt48 c =

@@ -2,13 +2,11 @@ use Prim.Native.Char.{code}
 use mathlib.Core.Path.{sym, ◌∙◌}
 use Rattle.location_judge.proofs.Signs.{decided, scanned_all, here, scanned_comma, scanned_other}
 use Rattle.location_judge.proofs.judging.unjudged.Goals as goal
+use borrow.Author.Rules.{rules}
 use Rattle.location_judge.proofs.judging.unjudged.Goals.{then-b-eq44+else-is_lone, else-b-eq44}
 
 pub returns-then-b-eq100 : goal.returns-then-b-eq100
 returns-then-b-eq100 c = decided (here c.loop-i.invariant c.loop-i-test.true (code "d") c.if-b-eq100.true)
-
-pub returns-then-b-eq94 : goal.returns-then-b-eq94
-returns-then-b-eq94 c = decided (here c.loop-i.invariant c.loop-i-test.true (code "^") c.if-b-eq94.true)
 
 pub returns-then-is_lone : goal.returns-then-is_lone
 returns-then-is_lone c =
@@ -23,7 +21,7 @@ loop-i-preserved c =
     elim c.if-b-eq44.branch [
       | then-b-eq44+else-is_lone w ↦ scanned_comma p h w.if-b-eq44.true w.is_lone.ensures w.if-is_lone.false w.signed-is w.ranged-is
       | else-b-eq44 w ↦
-          scanned_other p h c.if-b-eq100.false c.if-b-eq94.false w.if-b-eq44.false (w.signed-is ∙ w.either-signed.ensures)
+          scanned_other p h c.if-b-eq100.false (search rules) w.if-b-eq44.false (w.signed-is ∙ w.either-signed.ensures)
           (w.ranged-is ∙ w.either-ranged.ensures)
     ]
 
