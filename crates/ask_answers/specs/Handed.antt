@@ -1,12 +1,13 @@
 -- An answer handed over as numbers: one is returned, the others go to the lent places.
-use Rattle.std.specs.Prelude.{ℕ, ◌≤◌, ◌<◌, ◌≡◌, Bool, true, false}
-use Rattle.paper.specs.declared.Verdict.{Verdict}
-use Rattle.paper.specs.declared.Verdict.TheVariants.{Accepted, Refused}
-use Rattle.ask_answers.specs.declared.SequenceAnswer.{SequenceAnswer}
-use Rattle.ask_answers.specs.declared.FeatureAnswer.{FeatureAnswer}
-use Rattle.ask_answers.specs.declared.QualifierAnswer.{QualifierAnswer}
-use Rattle.ask_answers.specs.declared.LentAnswer.{LentAnswer}
-use Rattle.ask_answers.specs.declared.IndexVerdict.{IndexVerdict}
+use Rattle.std.specs.Prelude.{ℕ, ◌≤◌, ◌<◌, ◌≡◌, Bool, true, false, Ok, Err, is_some, unwrap_or}
+use Rattle.paper.specs.Answers.{Verdict}
+use Rattle.paper.specs.declared.Figures.{Figures}
+use Rattle.paper.specs.declared.Refused.{Refused}
+use Rattle.location_judge.specs.Readings.{operator_code}
+use Rattle.ask_answers.specs.Stretches.{SequenceAnswer, FeatureAnswer, QualifierAnswer, LentAnswer, IndexVerdict, no_stretch, kind_is}
+use Rattle.ask_answers.specs.declared.SequenceShown.{SequenceShown}
+use Rattle.ask_answers.specs.declared.FeatureShown.{FeatureShown}
+use Rattle.ask_answers.specs.declared.QualifierShown.{QualifierShown}
 
 -- a number in a narrower type: one that a byte holds stays as it is, and any other is 255
 pub record Narrow (n r : ℕ) : Type 0 where
@@ -17,23 +18,31 @@ abbrev pub flag_of : Bool → ℕ
 flag_of true = 1
 flag_of false = 0
 
+-- the number that is returned, and the place; every other number of a refusal is 0
+pub data HandsRefusal (q : Refused) : (number place : ℕ) → Type 0 where
+  refusal : {r : ℕ} → Narrow q.rule r → HandsRefusal q r q.place
+
 pub data HandsVerdict : (v : Verdict) (number place total skipped features judged unjudged : ℕ) → Type 0 where
-  accepted : {t s f j u : ℕ} → HandsVerdict (Accepted t s f j u) 0 0 t s f j u
-  refused : {n p r : ℕ} → Narrow n r → HandsVerdict (Refused n p) r p 0 0 0 0 0
+  accepted : {x : Figures} → HandsVerdict (Ok x) 0 0 x.total x.skipped x.features x.judged x.unjudged
+  refused : {q : Refused} {r p : ℕ} → HandsRefusal q r p → HandsVerdict (Err q) r p 0 0 0 0 0
 
-pub data HandsSequence (a : SequenceAnswer) : (number place kind start size : ℕ) → Type 0 where
-  sequence : {r : ℕ} → Narrow a.number r → HandsSequence a r a.place a.kind a.residues.start a.residues.size
+pub data HandsSequence : (a : SequenceAnswer) (number place kind start size : ℕ) → Type 0 where
+  sequence : {x : SequenceShown} → HandsSequence (Ok x) 0 0 (kind_is x.kind) x.residues.start x.residues.size
+  refused : {q : Refused} {r p : ℕ} → HandsRefusal q r p → HandsSequence (Err q) r p 0 0 0
 
-pub data HandsFeature (a : FeatureAnswer) : (number place keystart keysize locationstart locationsize operator count : ℕ) → Type 0 where
-  feature : {r o : ℕ} → Narrow a.number r → Narrow a.operator o
-      → HandsFeature a r a.place a.key.start a.key.size a.location.start a.location.size o a.count
+pub data HandsFeature : (a : FeatureAnswer) (number place keystart keysize locationstart locationsize operator count : ℕ) → Type 0 where
+  feature : {x : FeatureShown} → HandsFeature (Ok x) 0 0 x.key.start x.key.size x.location.start x.location.size (operator_code x.operator) x.count
+  refused : {q : Refused} {r p : ℕ} → HandsRefusal q r p → HandsFeature (Err q) r p 0 0 0 0 0 0
 
-pub data HandsQualifier (a : QualifierAnswer) : (number place namestart namesize present valuestart valuesize : ℕ) → Type 0 where
-  qualifier : {r f : ℕ} → Narrow a.number r → f ≡ flag_of a.present
-      → HandsQualifier a r a.place a.name.start a.name.size f a.value.start a.value.size
+pub data HandsQualifier : (a : QualifierAnswer) (number place namestart namesize present valuestart valuesize : ℕ) → Type 0 where
+  qualifier : {x : QualifierShown} → HandsQualifier (Ok x) 0 0 x.name.start x.name.size (flag_of (is_some x.value))
+      (unwrap_or x.value no_stretch).start (unwrap_or x.value no_stretch).size
+  refused : {q : Refused} {r p : ℕ} → HandsRefusal q r p → HandsQualifier (Err q) r p 0 0 0 0 0
 
-pub data HandsLent (a : LentAnswer) : (number place size : ℕ) → Type 0 where
-  lent : {r : ℕ} → Narrow a.number r → HandsLent a r a.place a.size
+pub data HandsLent : (a : LentAnswer) (number place size : ℕ) → Type 0 where
+  lent : {n : ℕ} → HandsLent (Ok n) 0 0 n
+  refused : {q : Refused} {r p : ℕ} → HandsRefusal q r p → HandsLent (Err q) r p 0
 
-pub data HandsIndexVerdict (a : IndexVerdict) : (number place : ℕ) → Type 0 where
-  verdict : {r : ℕ} → Narrow a.number r → HandsIndexVerdict a r a.place
+pub data HandsIndexVerdict : (a : IndexVerdict) (number place : ℕ) → Type 0 where
+  belongs : {x : Unit {0}} → HandsIndexVerdict (Ok x) 0 0
+  refused : {q : Refused} {r p : ℕ} → HandsRefusal q r p → HandsIndexVerdict (Err q) r p

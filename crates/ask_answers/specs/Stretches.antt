@@ -1,11 +1,31 @@
--- A part of the listing as a stretch: where it starts, and how long it is; and the answers of a refusal, which show none.
-use Rattle.std.specs.Prelude.{ℕ, ◌+◌, ◌≤◌, false, List, length}
+-- A part of the listing as a stretch: where it starts, and how long it is; and what an answer shows, as the paper says it.
+use Rattle.std.specs.Prelude.{ℕ, ◌+◌, ◌≤◌, Option, Some, None, Result, List, length, ⊤}
 use Rattle.paper.specs.Answers as paper
+use Rattle.paper.specs.declared.Refused.{Refused}
+use Rattle.location_judge.specs.Readings.{operator_code}
+use Rattle.value_words.specs.declared.Molecule.{Molecule}
+use Rattle.value_words.specs.declared.Molecule.TheVariants.{Dna, Rna, Aa, Other}
 use Rattle.ask_answers.specs.declared.Stretch.{Stretch}
-use Rattle.ask_answers.specs.declared.SequenceAnswer.{SequenceAnswer}
-use Rattle.ask_answers.specs.declared.FeatureAnswer.{FeatureAnswer}
-use Rattle.ask_answers.specs.declared.QualifierAnswer.{QualifierAnswer}
-use Rattle.ask_answers.specs.declared.LentAnswer.{LentAnswer}
+use Rattle.ask_answers.specs.declared.SequenceShown.{SequenceShown}
+use Rattle.ask_answers.specs.declared.FeatureShown.{FeatureShown}
+use Rattle.ask_answers.specs.declared.QualifierShown.{QualifierShown}
+
+abbrev pub SequenceAnswer : Type 0
+SequenceAnswer = Result SequenceShown Refused
+
+abbrev pub FeatureAnswer : Type 0
+FeatureAnswer = Result FeatureShown Refused
+
+abbrev pub QualifierAnswer : Type 0
+QualifierAnswer = Result QualifierShown Refused
+
+abbrev pub LentAnswer : Type 0
+LentAnswer = Result ℕ Refused
+
+abbrev pub IndexVerdict : Type 0
+IndexVerdict = Result (Unit {0}) Refused
+
+-- ---- a stretch
 
 abbrev pub no_stretch : Stretch
 no_stretch = record { start = 0; size = 0 }
@@ -14,24 +34,27 @@ no_stretch = record { start = 0; size = 0 }
 abbrev pub part_is : Stretch → paper.Part
 part_is x = record { start = x.start; size = x.size }
 
--- what an answer shows of a feature, as the paper says it
-abbrev pub shown_in : FeatureAnswer → paper.FeatureShown
-shown_in a = record { key = part_is a.key; location = part_is a.location; operator = a.operator; count = a.count }
-
 -- it lies within the listing
 abbrev pub Lies : List ℕ → Stretch → Type 0
 Lies w x = x.start + x.size ≤ length w
 
--- ---- a refusal and its place
+-- ---- of a value that may be missing
 
-abbrev pub no_sequence_answer : ℕ → ℕ → SequenceAnswer
-no_sequence_answer n p = record { number = n; place = p; kind = 0; residues = no_stretch }
+abbrev pub value_is : Option Stretch → paper.Part
+value_is None = paper.no_part
+value_is (Some x) = part_is x
 
-abbrev pub no_feature_answer : ℕ → ℕ → FeatureAnswer
-no_feature_answer n p = record { number = n; place = p; key = no_stretch; location = no_stretch; operator = 0; count = 0 }
+abbrev pub ValueLies : List ℕ → Option Stretch → Type 0
+ValueLies w None = ⊤
+ValueLies w (Some x) = Lies w x
 
-abbrev pub no_qualifier_answer : ℕ → ℕ → QualifierAnswer
-no_qualifier_answer n p = record { number = n; place = p; name = no_stretch; present = false; value = no_stretch }
+-- ---- of a kind and of a feature
 
-abbrev pub nothing_lent : ℕ → ℕ → LentAnswer
-nothing_lent n p = record { number = n; place = p; size = 0 }
+abbrev pub kind_is : Molecule → ℕ
+kind_is Dna = 1
+kind_is Rna = 2
+kind_is Aa = 3
+kind_is Other = 0
+
+abbrev pub shown_in : FeatureShown → paper.FeatureShown
+shown_in a = record { key = part_is a.key; location = part_is a.location; operator = operator_code a.operator; count = a.count }

@@ -1,12 +1,15 @@
-// The answers of document 01's calls as structs; and each handed over as numbers: every number lent is set in every case.
-// Any answer may be given. Relies on the paper alone.
+// The answers of document 01's calls: what is shown, or the paper's refusal; and each handed over as numbers: every number lent is set in
+// every case. Any answer may be given. Relies on the paper for a refusal, on value_words for a kind, and on location_judge for an operator.
 #![tactic(auto)]
 
 ghost use Rattle.std.specs.Prelude.{◌≡◌};
-ghost use Rattle.ask_answers.specs.Handed.{Narrow, flag_of, HandsVerdict, HandsSequence, HandsFeature, HandsQualifier, HandsLent, HandsIndexVerdict};
-ghost use Rattle.ask_answers.specs.Stretches.{no_stretch, no_sequence_answer, no_feature_answer, no_qualifier_answer, nothing_lent};
+ghost use Rattle.location_judge.specs.Readings.{operator_code};
+ghost use Rattle.ask_answers.specs.Stretches.{no_stretch, kind_is};
+ghost use Rattle.ask_answers.specs.Handed.{Narrow, HandsRefusal, HandsVerdict, HandsSequence, HandsFeature, HandsQualifier, HandsLent, HandsIndexVerdict};
 
-use paper::Verdict;
+use location_judge::operators::Operator;
+use paper::{Refused, Verdict};
+use value_words::Molecule;
 
 // A stretch of the listing.
 #[derive(Clone, Copy)]
@@ -21,137 +24,80 @@ pub fn no_stretch() -> Stretch
     Stretch { start: 0, size: 0 }
 }
 
-// ---- a sequence
+// ---- the answers
 
-// Its kind, and where its residues stand; or the number of a refusal and its place.
+// Of a sequence: its kind, and where its residues stand.
 #[derive(Clone, Copy)]
-pub struct SequenceAnswer {
-    pub number: usize,
-    pub place: usize,
-    pub kind: u8,
+pub struct SequenceShown {
+    pub kind: Molecule,
     pub residues: Stretch,
 }
 
-pub fn no_sequence(number: usize, place: usize) -> SequenceAnswer
-    ensures { result ≡ no_sequence_answer number place }
-{
-    SequenceAnswer {
-        number,
-        place,
-        kind: 0,
-        residues: no_stretch(),
-    }
-}
+pub type SequenceAnswer = Result<SequenceShown, Refused>;
 
-// ---- a feature
-
-// Where its key and its location stand, the operator (0 none, 1 join, 2 order) and the number of spans; or the number of a refusal and its
-// place.
+// Of a feature: where its key and its location stand, the location's operator if it has one, and the number of spans.
 #[derive(Clone, Copy)]
-pub struct FeatureAnswer {
-    pub number: usize,
-    pub place: usize,
+pub struct FeatureShown {
     pub key: Stretch,
     pub location: Stretch,
-    pub operator: u32,
+    pub operator: Option<Operator>,
     pub count: usize,
 }
 
-pub fn no_feature(number: usize, place: usize) -> FeatureAnswer
-    ensures { result ≡ no_feature_answer number place }
-{
-    FeatureAnswer {
-        number,
-        place,
-        key: no_stretch(),
-        location: no_stretch(),
-        operator: 0,
-        count: 0,
-    }
-}
+pub type FeatureAnswer = Result<FeatureShown, Refused>;
 
-// ---- a qualifier
-
-// Where its name and its value stand, and whether it has a value; or the number of a refusal and its place.
+// Of a qualifier: where its name stands, and its value if it has one.
 #[derive(Clone, Copy)]
-pub struct QualifierAnswer {
-    pub number: usize,
-    pub place: usize,
+pub struct QualifierShown {
     pub name: Stretch,
-    pub present: bool,
-    pub value: Stretch,
+    pub value: Option<Stretch>,
 }
 
-pub fn no_qualifier(number: usize, place: usize) -> QualifierAnswer
-    ensures { result ≡ no_qualifier_answer number place }
-{
-    QualifierAnswer {
-        number,
-        place,
-        name: no_stretch(),
-        present: false,
-        value: no_stretch(),
-    }
-}
+pub type QualifierAnswer = Result<QualifierShown, Refused>;
 
-// ---- lent bytes: translations, an index
+// Of lent bytes, for translations and an index: the length of what is written.
+pub type LentAnswer = Result<usize, Refused>;
 
-// The length of what is written; or the number of a refusal and its place.
-#[derive(Clone, Copy)]
-pub struct LentAnswer {
-    pub number: usize,
-    pub place: usize,
-    pub size: usize,
-}
-
-pub fn nothing_lent(number: usize, place: usize) -> LentAnswer
-    ensures { result ≡ nothing_lent number place }
-{
-    LentAnswer {
-        number,
-        place,
-        size: 0,
-    }
-}
-
-// ---- whether an index belongs to a listing
-
-// 0; or the number of a refusal and its place.
-#[derive(Clone, Copy)]
-pub struct IndexVerdict {
-    pub number: usize,
-    pub place: usize,
-}
+// Whether an index belongs to a listing.
+pub type IndexVerdict = Result<(), Refused>;
 
 // ---- handed over as numbers
 
-// The number that is returned. No refusal is above 50, so the test is never met.
+// The number that C is given: 0 none, 1 DNA, 2 RNA, 3 AA.
+pub fn kind_number(kind: Molecule) -> u8
+    ensures { result ≡ kind_is kind }
+{
+    match kind {
+        Molecule::Dna => 1,
+        Molecule::Rna => 2,
+        Molecule::Aa => 3,
+        Molecule::Other => 0,
+    }
+}
+
+// 0 none, 1 join, 2 order.
+fn operator_number(operator: Option<Operator>) -> u8
+    ensures { result ≡ operator_code operator }
+{
+    match operator {
+        None => 0,
+        Some(Operator::Join) => 1,
+        Some(Operator::Order) => 2,
+    }
+}
+
+// The number that is returned. No refusal is above 50, so none is cut off.
 fn narrow(number: usize) -> u32
     ensures { Narrow number result }
 {
-    if 255 < number {
-        return 255;
-    }
-    number as u32
+    number.min(255) as u32
 }
 
-// The same for an operator, none of which is above 2.
-fn operator_byte(operator: u32) -> u8
-    ensures { Narrow operator result }
+fn hand_refusal(refused: Refused, place: &mut usize) -> u32
+    ensures { HandsRefusal refused result place.new }
 {
-    if 255 < operator {
-        return 255;
-    }
-    operator as u8
-}
-
-fn flag(x: bool) -> u8
-    ensures { result ≡ flag_of x }
-{
-    if x {
-        return 1;
-    }
-    0
+    *place = refused.place;
+    narrow(refused.rule)
 }
 
 pub fn hand_verdict(
@@ -166,29 +112,22 @@ pub fn hand_verdict(
     ensures { HandsVerdict verdict result place.new total.new skipped.new features.new judged.new unjudged.new }
 {
     match verdict {
-        Verdict::Accepted {
-            total: t,
-            skipped: s,
-            features: f,
-            judged: j,
-            unjudged: u,
-        } => {
+        Ok(figures) => {
             *place = 0;
-            *total = t;
-            *skipped = s;
-            *features = f;
-            *judged = j;
-            *unjudged = u;
+            *total = figures.total;
+            *skipped = figures.skipped;
+            *features = figures.features;
+            *judged = figures.judged;
+            *unjudged = figures.unjudged;
             0
         }
-        Verdict::Refused { rule, place: p } => {
-            *place = p;
+        Err(refused) => {
             *total = 0;
             *skipped = 0;
             *features = 0;
             *judged = 0;
             *unjudged = 0;
-            narrow(rule)
+            hand_refusal(refused, place)
         }
     }
 }
@@ -202,17 +141,21 @@ pub fn hand_sequence(
 ) -> u32
     ensures { HandsSequence answer result place.new kind.new start.new size.new }
 {
-    let SequenceAnswer {
-        number,
-        place: p,
-        kind: d,
-        residues,
-    } = answer;
-    *place = p;
-    *kind = d;
-    *start = residues.start;
-    *size = residues.size;
-    narrow(number)
+    match answer {
+        Ok(sequence) => {
+            *place = 0;
+            *kind = kind_number(sequence.kind);
+            *start = sequence.residues.start;
+            *size = sequence.residues.size;
+            0
+        }
+        Err(refused) => {
+            *kind = 0;
+            *start = 0;
+            *size = 0;
+            hand_refusal(refused, place)
+        }
+    }
 }
 
 pub fn hand_feature(
@@ -227,22 +170,27 @@ pub fn hand_feature(
 ) -> u32
     ensures { HandsFeature answer result place.new keystart.new keysize.new locationstart.new locationsize.new operator.new count.new }
 {
-    let FeatureAnswer {
-        number,
-        place: p,
-        key,
-        location,
-        operator: o,
-        count: n,
-    } = answer;
-    *place = p;
-    *keystart = key.start;
-    *keysize = key.size;
-    *locationstart = location.start;
-    *locationsize = location.size;
-    *operator = operator_byte(o);
-    *count = n;
-    narrow(number)
+    match answer {
+        Ok(feature) => {
+            *place = 0;
+            *keystart = feature.key.start;
+            *keysize = feature.key.size;
+            *locationstart = feature.location.start;
+            *locationsize = feature.location.size;
+            *operator = operator_number(feature.operator);
+            *count = feature.count;
+            0
+        }
+        Err(refused) => {
+            *keystart = 0;
+            *keysize = 0;
+            *locationstart = 0;
+            *locationsize = 0;
+            *operator = 0;
+            *count = 0;
+            hand_refusal(refused, place)
+        }
+    }
 }
 
 pub fn hand_qualifier(
@@ -256,40 +204,53 @@ pub fn hand_qualifier(
 ) -> u32
     ensures { HandsQualifier answer result place.new namestart.new namesize.new present.new valuestart.new valuesize.new }
 {
-    let QualifierAnswer {
-        number,
-        place: p,
-        name,
-        present: has,
-        value,
-    } = answer;
-    *place = p;
-    *namestart = name.start;
-    *namesize = name.size;
-    *present = flag(has);
-    *valuestart = value.start;
-    *valuesize = value.size;
-    narrow(number)
+    match answer {
+        Ok(qualifier) => {
+            let value = qualifier.value.unwrap_or(no_stretch());
+            *place = 0;
+            *namestart = qualifier.name.start;
+            *namesize = qualifier.name.size;
+            *present = u8::from(qualifier.value.is_some());
+            *valuestart = value.start;
+            *valuesize = value.size;
+            0
+        }
+        Err(refused) => {
+            *namestart = 0;
+            *namesize = 0;
+            *present = 0;
+            *valuestart = 0;
+            *valuesize = 0;
+            hand_refusal(refused, place)
+        }
+    }
 }
 
 // For one translation, for all of a sequence, and for an index.
 pub fn hand_lent(answer: LentAnswer, place: &mut usize, size: &mut usize) -> u32
     ensures { HandsLent answer result place.new size.new }
 {
-    let LentAnswer {
-        number,
-        place: p,
-        size: n,
-    } = answer;
-    *place = p;
-    *size = n;
-    narrow(number)
+    match answer {
+        Ok(length) => {
+            *place = 0;
+            *size = length;
+            0
+        }
+        Err(refused) => {
+            *size = 0;
+            hand_refusal(refused, place)
+        }
+    }
 }
 
 pub fn hand_index_verdict(answer: IndexVerdict, place: &mut usize) -> u32
     ensures { HandsIndexVerdict answer result place.new }
 {
-    let IndexVerdict { number, place: p } = answer;
-    *place = p;
-    narrow(number)
+    match answer {
+        Ok(()) => {
+            *place = 0;
+            0
+        }
+        Err(refused) => hand_refusal(refused, place),
+    }
 }

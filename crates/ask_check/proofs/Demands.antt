@@ -9,11 +9,12 @@ use lib.ListN.{length}
 use Rattle.paper.specs.Tree.{Listing, Bare, forget}
 use Rattle.paper.specs.Layout.{LaidOut, Writes}
 use Rattle.paper.specs.Rules.{Broken, Breaks}
-use Rattle.paper.specs.Answers.{limit, CheckSays, Checked, refuse, give, Prints}
+use Rattle.std.specs.Prelude.{Ok, Err}
+use Rattle.paper.specs.Answers.{limit, Verdict, CheckSays, Checked, refuse, give, Prints}
 use Rattle.paper.specs.Answers as paper
 use Rattle.paper.specs.Demands.{IsAccepted, Good, Demand3}
-use Rattle.paper.specs.declared.Verdict.{Verdict}
-use Rattle.paper.specs.declared.Verdict.TheVariants.{Accepted, Refused}
+use Rattle.paper.specs.declared.Figures.{Figures}
+use Rattle.paper.specs.declared.Refused.{Refused}
 use Rattle.paper.proofs.Accepted.{listing, accepts}
 use Rattle.paper.proofs.Marks.{bare_exactly}
 use Rattle.paper.proofs.Once.{check_once, prints_once}
@@ -41,32 +42,36 @@ not_refused {n = n} {p} g (paper.breaks l h laid f) =
 
 -- demand 3: accepted exactly when some bare listing is written by the bytes and breaks none of the rules on values
 pub exactly : (w : List ℕ) (r : Verdict) → CheckSays w r → IsAccepted r ↔ Good w
-exactly w (Accepted t s f j u) c =
+exactly w (Ok a) c =
     let g = given c.1 in (
-      λ a. record {
+      λ i. record {
         short = g.0;
         bare = forget c.0;
         writes = record { listing = c.0; laid = g.1; same = refl };
         keeps = λ n b. let x = (bare_exactly ◌+◌ c.0 n).1 b in g.2 n x.0 x.1;
       },
-      λ g. record { total = t; skipped = s; features = f; judged = j; unjudged = u; is = refl },
+      λ g. record { figures = a; is = refl },
     )
-exactly w (Refused n p) c = (λ a. absurd (refused_not n p a), λ g. absurd (not_refused g c))
+exactly w (Err r) c = (λ i. absurd (refused_not r i), λ g. absurd (not_refused g c))
   where
-    refused_not : (n p : ℕ) → IsAccepted (Refused n p) → ⊥
-    refused_not n p a = true≢false (ap is_refused a.is)
+    refused_not : (r : Refused) → IsAccepted (Err r) → ⊥
+    refused_not r i = true≢false (ap is_refused i.is)
       where
         is_refused : Verdict → Bool
-        is_refused (Refused n p) = true
-        is_refused (Accepted t s f j u) = false
+        is_refused (Err r) = true
+        is_refused (Ok a) = false
 
--- someone is accepted, whatever allowed answer is given: the listing of paper/proofs/Accepted.antt
-pub someone : (r : Verdict) → CheckSays listing r → r ≡ Accepted 3 1 3 1 0
-someone r c = answers_once listing r (Accepted 3 1 3 1 0) c accepts
+-- what the check counts in the listing of paper/proofs/Accepted.antt
+abbrev figures : Figures
+figures = record { total = 3; skipped = 1; features = 3; judged = 1; unjudged = 0 }
+
+-- someone is accepted, whatever allowed answer is given: that listing
+pub someone : (r : Verdict) → CheckSays listing r → r ≡ Ok figures
+someone r c = answers_once listing r (Ok figures) c accepts
 
 -- and it is good by demand 3's own words
 pub someone_good : Good listing
-someone_good = (exactly listing (Accepted 3 1 3 1 0) accepts).0 (record { total = 3; skipped = 1; features = 3; judged = 1; unjudged = 0; is = refl })
+someone_good = (exactly listing (Ok figures) accepts).0 (record { figures = figures; is = refl })
 
 -- ".. and then no other is": any two that are written by the bytes are one
 pub no_other : (w : List ℕ) (a b : Bare) → Writes a w → Writes b w → a ≡ b

@@ -10,15 +10,13 @@ use Rattle.paper.specs.Values.{Number}
 use Rattle.paper.specs.Rules.{InHeader, InSequence, Broken, header, rule_14, sequence}
 use Rattle.paper.specs.Answers.{CheckSays}
 use Rattle.paper.specs.Answers as paper
-use Rattle.judge_faults.specs.declared.Fault.{Fault}
-use Rattle.judge_faults.specs.declared.Fault.TheVariants.{Clean, At}
-use Rattle.paper.specs.declared.Verdict.TheVariants.{Accepted}
-use Rattle.paper.specs.declared.Verdict.TheVariants as verdict
+use Rattle.std.specs.Prelude.{None, Some, Ok, Err}
+use Rattle.paper.specs.declared.Refused.{Refused}
 use Rattle.judge_faults.proofs.Parts.{◌or◌}
 use Rattle.read_steps.specs.Parts.{ShowsBytes}
 use Rattle.value_words.specs.Reading.{OfRead}
 use Rattle.read_layout.specs.Says.{Lays, Refuses, too_long, strays}
-use Rattle.judge_faults.specs.Sets.{Least, Earlier, Faults, Firsts, Bad, Some, unless_of}
+use Rattle.judge_faults.specs.Sets.{Fault, Least, Earlier, Faults, Firsts, Bad, InSome, unless_of}
 use Rattle.judge_faults.proofs.Faults.{firsts_or, firsts_as}
 use Rattle.judge_faults.proofs.Values.{text_fault}
 use Rattle.judge_header.specs.Headers.{JudgesHeader}
@@ -33,7 +31,7 @@ abbrev InTotal : Listing ℕ → Faults
 InTotal l = Bad 14 l.total.place (Number (length l.sequences) l.total.read)
 
 abbrev InParts : Listing ℕ → Faults
-InParts l = ◌or◌ (InHeader l) (◌or◌ (InTotal l) (Some InSequence l.sequences))
+InParts l = ◌or◌ (InHeader l) (◌or◌ (InTotal l) (InSome InSequence l.sequences))
 
 module _ (l : Listing ℕ) where
   to_broken : (n p : ℕ) → InParts l n p → Broken l n p
@@ -47,8 +45,8 @@ module _ (l : Listing ℕ) where
   of_broken n p (sequence k q i h) = inr (inr (k, q, i, h))
 
 pub listing_judged : {w p : List ℕ} {h : Headed} {t : Total} {ok : Bool} {c : Fault} (d r : Fault) → JudgesHeader w h → JudgesSequences w h.first t
-    → ShowsBytes w h.total.from h.total.to p → OfRead p (Number t.total) ok → c ≡ unless_of ok 14 h.total.from → Earlier c t.fault d → Earlier h.fault d r
-    → JudgesListing w (record { fault = r; total = t.total; skipped = t.skipped; features = t.features; judged = t.judged; unjudged = t.unjudged })
+    → ShowsBytes w h.total.from h.total.to p → OfRead p (Number t.figures.total) ok → c ≡ unless_of ok 14 h.total.from → Earlier c t.fault d → Earlier h.fault d r
+    → JudgesListing w (record { fault = r; figures = t.figures })
 listing_judged {t = t} {ok} {c} d r jh js sh on ec e1 e2 =
     record {
       says =
@@ -56,11 +54,11 @@ listing_judged {t = t} {ok} {c} d r jh js sh on ec e1 e2 =
           let y = jh.says l laid in
           let z = js.says short l.sequences y.end y.sequences y.closes in
           let fc : Firsts (InTotal l) c =
-          subst (λ (n : ℕ). Firsts (λ (m p : ℕ). (m ≡ 14) × (p ≡ l.total.place) × (¬ Number n l.total.read)) c) z.total (text_fault 14 (Number t.total) ok y.total sh on ec) in
+          subst (λ (n : ℕ). Firsts (λ (m p : ℕ). (m ≡ 14) × (p ≡ l.total.place) × (¬ Number n l.total.read)) c) z.total (text_fault 14 (Number t.figures.total) ok y.total sh on ec) in
           record {
             fault =
                 firsts_as (InParts l) (Broken l) (to_broken l) (of_broken l)
-                (firsts_or (InHeader l) (◌or◌ (InTotal l) (Some InSequence l.sequences)) y.fault (firsts_or (InTotal l) (Some InSequence l.sequences) fc z.fault e1) e2);
+                (firsts_or (InHeader l) (◌or◌ (InTotal l) (InSome InSequence l.sequences)) y.fault (firsts_or (InTotal l) (InSome InSequence l.sequences) fc z.fault e1) e2);
             counted =
                 λ clean.
                 let k = z.counted (λ n p x. clean n p (to_broken l n p (inr (inr x)))) in
@@ -69,18 +67,18 @@ listing_judged {t = t} {ok} {c} d r jh js sh on ec e1 e2 =
     }
 
 -- a refusal by rule 1 or 2
-pub refused_so : {w : List ℕ} {n p : ℕ} → Refuses w n p → CheckSays w (verdict.Refused n p)
+pub refused_so : {w : List ℕ} {n p : ℕ} → Refuses w n p → CheckSays w (Err (record { rule = n; place = p }))
 refused_so (too_long h) = paper.too_long h
 refused_so (strays h s) = paper.strays h s
 
 module _ {w : List ℕ} {t : Total} (lays : Lays w) (j : JudgesListing w t) where
   -- a refusal by a rule on values
-  pub broken_so : {f : Fault} {n p : ℕ} → t.fault ≡ f → f ≡ At n p → CheckSays w (verdict.Refused n p)
+  pub broken_so : {f : Fault} {r : Refused} → t.fault ≡ f → f ≡ Some r → CheckSays w (Err r)
   broken_so e h =
       paper.breaks lays.listing lays.short lays.laid
       (subst (Least (Broken lays.listing)) (e ∙ h) (j.says lays.listing lays.short lays.laid).fault.is)
 
-  pub accepted_so : {f : Fault} → t.fault ≡ f → f ≡ Clean → CheckSays w (Accepted t.total t.skipped t.features t.judged t.unjudged)
+  pub accepted_so : {f : Fault} → t.fault ≡ f → f ≡ None → CheckSays w (Ok t.figures)
   accepted_so e h =
       let y = j.says lays.listing lays.short lays.laid in
       let clean = subst (Least (Broken lays.listing)) (e ∙ h) y.fault.is in

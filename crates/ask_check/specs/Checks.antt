@@ -10,7 +10,7 @@ use Rattle.judge_sequences.specs.declared.Total.{Total}
 -- the first of the rules on values that is broken; and the counts, where none is
 pub record IsJudged (l : Listing ℕ) (r : Total) : Type 0 where
   pub fault : Firsts (Broken l) r.fault
-  pub counted : ((n p : ℕ) → ¬ Broken l n p) → Counts l r.total r.skipped r.features r.judged r.unjudged
+  pub counted : ((n p : ℕ) → ¬ Broken l n p) → Counts l r.figures.total r.figures.skipped r.figures.features r.figures.judged r.figures.unjudged
 
 pub record JudgesListing (w : List ℕ) (r : Total) : Type 0 where
   pub says : (l : Listing ℕ) → length w ≤ limit → LaidOut l w → IsJudged l r

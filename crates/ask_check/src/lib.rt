@@ -4,11 +4,9 @@
 ghost use Rattle.paper.specs.Answers.{CheckSays};
 ghost use Rattle.ask_check.specs.Checks.{JudgesListing};
 
-use judge_faults::Fault;
-use judge_header::Headed;
+use judge_features::LentTables;
 use judge_sequences::Total;
 use paper::Verdict;
-use read_layout::Shape;
 
 // The first broken rule of a text that is laid out, of the rules on values, and its counts.
 fn judge(listing: &[u8]) -> Total
@@ -17,29 +15,24 @@ fn judge(listing: &[u8]) -> Total
     let symbols = value_residues::symbol_table();
     let code = protein_code::code_table();
     let vocabulary = value_vocabulary::vocabulary_table();
-    let Headed {
-        fault: a,
-        total: part,
-        first,
-    } = judge_header::judge_header(listing);
-    let Total {
-        fault: b,
-        total,
-        skipped,
-        features,
-        judged,
-        unjudged,
-    } = judge_sequences::judge_sequences(listing, first, &symbols, &code, &vocabulary);
-    let ok = value_words::is_number(read_steps::bytes_of(listing, part.from, part.to), total);
-    let c = judge_faults::unless(ok, 14, part.from);
+    let header = judge_header::judge_header(listing);
+    let tables = LentTables {
+        code: &code,
+        vocabulary: &vocabulary,
+    };
+    let Total { fault: b, figures } = judge_sequences::judge_sequences(
+        listing,
+        header.first,
+        &symbols,
+        &tables,
+    );
+    let total = read_steps::bytes_of(listing, header.total.from, header.total.to);
+    let ok = value_words::is_number(total, figures.total);
+    let c = judge_faults::unless(ok, 14, header.total.from);
     let d = judge_faults::earlier(c, b);
     Total {
-        fault: judge_faults::earlier(a, d),
-        total,
-        skipped,
-        features,
-        judged,
-        unjudged,
+        fault: judge_faults::earlier(header.fault, d),
+        figures,
     }
 }
 
@@ -47,27 +40,10 @@ fn judge(listing: &[u8]) -> Total
 pub fn check(listing: &[u8]) -> Verdict
     ensures { CheckSays listing.now result }
 {
-    match read_layout::layout(listing) {
-        Shape::Refused { rule, place } => Verdict::Refused { rule, place },
-        Shape::Laid => {
-            let Total {
-                fault,
-                total,
-                skipped,
-                features,
-                judged,
-                unjudged,
-            } = judge(listing);
-            match fault {
-                Fault::Clean => Verdict::Accepted {
-                    total,
-                    skipped,
-                    features,
-                    judged,
-                    unjudged,
-                },
-                Fault::At { rule, place } => Verdict::Refused { rule, place },
-            }
-        }
+    read_layout::layout(listing)?;
+    let judged = judge(listing);
+    match judged.fault {
+        None => Ok(judged.figures),
+        Some(broken) => Err(broken),
     }
 }

@@ -1,5 +1,6 @@
 -- What is promised of the items of an accepted listing: which of the paper's tree is found, and where it stands.
-use Rattle.std.specs.Prelude.{ℕ, ◌≡◌, List, length, drop}
+use Rattle.std.specs.Prelude.{ℕ, ◌≡◌, Result, Ok, Err, List, length, drop}
+use Rattle.paper.specs.declared.Refused.{Refused}
 use Rattle.paper.specs.Form.{each}
 use Rattle.paper.specs.Tree.{Qualifier, Sequence, Listing}
 use Rattle.paper.specs.Layout.{child, sequence}
@@ -11,14 +12,7 @@ use Rattle.walk_items.specs.declared.FoundSequence.{FoundSequence}
 use Rattle.walk_items.specs.declared.FoundFeature.{FoundFeature}
 use Rattle.walk_items.specs.declared.FoundQualifier.{FoundQualifier}
 use Rattle.walk_seek.specs.Within.{FeatureHere}
-use Rattle.walk_seek.specs.declared.FeatureAt.{FeatureAt}
-use Rattle.walk_seek.specs.declared.FeatureAt.TheVariants as feature
-use Rattle.walk_seek.specs.declared.QualifierAt.{QualifierAt}
-use Rattle.walk_seek.specs.declared.QualifierAt.TheVariants as qualifier
 use Rattle.ask_find.specs.declared.AcceptedAt.{AcceptedAt}
-use Rattle.ask_find.specs.declared.AcceptedAt.TheVariants as first
-use Rattle.ask_find.specs.declared.SequenceAt.{SequenceAt}
-use Rattle.ask_find.specs.declared.SequenceAt.TheVariants as sequence
 
 -- ---- the sequences of an accepted listing
 
@@ -31,9 +25,9 @@ pub record FirstIs (w : List ℕ) (at total features : ℕ) : Type 0 where
   pub sequences : Stands (each (child sequence) listing.sequences) w at end
   pub closes : Starts closing (drop end w)
 
-abbrev pub FindsFirst : List ℕ → AcceptedAt → Type 0
-FindsFirst w (first.Refused n p) = Checked w (refuse n p)
-FindsFirst w (first.At at total features) = FirstIs w at total features
+abbrev pub FindsFirst : List ℕ → Result AcceptedAt Refused → Type 0
+FindsFirst w (Err r) = Checked w (refuse r.rule r.place)
+FindsFirst w (Ok a) = FirstIs w a.first a.total a.features
 
 -- ---- a sequence
 
@@ -43,9 +37,9 @@ pub record SequenceIs (w : List ℕ) (k : ℕ) (r : FoundSequence) : Type 0 wher
   pub end : ℕ
   pub is : IsSequence w asked end r
 
-abbrev pub SequenceAsked : List ℕ → ℕ → SequenceAt → Type 0
-SequenceAsked w k (sequence.Refused n p) = FindsSequence w k (refuse n p)
-SequenceAsked w k (sequence.Found r) = SequenceIs w k r
+abbrev pub SequenceAsked : List ℕ → ℕ → Result FoundSequence Refused → Type 0
+SequenceAsked w k (Err r) = FindsSequence w k (refuse r.rule r.place)
+SequenceAsked w k (Ok s) = SequenceIs w k s
 
 -- ---- a feature
 
@@ -53,9 +47,9 @@ pub record FeatureIs (w : List ℕ) (k j : ℕ) (s : FoundSequence) (f : FoundFe
   pub sequence : SequenceIs w k s
   pub feature : FeatureHere w (sequence).asked j f
 
-abbrev pub FeatureAsked : List ℕ → ℕ → ℕ → FeatureAt → Type 0
-FeatureAsked w k j (feature.Refused n p) = FindsFeature w k j (refuse n p)
-FeatureAsked w k j (feature.Found s f) = FeatureIs w k j s f
+abbrev pub FeatureAsked : List ℕ → ℕ → ℕ → Result (FoundSequence × FoundFeature) Refused → Type 0
+FeatureAsked w k j (Err r) = FindsFeature w k j (refuse r.rule r.place)
+FeatureAsked w k j (Ok x) = FeatureIs w k j x.0 x.1
 
 -- ---- a qualifier
 
@@ -65,6 +59,6 @@ pub record QualifierIs (w : List ℕ) (k j i : ℕ) (r : FoundQualifier) : Type 
   pub end : ℕ
   pub is : IsQualifier w asked end r
 
-abbrev pub QualifierAsked : List ℕ → ℕ → ℕ → ℕ → QualifierAt → Type 0
-QualifierAsked w k j i (qualifier.Refused n p) = FindsQualifier w k j i (refuse n p)
-QualifierAsked w k j i (qualifier.Found r) = QualifierIs w k j i r
+abbrev pub QualifierAsked : List ℕ → ℕ → ℕ → ℕ → Result FoundQualifier Refused → Type 0
+QualifierAsked w k j i (Err r) = FindsQualifier w k j i (refuse r.rule r.place)
+QualifierAsked w k j i (Ok q) = QualifierIs w k j i q

@@ -4,100 +4,65 @@
 
 ghost use Rattle.ask_find.specs.Finds.{FindsFirst, SequenceAsked, FeatureAsked, QualifierAsked};
 
-use judge_header::Headed;
-use paper::Verdict;
-use walk_items::FoundSequence;
-use walk_seek::{FeatureAt, Item, Place, QualifierAt, feature_in, nth, qualifier_in};
+use paper::Refused;
+use walk_items::{FoundFeature, FoundQualifier, FoundSequence};
+use walk_seek::{Item, feature_in, nth, qualifier_in};
 
-// Where the sequences of an accepted listing start, and the check's counts of sequences and of features; or its refusal.
+// Where the sequences of an accepted listing start, and the check's counts of sequences and of features.
 #[derive(Clone, Copy)]
-pub enum AcceptedAt {
-    Refused {
-        rule: usize,
-        place: usize,
-    },
-    At {
-        first: usize,
-        total: usize,
-        features: usize,
-    },
+pub struct AcceptedAt {
+    pub first: usize,
+    pub total: usize,
+    pub features: usize,
 }
 
-pub fn accepted(listing: &[u8]) -> AcceptedAt
+pub fn accepted(listing: &[u8]) -> Result<AcceptedAt, Refused>
     ensures { FindsFirst listing.now result }
 {
-    match ask_check::check(listing) {
-        Verdict::Refused { rule, place } => AcceptedAt::Refused { rule, place },
-        Verdict::Accepted {
-            total,
-            skipped: _,
-            features,
-            judged: _,
-            unjudged: _,
-        } => {
-            let Headed {
-                fault: _,
-                total: _,
-                first,
-            } = judge_header::judge_header(listing);
-            AcceptedAt::At {
-                first,
-                total,
-                features,
-            }
-        }
-    }
-}
-
-#[derive(Clone, Copy)]
-pub enum SequenceAt {
-    Refused { rule: usize, place: usize },
-    Found(FoundSequence),
+    let figures = ask_check::check(listing)?;
+    let headed = judge_header::judge_header(listing);
+    Ok(AcceptedAt {
+        first: headed.first,
+        total: figures.total,
+        features: figures.features,
+    })
 }
 
 // The sequence number k, if it isn't skipped.
-#[tactic(auto, using(crate::proofs::Found::skipped_found))]
-pub fn find_sequence(listing: &[u8], k: usize) -> SequenceAt
+pub fn find_sequence(listing: &[u8], k: usize) -> Result<FoundSequence, Refused>
     ensures { SequenceAsked listing.now k result }
 {
-    match accepted(listing) {
-        AcceptedAt::Refused { rule, place } => SequenceAt::Refused { rule, place },
-        AcceptedAt::At {
-            first,
-            total: _,
-            features: _,
-        } => match nth(listing, first, k, Item::Sequence) {
-            Place::Missing => SequenceAt::Refused { rule: 30, place: 0 },
-            Place::At(at) => {
-                let found = walk_items::sequence(listing, at);
-                if judge_texts::is_skipped(listing, found.residues) {
-                    return SequenceAt::Refused { rule: 31, place: 0 };
-                }
-                SequenceAt::Found(found)
-            }
-        },
+    let list = accepted(listing)?;
+    let at = nth(listing, list.first, k, Item::Sequence).ok_or(Refused { rule: 30, place: 0 })?;
+    let found = walk_items::sequence(listing, at);
+    if judge_texts::is_skipped(listing, found.residues) {
+        return Err(Refused { rule: 31, place: 0 });
     }
+    Ok(found)
 }
 
-// The feature number j of the sequence number k.
-pub fn find_feature(listing: &[u8], k: usize, j: usize) -> FeatureAt
+// The feature number j of the sequence number k, and the sequence.
+pub fn find_feature(
+    listing: &[u8],
+    k: usize,
+    j: usize,
+) -> Result<(FoundSequence, FoundFeature), Refused>
     ensures { FeatureAsked listing.now k j result }
 {
-    match find_sequence(listing, k) {
-        SequenceAt::Refused { rule, place } => FeatureAt::Refused { rule, place },
-        SequenceAt::Found(sequence) => feature_in(listing, sequence, j),
-    }
+    let sequence = find_sequence(listing, k)?;
+    let feature = feature_in(listing, sequence, j)?;
+    Ok((sequence, feature))
 }
 
 // The qualifier number i of the feature number j of the sequence number k.
-pub fn find_qualifier(listing: &[u8], k: usize, j: usize, i: usize) -> QualifierAt
+pub fn find_qualifier(
+    listing: &[u8],
+    k: usize,
+    j: usize,
+    i: usize,
+) -> Result<FoundQualifier, Refused>
     ensures { QualifierAsked listing.now k j i result }
 {
-    match find_feature(listing, k, j) {
-        FeatureAt::Refused { rule, place } => QualifierAt::Refused { rule, place },
-        FeatureAt::Found {
-            sequence: _,
-            feature,
-        } => qualifier_in(listing, feature, i),
-    }
+    let (_, feature) = find_feature(listing, k, j)?;
+    qualifier_in(listing, feature, i)
 }

@@ -15,7 +15,7 @@ use Rattle.value_words.specs.Reading.{KindIs}
 use Rattle.value_words.specs.declared.Molecule.{Molecule}
 use Rattle.value_words.specs.declared.Molecule.TheVariants.{Dna, Rna, Aa, Other}
 use Rattle.ask_translation.specs.Plans.{Keeps}
-use Rattle.ask_show.specs.Shown.{kind_is}
+use Rattle.ask_answers.specs.Stretches.{kind_is}
 
 pub record Accepts (w : List ℕ) (q : Sequence ℕ) : Type 0 where
   pub short : length w ≤ limit

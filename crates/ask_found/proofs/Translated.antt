@@ -3,28 +3,34 @@ use Prim.Native.Nat.{ℕ}
 use native.Mathlib.Omega.{arith}
 use mathlib.Core.Path.{◌≡◌, sym, subst}
 use mathlib.Core.List.{List, []}
+use Rattle.std.specs.Prelude.{Ok, Err}
 use Rattle.paper.specs.Tree.{Sequence, Feature, features_of}
-use Rattle.paper.specs.Answers.{refuse, give, FindsSequence, FindsFeature, Lines, Lent, TranslationsSays}
+use Rattle.paper.specs.Answers.{Outcome, refuse, give, FindsSequence, FindsFeature, Lines, Lent, TranslationSays, TranslationsSays}
 use Rattle.paper.specs.Answers as paper
+use Rattle.paper.proofs.Refusals as refusals
 use Rattle.walk_items.specs.declared.FoundFeature.{FoundFeature}
 use Rattle.judge_faults.specs.declared.Known.{Known}
-use Rattle.ask_answers.specs.Stretches.{nothing_lent}
-use Rattle.ask_answers.specs.declared.LentAnswer.{LentAnswer}
+use Rattle.ask_answers.specs.Stretches.{LentAnswer}
+use Rattle.ask_answers.specs.Given.{LentGivenBy}
 use Rattle.ask_translation.specs.Ones.{TranslatesOne}
 use Rattle.ask_translations.specs.Lines.{TranslatesAll}
-use Rattle.ask_found.specs.Answers.{TranslationGiven, TranslationsGiven, AnswersTranslation, AnswersTranslations}
+use Rattle.ask_found.specs.Answers.{AnswersTranslation, AnswersTranslations}
 use Rattle.ask_found.proofs.Accepted.{accepts, keeps_feature, feature_keeps}
 
-module _ {w : List ℕ} {k : ℕ} {out : List ℕ} {n p : ℕ} {r : LentAnswer} (e : r ≡ nothing_lent n p) where
-  pub translation_refused : {j : ℕ} → FindsFeature w k j (refuse n p) → TranslationGiven w k j out r out
-  translation_refused {j} h =
-      subst (λ (r : LentAnswer). TranslationGiven w k j out r out) (sym e)
-      (record { outcome = refuse n p; finds = paper.earlier h; lent = paper.refused })
+module _ {w : List ℕ} {k : ℕ} {out : List ℕ} {n p : ℕ} where
+  pub translation_refused : {j : ℕ} → FindsFeature w k j (refuse n p) → (¬ (n ≡ 0)) × TranslationSays w k j out n p 0 out
+  translation_refused h =
+      (refusals.refusal_some (refusals.feature_refused h), record { outcome = refuse n p; finds = paper.earlier h; lent = paper.refused })
 
-  pub translations_refused : FindsSequence w k (refuse n p) → TranslationsGiven w k out r out
+  pub translations_refused : FindsSequence w k (refuse n p) → (¬ (n ≡ 0)) × TranslationsSays w k out n p 0 out
   translations_refused h =
-      subst (λ (r : LentAnswer). TranslationsGiven w k out r out) (sym e)
-      (record { outcome = refuse n p; finds = paper.earlier h; lent = paper.refused })
+      (refusals.refusal_some (refusals.sequence_refused h), record { outcome = refuse n p; finds = paper.earlier h; lent = paper.refused })
+
+-- what is lent of an outcome is what the paper says of the call that has it
+lent_says : {out after : List ℕ} (Says : ℕ → ℕ → ℕ → List ℕ → Type 0) (o : Outcome (List ℕ)) (r : LentAnswer) → LentGivenBy (Lent out o) r after
+    → ((n p z : ℕ) → Lent out o n p z after → Says n p z after) → LentGivenBy Says r after
+lent_says Says o (Ok n) l f = f 0 0 n l
+lent_says Says o (Err q) l f = (l.0, f q.rule q.place 0 l.1)
 
 -- no feature, and no line
 pub translations_none : {w : List ℕ} {k : ℕ} {out : List ℕ} {q : Sequence ℕ} → FindsSequence w k (give q) → features_of q ≡ [] → TranslationsSays w k out 0 0 0 out
@@ -43,11 +49,8 @@ module _ {w : List ℕ} {known : Known} {g : FoundFeature} {out : List ℕ} {r :
         says =
             λ k j q f e finds knows is.
             let y = t.says q f e knows is (feature_keeps finds) in
-            record {
-              outcome = y.outcome;
-              finds = paper.feature finds y.translates;
-              lent = subst (Lent out y.outcome r.number r.place r.size) (sym y.laid.is) y.laid.lent;
-            };
+            lent_says (TranslationSays w k j out) y.outcome r (subst (LentGivenBy (Lent out y.outcome) r) (sym y.laid.is) y.laid.lent)
+            (λ n p z l. record { outcome = y.outcome; finds = paper.feature finds y.translates; lent = l });
       }
 
   pub translations_found : TranslatesAll w known g out r after
@@ -57,5 +60,6 @@ module _ {w : List ℕ} {known : Known} {g : FoundFeature} {out : List ℕ} {r :
         says =
             λ k q finds knows first.
             let y = t.says q knows first (keeps_feature (accepts finds)) in
-            record { outcome = give y.lines; finds = paper.translations finds y.are; lent = y.lent };
+            lent_says (TranslationsSays w k out) (give y.lines) r y.lent
+            (λ n p z l. record { outcome = give y.lines; finds = paper.translations finds y.are; lent = l });
       }

@@ -1,8 +1,8 @@
 -- What is promised of an answer: it is the paper's, of whichever item of an accepted listing was found so.
-use Rattle.std.specs.Prelude.{ℕ, ◌≡◌, List}
+use Rattle.std.specs.Prelude.{ℕ, ◌≡◌, Ok, List}
 use Rattle.paper.specs.Tree.{Qualifier, Feature, Sequence}
 use Rattle.paper.specs.Rules.{L}
-use Rattle.paper.specs.Answers.{give, FindsSequence, FindsFeature, FindsQualifier, SequenceSays, FeatureSays, QualifierSays, TranslationSays, TranslationsSays}
+use Rattle.paper.specs.Answers.{give, FindsSequence, FindsFeature, FindsQualifier}
 use Rattle.value_words.specs.Reading.{KindIs}
 use Rattle.value_words.specs.declared.Molecule.{Molecule}
 use Rattle.walk_steps.specs.Stands.{IsPart}
@@ -12,31 +12,10 @@ use Rattle.walk_items.specs.declared.FoundQualifier.{FoundQualifier}
 use Rattle.walk_items.specs.declared.FoundFeature.{FoundFeature}
 use Rattle.judge_faults.specs.Known.{Knows}
 use Rattle.judge_faults.specs.declared.Known.{Known}
-use Rattle.ask_answers.specs.Stretches.{part_is, shown_in, Lies}
-use Rattle.ask_answers.specs.declared.SequenceAnswer.{SequenceAnswer}
-use Rattle.ask_answers.specs.declared.FeatureAnswer.{FeatureAnswer}
-use Rattle.ask_answers.specs.declared.QualifierAnswer.{QualifierAnswer}
-use Rattle.ask_answers.specs.declared.LentAnswer.{LentAnswer}
-
--- ---- what the paper says of an answer; a part that it shows lies within the listing
-
-abbrev pub SequenceGiven : List ℕ → ℕ → SequenceAnswer → Type 0
-SequenceGiven w k r = SequenceSays w k r.number r.place r.kind (part_is r.residues) × Lies w r.residues
-
-abbrev pub FeatureGiven : List ℕ → ℕ → ℕ → List ℕ → FeatureAnswer → List ℕ → Type 0
-FeatureGiven w k j out r after = FeatureSays w k j out r.number r.place (shown_in r) after × (Lies w r.key × Lies w r.location)
-
-abbrev pub QualifierGiven : List ℕ → ℕ → ℕ → ℕ → QualifierAnswer → Type 0
-QualifierGiven w k j i r =
-    QualifierSays w k j i r.number r.place (part_is r.name) r.present (part_is r.value) × (Lies w r.name × Lies w r.value)
-
-abbrev pub TranslationGiven : List ℕ → ℕ → ℕ → List ℕ → LentAnswer → List ℕ → Type 0
-TranslationGiven w k j out r after = TranslationSays w k j out r.number r.place r.size after
-
-abbrev pub TranslationsGiven : List ℕ → ℕ → List ℕ → LentAnswer → List ℕ → Type 0
-TranslationsGiven w k out r after = TranslationsSays w k out r.number r.place r.size after
-
--- ---- of whichever item was found
+use Rattle.ask_answers.specs.Stretches.{FeatureAnswer, LentAnswer}
+use Rattle.ask_answers.specs.Given.{SequenceGiven, FeatureGiven, QualifierGiven, TranslationGiven, TranslationsGiven}
+use Rattle.ask_answers.specs.declared.SequenceShown.{SequenceShown}
+use Rattle.ask_answers.specs.declared.QualifierShown.{QualifierShown}
 
 pub record TopOf (residues : Range) (r : ℕ) : Type 0 where
   pub says : (w : List ℕ) (k : ℕ) (q : Sequence ℕ) → FindsSequence w k (give q) → IsPart w q.residues residues → r ≡ L q
@@ -45,17 +24,17 @@ pub record KnowsFound (kind : Molecule) (residues : Range) (r : Known) : Type 0 
   pub says : (w : List ℕ) (k : ℕ) (q : Sequence ℕ) → FindsSequence w k (give q) → KindIs q.moltype.read kind → IsPart w q.residues residues
       → Knows w q r
 
-pub record AnswersSequence (kind : Molecule) (residues : Range) (r : SequenceAnswer) : Type 0 where
+pub record AnswersSequence (kind : Molecule) (residues : Range) (r : SequenceShown) : Type 0 where
   pub says : (w : List ℕ) (k : ℕ) (q : Sequence ℕ) → FindsSequence w k (give q) → KindIs q.moltype.read kind → IsPart w q.residues residues
-      → SequenceGiven w k r
+      → SequenceGiven w k (Ok r)
 
 pub record AnswersFeature (w : List ℕ) (residues key location : Range) (out : List ℕ) (r : FeatureAnswer) (after : List ℕ) : Type 0 where
   pub says : (k j : ℕ) (q : Sequence ℕ) (f : Feature ℕ) → FindsFeature w k j (give (q, f)) → IsPart w q.residues residues → IsPart w f.key key
       → IsPart w f.location location → FeatureGiven w k j out r after
 
-pub record AnswersQualifier (found : FoundQualifier) (r : QualifierAnswer) : Type 0 where
+pub record AnswersQualifier (found : FoundQualifier) (r : QualifierShown) : Type 0 where
   pub says : (w : List ℕ) (k j i : ℕ) (q : Qualifier ℕ) (e : ℕ) → FindsQualifier w k j i (give q) → IsQualifier w q e found
-      → QualifierGiven w k j i r
+      → QualifierGiven w k j i (Ok r)
 
 pub record AnswersTranslation (w : List ℕ) (known : Known) (feature : FoundFeature) (out : List ℕ) (r : LentAnswer) (after : List ℕ) : Type 0 where
   pub says : (k j : ℕ) (q : Sequence ℕ) (f : Feature ℕ) (e : ℕ) → FindsFeature w k j (give (q, f)) → Knows w q known → IsFeature w f e feature

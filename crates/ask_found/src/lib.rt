@@ -5,10 +5,10 @@
 
 ghost use Rattle.ask_found.specs.Answers.{TopOf, KnowsFound, AnswersSequence, AnswersFeature, AnswersQualifier, AnswersTranslation, AnswersTranslations};
 
-use ask_answers::{FeatureAnswer, LentAnswer, QualifierAnswer, SequenceAnswer, no_feature};
-use ask_show::{is_present, kind_number, stretch_of, value_stretch};
+use ask_answers::{FeatureAnswer, FeatureShown, LentAnswer, QualifierShown, SequenceShown};
+use ask_show::{stretch_of, value_stretch};
 use judge_faults::Known;
-use location_spans::room::Answer;
+use paper::Refused;
 use value_words::Molecule;
 use walk_items::{FoundFeature, FoundQualifier};
 use walk_steps::Range;
@@ -32,13 +32,11 @@ pub fn known_of(kind: Molecule, residues: Range) -> Known
     }
 }
 
-pub fn sequence_answer(kind: Molecule, residues: Range) -> SequenceAnswer
+pub fn sequence_answer(kind: Molecule, residues: Range) -> SequenceShown
     ensures { AnswersSequence kind residues result }
 {
-    SequenceAnswer {
-        number: 0,
-        place: 0,
-        kind: kind_number(kind),
+    SequenceShown {
+        kind,
         residues: stretch_of(residues),
     }
 }
@@ -54,29 +52,22 @@ pub fn feature_answer(
     ensures { AnswersFeature listing.now residues key location out.old result out.new }
 {
     let top = top_of(residues);
-    match location_spans::room::spans(listing, location.from, location.to, top, out) {
-        Answer::Short => no_feature(34, 0),
-        Answer::Are(operator, count) => FeatureAnswer {
-            number: 0,
-            place: 0,
-            key: stretch_of(key),
-            location: stretch_of(location),
-            operator,
-            count,
-        },
-    }
+    let written = location_spans::room::spans(listing, location.from, location.to, top, out);
+    let spans = written.ok_or(Refused { rule: 34, place: 0 })?;
+    Ok(FeatureShown {
+        key: stretch_of(key),
+        location: stretch_of(location),
+        operator: spans.operator,
+        count: spans.count,
+    })
 }
 
-pub fn qualifier_answer(found: FoundQualifier) -> QualifierAnswer
+pub fn qualifier_answer(found: FoundQualifier) -> QualifierShown
     ensures { AnswersQualifier found result }
 {
-    let value = found.value;
-    QualifierAnswer {
-        number: 0,
-        place: 0,
+    QualifierShown {
         name: stretch_of(found.name),
-        present: is_present(value),
-        value: value_stretch(value),
+        value: value_stretch(found.value),
     }
 }
 

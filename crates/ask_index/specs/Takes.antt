@@ -1,5 +1,5 @@
 -- What is promised of an index that is checked: the checker's refusal, or that it belongs to the listing, whose sequences stand somewhere.
-use Rattle.std.specs.Prelude.{ℕ, ◌≡◌, List, drop}
+use Rattle.std.specs.Prelude.{ℕ, ◌≡◌, Ok, Err, List, drop}
 use Rattle.paper.specs.Form.{each}
 use Rattle.paper.specs.Tree.{Listing}
 use Rattle.paper.specs.Layout.{child, sequence}
@@ -7,8 +7,7 @@ use Rattle.paper.specs.Answers.{refuse, give, Checked}
 use Rattle.paper.specs.Index.{index_of, ChecksIndex}
 use Rattle.read_steps.specs.Follow.{Starts, closing}
 use Rattle.walk_steps.specs.Stands.{Stands}
-use Rattle.ask_index.specs.declared.Taken.{Taken}
-use Rattle.ask_index.specs.declared.Taken.TheVariants.{Refused, Belongs}
+use Rattle.ask_answers.specs.Stretches.{IndexVerdict}
 
 pub record IndexOf (w x : List ℕ) : Type 0 where
   pub listing : Listing ℕ
@@ -19,6 +18,6 @@ pub record IndexOf (w x : List ℕ) : Type 0 where
   pub sequences : Stands (each (child sequence) listing.sequences) w first end
   pub closes : Starts closing (drop end w)
 
-abbrev pub TakesIndex : List ℕ → List ℕ → Taken → Type 0
-TakesIndex w x (Refused n p) = ChecksIndex w x (refuse n p)
-TakesIndex w x Belongs = IndexOf w x
+abbrev pub TakesIndex : List ℕ → List ℕ → IndexVerdict → Type 0
+TakesIndex w x (Err r) = ChecksIndex w x (refuse r.rule r.place)
+TakesIndex w x (Ok y) = IndexOf w x

@@ -5,6 +5,8 @@ use mathlib.Core.Path.{◌≡◌, refl, sym, ap, ◌∙◌, subst}
 use mathlib.Core.Logic.{inl}
 use mathlib.Core.List.{List, [], ◌++◌}
 use mathlib.Core.Option.{none-ne-some}
+use Rattle.std.specs.Prelude.{Option, Some, None, Result, Ok, Err}
+use Rattle.paper.specs.declared.Refused.{Refused}
 use lib.ListN.{length, drop, take-append-drop}
 use lib.Seq.{drop-drop}
 use Rattle.paper.specs.Bytes.{bytes, raw}
@@ -30,40 +32,35 @@ use Rattle.walk_items.proofs.Sequences.{sequence_leads}
 use Rattle.walk_items.proofs.Inner.{Somewhere, item_stands, feature_stands}
 use Rattle.index_find.specs.Finds.{RangeOf, NoBody, BodyFound, EntryFound}
 use Rattle.index_find.specs.declared.Body.{Body}
-use Rattle.index_find.specs.declared.BodyAt.{BodyAt}
-use Rattle.index_find.specs.declared.BodyAt.TheVariants as body
 use Rattle.index_find.specs.declared.Entry.{Entry}
-use Rattle.index_find.specs.declared.EntryAt.{EntryAt}
-use Rattle.index_find.specs.declared.EntryAt.TheVariants as entry
 use Rattle.ask_index.specs.Takes.{IndexOf}
 use Rattle.ask_found.proofs.Accepted.{feature_keeps}
-use Rattle.ask_indexed.specs.Finds.{Refuses, checker, later, SequenceRefused, FeatureRefused, BodyHere, BodyAsked, EntryHere, EntryAsked}
-use Rattle.ask_indexed.specs.declared.Entered.TheVariants as entered
+use Rattle.ask_indexed.specs.Finds.{Refuses, checker, later, SequenceRefused, FeatureRefused, BodyHere, BodyAsked, EntryHere}
 
 -- ---- by its numbers
 
 module _ {w x : List ℕ} {k : ℕ} where
-  pub body_found : IndexOf w x → (y : BodyAt) → BodyFound x k y → BodyAsked w x k y
-  body_found i (body.Refused n p) f = later i (none_such (f.says i.listing i.is (fits i.accepted)))
+  pub body_found : IndexOf w x → (y : Result Body Refused) → BodyFound x k y → BodyAsked w x k y
+  body_found i (Err r) f = later i (none_such (f.says i.listing i.is (fits i.accepted)))
     where
       none_such : {n p : ℕ} → NoBody i.listing k n p → FindsSequence w k (refuse n p)
       none_such (NoBody.no_sequence h) = paper.no_sequence i.accepted h
       none_such (NoBody.skipped s m h) = paper.skipped s i.accepted m h
-  body_found i (body.Found b) f =
+  body_found i (Ok b) f =
       let z = f.says i.listing i.is (fits i.accepted) in
       record { index = i; asked = z.0; numbered = z.1; finds = paper.sequence i.accepted z.1 z.2; is = z.3 }
 
-  module _ {j : ℕ} {b : Body} (i : BodyHere w x k b) where
-    -- what is promised of an entry, of the variant that a match told
-    entry_in : {y z : EntryAt} → y ≡ z → EntryFound x b j y → EntryFound x b j z
-    entry_in e f = subst (EntryFound x b j) e f
+  module _ {j : ℕ} {b : Body} (i : BodyHere w x k b) {y : Option Entry} (f : EntryFound x b j y) where
+    -- what is promised of an entry, of the variant that it is
+    entry_in : {z : Option Entry} → y ≡ z → EntryFound x b j z
+    entry_in e = subst (EntryFound x b j) e f
 
-    pub entry_missing : {y : EntryAt} → y ≡ entry.Missing → EntryFound x b j y → EntryAsked w x k j (entered.Refused 32 0)
-    entry_missing e f = later i.index (paper.no_feature i.finds ((entry_in e f).says i.asked i.is))
+    pub entry_missing : y ≡ None → Refuses w x (FeatureRefused w k j) 32 0
+    entry_missing e = later i.index (paper.no_feature i.finds ((entry_in e).says i.asked i.is))
 
-    pub entry_found : {y : EntryAt} {e : Entry} → y ≡ entry.Found e → EntryFound x b j y → EntryHere w x k j b e
-    entry_found q f =
-        let z = (entry_in q f).says i.asked i.is in
+    pub entry_found : {e : Entry} → y ≡ Some e → EntryHere w x k j b e
+    entry_found q =
+        let z = (entry_in q).says i.asked i.is in
         record { body = i; asked = z.0; numbered = z.1; key = z.2; location = z.3 }
 
 -- a refusal of the sequence comes first

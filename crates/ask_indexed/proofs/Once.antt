@@ -3,11 +3,15 @@ use Prim.Native.Nat.{ℕ}
 use mathlib.Core.Path.{◌≡◌}
 use mathlib.Core.Bool.{Bool}
 use mathlib.Core.List.{List}
+use Rattle.std.specs.Prelude.{Result}
+use Rattle.paper.specs.declared.Refused.{Refused}
 use Rattle.paper.specs.Answers.{Part, FeatureShown}
 use Rattle.paper.specs.Index.{IndexedSequenceSays, IndexedFeatureSays, IndexedQualifierSays, IndexedTranslationSays, IndexedTranslationsSays}
 use Rattle.paper.proofs.Once as once
 use Rattle.read_layout.proofs.Wholes.{laid_once}
-use Rattle.ask_show.specs.Shown.{SequenceView, FeatureView, QualifierView}
+use Rattle.ask_show.specs.declared.Sequence.{Sequence}
+use Rattle.ask_show.specs.declared.Feature.{Feature}
+use Rattle.ask_show.specs.declared.Qualifier.{Qualifier}
 use Rattle.ask_show.proofs.Views as views
 use Rattle.ask_indexed.specs.Shows.{ShowsSequence, ShowsFeature, ShowsQualifier}
 
@@ -37,12 +41,13 @@ module _ {w x : List ℕ} {k : ℕ} where
 
 -- ---- parts of the lent listing, which stands at `at`
 
-module _ {w : List ℕ} {at : ℕ × ℕ} {x : List ℕ} where
-  pub shows_sequence_once : {k : ℕ} (y z : SequenceView) → ShowsSequence w at x k y → ShowsSequence w at x k z → y ≡ z
-  shows_sequence_once {k} = views.shows_sequence_once (IndexedSequenceSays w x k) (λ n p d m q e y z. sequence_once)
+module _ (w : List ℕ) (at : ℕ × ℕ) (x : List ℕ) where
+  pub shows_sequence_once : (k : ℕ) (y z : Sequence) → ShowsSequence w at x k y → ShowsSequence w at x k z → y ≡ z
+  shows_sequence_once k = views.shows_sequence_once w at (IndexedSequenceSays w x k) (λ n p d m q e y z. sequence_once)
 
-  pub shows_feature_once : {k j : ℕ} {out : List ℕ} (y z : FeatureView) → ShowsFeature w at x k j out y → ShowsFeature w at x k j out z → y ≡ z
-  shows_feature_once {k} {j} {out} = views.shows_feature_once (IndexedFeatureSays w x k j out) (λ n p m q y z a b. feature_once)
+  pub shows_feature_once : (k j : ℕ) (out : List ℕ) (y z : Result Feature Refused) (a b : List ℕ) → ShowsFeature w at x k j out y a
+      → ShowsFeature w at x k j out z b → (y ≡ z) × (a ≡ b)
+  shows_feature_once k j out = views.shows_feature_once w at (IndexedFeatureSays w x k j out) (λ n p m q y z a b. feature_once)
 
-  pub shows_qualifier_once : {k j i : ℕ} (y z : QualifierView) → ShowsQualifier w at x k j i y → ShowsQualifier w at x k j i z → y ≡ z
-  shows_qualifier_once {k} {j} {i} = views.shows_qualifier_once (IndexedQualifierSays w x k j i) (λ n p m q a v c u b d. qualifier_once)
+  pub shows_qualifier_once : (k j i : ℕ) (y z : Result Qualifier Refused) → ShowsQualifier w at x k j i y → ShowsQualifier w at x k j i z → y ≡ z
+  shows_qualifier_once k j i = views.shows_qualifier_once w at (IndexedQualifierSays w x k j i) (λ n p m q a v c u b d. qualifier_once)

@@ -1,17 +1,14 @@
 -- What is promised of an item that an index finds: the checker's refusal, a later one, or which of the paper's tree it is.
-use Rattle.std.specs.Prelude.{ℕ, List}
+use Rattle.std.specs.Prelude.{ℕ, Result, Ok, Err, List}
+use Rattle.paper.specs.declared.Refused.{Refused}
 use Rattle.paper.specs.Lists.{Numbered}
 use Rattle.paper.specs.Tree.{Feature, Sequence, features_of}
 use Rattle.paper.specs.Answers.{refuse, give, FindsSequence, FindsFeature}
 use Rattle.paper.specs.Index.{ChecksIndex}
 use Rattle.index_find.specs.Finds.{RangeOf, BodyIs}
 use Rattle.index_find.specs.declared.Body.{Body}
-use Rattle.index_find.specs.declared.BodyAt.{BodyAt}
-use Rattle.index_find.specs.declared.BodyAt.TheVariants as body
 use Rattle.index_find.specs.declared.Entry.{Entry}
 use Rattle.ask_index.specs.Takes.{IndexOf}
-use Rattle.ask_indexed.specs.declared.Entered.{Entered}
-use Rattle.ask_indexed.specs.declared.Entered.TheVariants as entry
 
 -- the checker's refusal; or, where the index belongs to the listing, a later one
 pub data Refuses (w x : List ℕ) (Later : ℕ → ℕ → Type 0) (n p : ℕ) : Type 0 where
@@ -30,9 +27,9 @@ pub record BodyHere (w x : List ℕ) (k : ℕ) (b : Body) : Type 0 where
 abbrev pub SequenceRefused : List ℕ → ℕ → ℕ → ℕ → Type 0
 SequenceRefused w k n p = FindsSequence w k (refuse n p)
 
-abbrev pub BodyAsked : List ℕ → List ℕ → ℕ → BodyAt → Type 0
-BodyAsked w x k (body.Refused n p) = Refuses w x (SequenceRefused w k) n p
-BodyAsked w x k (body.Found b) = BodyHere w x k b
+abbrev pub BodyAsked : List ℕ → List ℕ → ℕ → Result Body Refused → Type 0
+BodyAsked w x k (Err r) = Refuses w x (SequenceRefused w k) r.rule r.place
+BodyAsked w x k (Ok b) = BodyHere w x k b
 
 -- ---- a feature
 
@@ -46,6 +43,6 @@ pub record EntryHere (w x : List ℕ) (k j : ℕ) (b : Body) (e : Entry) : Type 
 abbrev pub FeatureRefused : List ℕ → ℕ → ℕ → ℕ → ℕ → Type 0
 FeatureRefused w k j n p = FindsFeature w k j (refuse n p)
 
-abbrev pub EntryAsked : List ℕ → List ℕ → ℕ → ℕ → Entered → Type 0
-EntryAsked w x k j (entry.Refused n p) = Refuses w x (FeatureRefused w k j) n p
-EntryAsked w x k j (entry.Found b e) = EntryHere w x k j b e
+abbrev pub EntryAsked : List ℕ → List ℕ → ℕ → ℕ → Result (Body × Entry) Refused → Type 0
+EntryAsked w x k j (Err r) = Refuses w x (FeatureRefused w k j) r.rule r.place
+EntryAsked w x k j (Ok y) = EntryHere w x k j y.0 y.1

@@ -3,10 +3,14 @@ use Prim.Native.Nat.{ℕ}
 use mathlib.Core.Path.{◌≡◌}
 use mathlib.Core.Bool.{Bool}
 use mathlib.Core.List.{List}
+use Rattle.std.specs.Prelude.{Result}
+use Rattle.paper.specs.declared.Refused.{Refused}
 use Rattle.paper.specs.Answers.{Part, FeatureShown, SequenceSays, FeatureSays, QualifierSays, TranslationSays, TranslationsSays}
 use Rattle.paper.proofs.Once as once
 use Rattle.read_layout.proofs.Wholes.{laid_once}
-use Rattle.ask_show.specs.Shown.{SequenceView, FeatureView, QualifierView}
+use Rattle.ask_show.specs.declared.Sequence.{Sequence}
+use Rattle.ask_show.specs.declared.Feature.{Feature}
+use Rattle.ask_show.specs.declared.Qualifier.{Qualifier}
 use Rattle.ask_show.proofs.Views as views
 use Rattle.ask_lookups.specs.Shows.{ShowsSequence, ShowsFeature, ShowsQualifier}
 
@@ -36,12 +40,13 @@ module _ {w : List ℕ} {k : ℕ} where
 
 -- ---- parts of the lent listing, which stands at `at`
 
-module _ {w : List ℕ} {at : ℕ × ℕ} where
-  pub shows_sequence_once : {k : ℕ} (x y : SequenceView) → ShowsSequence w at k x → ShowsSequence w at k y → x ≡ y
-  shows_sequence_once {k} = views.shows_sequence_once (SequenceSays w k) (λ n p d m q e x y. sequence_once)
+module _ (w : List ℕ) (at : ℕ × ℕ) where
+  pub shows_sequence_once : (k : ℕ) (x y : Sequence) → ShowsSequence w at k x → ShowsSequence w at k y → x ≡ y
+  shows_sequence_once k = views.shows_sequence_once w at (SequenceSays w k) (λ n p d m q e x y. sequence_once)
 
-  pub shows_feature_once : {k j : ℕ} {out : List ℕ} (x y : FeatureView) → ShowsFeature w at k j out x → ShowsFeature w at k j out y → x ≡ y
-  shows_feature_once {k} {j} {out} = views.shows_feature_once (FeatureSays w k j out) (λ n p m q x y a b. feature_once)
+  pub shows_feature_once : (k j : ℕ) (out : List ℕ) (x y : Result Feature Refused) (a b : List ℕ) → ShowsFeature w at k j out x a
+      → ShowsFeature w at k j out y b → (x ≡ y) × (a ≡ b)
+  shows_feature_once k j out = views.shows_feature_once w at (FeatureSays w k j out) (λ n p m q x y a b. feature_once)
 
-  pub shows_qualifier_once : {k j i : ℕ} (x y : QualifierView) → ShowsQualifier w at k j i x → ShowsQualifier w at k j i y → x ≡ y
-  shows_qualifier_once {k} {j} {i} = views.shows_qualifier_once (QualifierSays w k j i) (λ n p m q x v y u a b. qualifier_once)
+  pub shows_qualifier_once : (k j i : ℕ) (x y : Result Qualifier Refused) → ShowsQualifier w at k j i x → ShowsQualifier w at k j i y → x ≡ y
+  shows_qualifier_once k j i = views.shows_qualifier_once w at (QualifierSays w k j i) (λ n p m q x v y u a b. qualifier_once)

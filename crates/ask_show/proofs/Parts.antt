@@ -2,19 +2,13 @@
 use Prim.Native.Nat.{ℕ, ◌+◌, ◌-◌, ◌≤◌, ◌<◌}
 use native.Mathlib.Omega.{arith}
 use mathlib.Core.Path.{◌≡◌, refl, ap}
-use mathlib.Core.Bool.{true, false}
 use mathlib.Core.List.{List}
-use mathlib.Core.Option.{Option, none, some}
 use lib.ListN.{length, take, drop, length-append, length-drop}
 use Rattle.paper.specs.Bytes.{raw}
-use Rattle.paper.specs.Tree.{Text}
-use Rattle.paper.specs.Answers.{is_present, value_part}
-use Rattle.walk_steps.specs.Stands.{MaybeIs}
 use Rattle.walk_steps.specs.declared.Range.{Range}
-use Rattle.walk_steps.specs.declared.Maybe.TheVariants.{Absent, Present}
-use Rattle.ask_answers.specs.Stretches.{no_stretch, part_is, Lies}
+use Rattle.ask_answers.specs.Stretches.{no_stretch, Lies}
 use Rattle.ask_answers.specs.declared.Stretch.{Stretch}
-use Rattle.ask_show.specs.Shown.{StretchOf, IsPresent, ValueOf, PointsAt}
+use Rattle.ask_show.specs.Shown.{StretchOf, PointsAt}
 
 pub stretch_none : {p : Range} → p.to < p.from → StretchOf p no_stretch
 stretch_none h = record { so = λ k. absurd (omega (arith, h, k)); none = λ k. refl; says = λ s x i. absurd (omega (arith, i.first, i.behind, h)) }
@@ -32,39 +26,6 @@ stretch_so {p} h =
             omega (arith, n, i.inside, length-drop p.from s, ap length i.here, length-append (raw x.read) (drop p.to s)),
           );
     }
-
-pub lies_none : (w : List ℕ) → Lies w no_stretch
-lies_none w = omega arith
-
--- ---- what may be missing
-
-pub present_none : IsPresent Absent false
-present_none = record { says = λ s o h. none_so s o h }
-  where
-    none_so : (s : List ℕ) (o : Option (Text ℕ)) → MaybeIs s o Absent → false ≡ is_present o
-    none_so s none h = refl
-    none_so s (some x) h = absurd h
-
-pub present_some : (p : Range) → IsPresent (Present p) true
-present_some p = record { says = λ s o h. some_so s o h }
-  where
-    some_so : (s : List ℕ) (o : Option (Text ℕ)) → MaybeIs s o (Present p) → true ≡ is_present o
-    some_so s none h = absurd h
-    some_so s (some x) h = refl
-
-pub value_none : ValueOf Absent no_stretch
-value_none = record { says = λ s o h. none_so s o h }
-  where
-    none_so : (s : List ℕ) (o : Option (Text ℕ)) → MaybeIs s o Absent → (part_is no_stretch ≡ value_part o) × Lies s no_stretch
-    none_so s none h = (refl, lies_none s)
-    none_so s (some x) h = absurd h
-
-pub value_some : {p : Range} {r : Stretch} → StretchOf p r → ValueOf (Present p) r
-value_some {p} {r} t = record { says = λ s o h. some_so s o h }
-  where
-    some_so : (s : List ℕ) (o : Option (Text ℕ)) → MaybeIs s o (Present p) → (part_is r ≡ value_part o) × Lies s r
-    some_so s none h = absurd h
-    some_so s (some x) h = t.says s x h
 
 -- ---- the bytes of a stretch
 

@@ -1,14 +1,18 @@
-// What is shown of what the walk found: a part as a stretch of the listing, a kind as a number, a stretch as a part of the lent slice
-// itself. Any part, any stretch and any bytes may be given. Relies on walk_steps for a part and what may be missing, on value_words for a
-// kind, and on ask_answers for a stretch.
+// What is shown of what the walk found: a part as a stretch of the listing, and a stretch as a part of the lent slice itself, for all the
+// parts of an answer. Any part, any answer and any bytes may be given. Relies on walk_steps for a part, and on ask_answers for a stretch
+// and the answers.
 #![tactic(auto)]
 
-ghost use Rattle.std.specs.Prelude.{◌≡◌};
-ghost use Rattle.ask_show.specs.Shown.{StretchOf, IsPresent, ValueOf, kind_is, PointsAt};
+ghost use Rattle.ask_show.specs.Shown.{StretchOf, ValueOf, PointsAt, SequenceIn, FeatureIn, QualifierIn};
 
-use ask_answers::{Stretch, no_stretch};
+use ask_answers::{
+    FeatureAnswer, FeatureShown, QualifierAnswer, QualifierShown, SequenceAnswer, Stretch,
+    no_stretch,
+};
+use location_judge::operators::Operator;
+use paper::Refused;
 use value_words::Molecule;
-use walk_steps::{Maybe, Range};
+use walk_steps::Range;
 
 // The stretch of a part.
 pub fn stretch_of(part: Range) -> Stretch
@@ -23,47 +27,93 @@ pub fn stretch_of(part: Range) -> Stretch
     }
 }
 
-// A stretch of the lent slice itself.
+// The stretch of a value, if it is there.
+pub fn value_stretch(value: Option<Range>) -> Option<Stretch>
+    ensures { ValueOf value result }
+{
+    Some(stretch_of(value?))
+}
+
+// A stretch of the lent slice itself. By index: `get` promises the bytes alone, and not where they stand.
 pub fn shown<'l>(listing: &'l [u8], x: Stretch) -> &'l [u8]
     ensures { PointsAt listing.now listing.entry.ref_ptr x result.now result.ref_ptr }
 {
-    let from = x.start;
-    let size = x.size;
-    if listing.len() < from {
+    if listing.len() < x.start || listing.len() - x.start < x.size {
         return &listing[0..0];
     }
-    if listing.len() - from < size {
-        return &listing[0..0];
-    }
-    &listing[from..from + size]
+    &listing[x.start..x.start + x.size]
 }
 
-// 0 none, 1 DNA, 2 RNA, 3 AA.
-pub fn kind_number(kind: Molecule) -> u8
-    ensures { result ≡ kind_is kind }
+// ---- an answer, its parts as the lent listing itself
+
+// "its kind, and its residues as the part of the lent listing": no Result of both, since document 01 wants "an empty part on refusal".
+#[derive(Clone, Copy)]
+pub struct Sequence<'l> {
+    pub kind: Result<Molecule, Refused>,
+    pub residues: &'l [u8],
+}
+
+pub fn show_sequence<'l>(listing: &'l [u8], answer: SequenceAnswer) -> Sequence<'l>
+    ensures { SequenceIn listing.now listing.entry.ref_ptr answer result }
 {
-    match kind {
-        Molecule::Dna => 1,
-        Molecule::Rna => 2,
-        Molecule::Aa => 3,
-        Molecule::Other => 0,
+    match answer {
+        Ok(x) => Sequence {
+            kind: Ok(x.kind),
+            residues: shown(listing, x.residues),
+        },
+        Err(refused) => Sequence {
+            kind: Err(refused),
+            residues: shown(listing, no_stretch()),
+        },
     }
 }
 
-pub fn is_present(value: Maybe) -> bool
-    ensures { IsPresent value result }
+// "key part, location part, operator, count and spans", but for the spans, which go to lent numbers.
+#[derive(Clone, Copy)]
+pub struct Feature<'l> {
+    pub key: &'l [u8],
+    pub location: &'l [u8],
+    pub operator: Option<Operator>,
+    pub count: usize,
+}
+
+pub fn show_feature<'l>(listing: &'l [u8], answer: FeatureAnswer) -> Result<Feature<'l>, Refused>
+    ensures { FeatureIn listing.now listing.entry.ref_ptr answer result }
 {
+    let FeatureShown {
+        key,
+        location,
+        operator,
+        count,
+    } = answer?;
+    Ok(Feature {
+        key: shown(listing, key),
+        location: shown(listing, location),
+        operator,
+        count,
+    })
+}
+
+// "its name part, whether a value is present, and its part"
+#[derive(Clone, Copy)]
+pub struct Qualifier<'l> {
+    pub name: &'l [u8],
+    pub value: Option<&'l [u8]>,
+}
+
+pub fn show_qualifier<'l>(
+    listing: &'l [u8],
+    answer: QualifierAnswer,
+) -> Result<Qualifier<'l>, Refused>
+    ensures { QualifierIn listing.now listing.entry.ref_ptr answer result }
+{
+    let QualifierShown { name, value } = answer?;
+    let name = shown(listing, name);
     match value {
-        Maybe::Absent => false,
-        Maybe::Present(_) => true,
-    }
-}
-
-pub fn value_stretch(value: Maybe) -> Stretch
-    ensures { ValueOf value result }
-{
-    match value {
-        Maybe::Absent => no_stretch(),
-        Maybe::Present(part) => stretch_of(part),
+        None => Ok(Qualifier { name, value: None }),
+        Some(part) => Ok(Qualifier {
+            name,
+            value: Some(shown(listing, part)),
+        }),
     }
 }

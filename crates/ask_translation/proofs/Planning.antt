@@ -6,6 +6,8 @@ use mathlib.Core.Bool.{Bool, true, false, true≢false}
 use mathlib.Core.Logic.{inl, inr}
 use mathlib.Core.List.{List, List-discrete}
 use mathlib.Core.Option.{Option, none, some}
+use Rattle.std.specs.Prelude.{None, Some}
+use Rattle.std.specs.Prelude as rust
 use lib.ListN.{drop}
 use Rattle.paper.specs.Bytes.{bytes, raw}
 use Rattle.paper.specs.Lists.{◌∈◌}
@@ -24,8 +26,6 @@ use Rattle.walk_steps.specs.Stands.{MaybeIs, TellsChild, Over}
 use Rattle.walk_steps.proofs.Loops.{left_some}
 use Rattle.walk_items.proofs.Features.{qualifier_leads}
 use Rattle.walk_steps.specs.declared.Range.{Range}
-use Rattle.walk_steps.specs.declared.Maybe.{Maybe}
-use Rattle.walk_steps.specs.declared.Maybe.TheVariants.{Absent, Present}
 use Rattle.walk_items.specs.Items.{MeetsQualifier, IsFeature}
 use Rattle.walk_items.specs.declared.FoundQualifier.{FoundQualifier}
 use Rattle.walk_items.specs.declared.FoundFeature.{FoundFeature}
@@ -68,7 +68,7 @@ module _ {q : Sequence ℕ} {f : Feature ℕ} (keeps : Keeps q f) where
 -- ---- the value that the listing gives
 
 module _ {s : List ℕ} {at : ℕ} where
-  pub given_none : GivenAt s at Absent
+  pub given_none : GivenAt s at None
   given_none = record { says = λ l e d fol. tt }
 
   -- of the qualifier that stands there, if its name is translation
@@ -84,9 +84,9 @@ module _ {s : List ℕ} {at : ℕ} where
             of x.value l i.item (subst (λ (k : List (Qualifier ℕ)). i.item ∈ k) (sym i.is) (0, refl)) named y.value;
       }
     where
-      of : (m : Maybe) (l : List (Qualifier ℕ)) (q : Qualifier ℕ) → q ∈ l → Named "translation" q → MaybeIs s q.value m → GivenIs s l m
-      of Absent l q i k v = tt
-      of (Present p) l q i k v = (q, i, k, v)
+      of : (m : rust.Option Range) (l : List (Qualifier ℕ)) (q : Qualifier ℕ) → q ∈ l → Named "translation" q → MaybeIs s q.value m → GivenIs s l m
+      of None l q i k v = tt
+      of (Some p) l q i k v = (q, i, k, v)
 
 -- ---- the plan
 
@@ -147,7 +147,7 @@ module _ {s wk : List ℕ} {known : Known} {g : FoundFeature} {named : Bool} (sk
         pub plan_from : Plans s known g (record { plan = From n; next = x.next })
         plan_from = plans judged
 
-        pub plan_given : {m : Maybe} {p : Range} → GivenAt s x.rest m → m ≡ Present p → Plans s known g (record { plan = Given p; next = x.next })
+        pub plan_given : {m : rust.Option Range} {p : Range} → GivenAt s x.rest m → m ≡ Some p → Plans s known g (record { plan = Given p; next = x.next })
         plan_given {p = p} given e =
             plans
             (λ q f end k i keeps.
@@ -163,7 +163,7 @@ module _ {s wk : List ℕ} {known : Known} {g : FoundFeature} {named : Bool} (sk
           where
             right : {q : Sequence ℕ} {f : Feature ℕ} (j : PlannedFrom q f n) (y : Qualifier ℕ)
                 → ((v : List ℕ) → value_read y ≡ some v → RightValue (letters_of code1 q.residues.read n j.location) v)
-                → (o : Option (Text ℕ)) → y.value ≡ o → MaybeIs s o (Present p)
+                → (o : Option (Text ℕ)) → y.value ≡ o → MaybeIs s o (Some p)
                 → (b : List ℕ) → ShowsBytes s p.from p.to b → RightValue (letters_of code1 q.residues.read n j.location) b
             right j y by none e v b shown = absurd v
             right {q} j y by (some t) e v b shown =

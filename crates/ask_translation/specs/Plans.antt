@@ -1,5 +1,5 @@
 -- How a feature of an accepted listing is translated.
-use Rattle.std.specs.Prelude.{ℕ, ◌≡◌, false, List, drop}
+use Rattle.std.specs.Prelude.{ℕ, ◌≡◌, false, Option, None, Some, List, drop}
 use Rattle.paper.specs.Lists.{◌∈◌}
 use Rattle.paper.specs.Form.{each}
 use Rattle.paper.specs.Layout.{child, qualifier}
@@ -11,8 +11,6 @@ use Rattle.read_steps.specs.Parts.{ShowsBytes}
 use Rattle.read_steps.specs.Follow.{Starts, closing}
 use Rattle.walk_steps.specs.Stands.{Stands, MaybeIs}
 use Rattle.walk_steps.specs.declared.Range.{Range}
-use Rattle.walk_steps.specs.declared.Maybe.{Maybe}
-use Rattle.walk_steps.specs.declared.Maybe.TheVariants.{Absent, Present}
 use Rattle.walk_items.specs.Items.{IsFeature}
 use Rattle.walk_items.specs.declared.FoundFeature.{FoundFeature}
 use Rattle.protein_codons.specs.Letters.{letters_of}
@@ -32,12 +30,12 @@ pub record Keeps (q : Sequence ℕ) (f : Feature ℕ) : Type 0 where
 -- ---- the value that the listing gives
 
 -- it is that of a translation among these qualifiers; where none is given nothing is said
-abbrev pub GivenIs : List ℕ → List (Qualifier ℕ) → Maybe → Type 0
-GivenIs s l Absent = Unit {0}
-GivenIs s l (Present p) = (q : Qualifier ℕ) × q ∈ l × Named "translation" q × MaybeIs s q.value (Present p)
+abbrev pub GivenIs : List ℕ → List (Qualifier ℕ) → Option Range → Type 0
+GivenIs s l None = Unit {0}
+GivenIs s l (Some p) = (q : Qualifier ℕ) × q ∈ l × Named "translation" q × MaybeIs s q.value (Some p)
 
 -- of whichever qualifiers stand from a place on
-pub record GivenAt (s : List ℕ) (at : ℕ) (r : Maybe) : Type 0 where
+pub record GivenAt (s : List ℕ) (at : ℕ) (r : Option Range) : Type 0 where
   pub says : (l : List (Qualifier ℕ)) (e : ℕ) → Stands (each (child qualifier) l) s at e → Starts closing (drop e s) → GivenIs s l r
 
 -- ---- the plan

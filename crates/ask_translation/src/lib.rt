@@ -5,26 +5,70 @@
 ghost use Rattle.std.specs.Prelude.{◌≡◌};
 ghost use Rattle.paper.specs.Translation.{code1};
 ghost use Rattle.paper.specs.Answers.{give};
-ghost use Rattle.protein_code.specs.Tables.{CodeTable, Coded, code_of};
+ghost use Rattle.protein_code.specs.Tables.{CodeTable, code_of};
 ghost use Rattle.value_vocabulary.specs.Tables.{VocabularyTable};
+ghost use Rattle.ask_translation.specs.Refusals.{unwritten_of, refused_of, answer_of};
 ghost use Rattle.ask_translation.specs.Plans.{GivenAt, Plans};
 ghost use Rattle.ask_translation.specs.Ones.{pass_of, LentIf, LaysTranslation, LaysPlanned, TranslatesOne};
 
-use ask_answers::{LentAnswer, nothing_lent};
+use ask_answers::LentAnswer;
 use judge_faults::Known;
-use judge_qualifiers::{Noted, is_coding, note, start_of};
+use judge_qualifiers::{is_coding, note, start_of};
 use lent_room::{Pass, lay_bytes};
 use location_judge::judging::leaves_unjudged;
-use protein_measure::{Size, measure};
+use paper::Refused;
+use protein_codons::Coding;
+use protein_measure::{Untranslated, measure};
 use protein_write::write;
 use read_steps::bytes_of;
 use value_words::same;
-use walk_items::{FoundFeature, FoundQualifier};
-use walk_steps::{Maybe, Range};
+use walk_items::FoundFeature;
+use walk_steps::Range;
+
+// ---- why none is written
+
+// Why a translation isn't written.
+#[derive(Clone, Copy)]
+pub enum Unwritten {
+    // The lent bytes are shorter than it.
+    Short,
+    // The feature is no CDS of DNA or RNA.
+    NoCds,
+    // It is a CDS that isn't judged.
+    Unjudged,
+    // A stop stands inside.
+    Stop,
+}
+
+impl From<Untranslated> for Unwritten {
+    ghost from_gives = { λ u e. e ≡ unwritten_of u };
+
+    fn from(u: Untranslated) -> Unwritten {
+        match u {
+            Untranslated::Short => Unwritten::Short,
+            Untranslated::Stop => Unwritten::Stop,
+        }
+    }
+}
+
+// The numbers of document 01. No rule is broken, so there is no place.
+impl From<Unwritten> for Refused {
+    ghost from_gives = { λ e r. r ≡ refused_of e };
+
+    fn from(e: Unwritten) -> Refused {
+        let rule = match e {
+            Unwritten::Short => 34,
+            Unwritten::NoCds => 35,
+            Unwritten::Unjudged => 36,
+            Unwritten::Stop => 37,
+        };
+        Refused { rule, place: 0 }
+    }
+}
 
 // ---- how it is translated
 
-// How a feature is translated.
+// How a feature is translated. `PlanIs` says of each of the four what it is.
 #[derive(Clone, Copy)]
 pub enum Plan {
     // It is no CDS of DNA or RNA.
@@ -45,21 +89,19 @@ pub struct Planned {
 }
 
 // The value of the translation that stands at a place, where one does.
-fn given_at(s: &[u8], at: usize) -> Maybe
+fn given_at(s: &[u8], at: usize) -> Option<Range>
     ensures { GivenAt s.now at result }
 {
-    if !walk_steps::child_here(s, at) {
-        return Maybe::Absent;
+    if walk_steps::child_here(s, at) {
+        let qualifier = walk_items::qualifier(s, at);
+        if same(
+            bytes_of(s, qualifier.name.from, qualifier.name.to),
+            b"translation",
+        ) {
+            return qualifier.value;
+        }
     }
-    let FoundQualifier {
-        name,
-        value,
-        next: _,
-    } = walk_items::qualifier(s, at);
-    if same(bytes_of(s, name.from, name.to), b"translation") {
-        return value;
-    }
-    Maybe::Absent
+    None
 }
 
 pub fn plan_of(s: &[u8], known: Known, feature: FoundFeature, vocabulary: &[u8; 3492]) -> Planned
@@ -67,122 +109,96 @@ pub fn plan_of(s: &[u8], known: Known, feature: FoundFeature, vocabulary: &[u8; 
     ensures { Plans s.now known feature result }
 {
     let name = bytes_of(s, feature.key.from, feature.key.to);
-    let kind = known.kind;
-    if !is_coding(name, kind) {
+    if !is_coding(name, known.kind) {
         return Planned {
             plan: Plan::NoCds,
             next: walk_items::qualifiers_over(s, feature.quals),
         };
     }
-    let Noted {
-        frame,
-        excepted,
-        organisms: _,
-        moltypes: _,
-        words: _,
-        rest,
-        next,
-    } = note(s, feature.quals, false, 0, vocabulary);
-    if excepted {
+    let noted = note(s, feature.quals, false, 0, vocabulary);
+    let next = noted.next;
+    if noted.excepted || leaves_unjudged(s, feature.location.from, feature.location.to) {
         return Planned {
             plan: Plan::Unjudged,
             next,
         };
     }
-    if leaves_unjudged(s, feature.location.from, feature.location.to) {
-        return Planned {
-            plan: Plan::Unjudged,
-            next,
-        };
-    }
-    let start = start_of(frame);
-    match given_at(s, rest) {
-        Maybe::Present(value) => Planned {
-            plan: Plan::Given(value),
-            next,
-        },
-        Maybe::Absent => Planned {
-            plan: Plan::From(start),
-            next,
-        },
-    }
+    let start = start_of(noted.frame);
+    let plan = match given_at(s, noted.rest) {
+        Some(value) => Plan::Given(value),
+        None => Plan::From(start),
+    };
+    Planned { plan, next }
 }
 
 // ---- measured or written
 
-// What a pass does that writes, or only measures.
+// What a pass does that writes, or only measures. It is asked for by a truth value: there is nothing to compare a translation with.
 pub fn pass_of(writing: bool) -> Pass
     ensures { result ≡ pass_of writing }
 {
-    if writing {
-        return Pass::Write;
-    }
-    Pass::Measure
+    if writing { Pass::Write } else { Pass::Measure }
 }
 
 // A text at the front of out if it is to be written; else only whether it fits.
-fn lay_text(text: &[u8], writing: bool, out: &mut [u8]) -> LentAnswer
-    ensures { LentIf writing out.old (give text.now) result out.new }
+fn lay_text(text: &[u8], writing: bool, out: &mut [u8]) -> Result<usize, Unwritten>
+    ensures { LentIf writing out.old (give text.now) (answer_of result) out.new }
 {
+    // A pass that writes may leave anything in a room that is too short.
     if out.len() < text.len() {
-        return nothing_lent(34, 0);
+        return Err(Unwritten::Short);
     }
-    let pass = pass_of(writing);
-    lay_bytes(pass, text, 0, b"", out);
-    LentAnswer {
-        number: 0,
-        place: 0,
-        size: text.len(),
-    }
+    lay_bytes(pass_of(writing), text, 0, b"", out).or(Err(Unwritten::Short))
 }
 
 // The same of the translation of a coding text.
-fn lay_translation(
-    r: &[u8],
-    loc: &[u8],
-    top: u32,
-    start: usize,
-    writing: bool,
-    code: &[u8; 5128],
-    out: &mut [u8],
-) -> Size
-    requires { Coded code.now }
-    ensures { LaysTranslation (code_of code.now) r.now loc.now top start writing out.old result out.new }
+fn lay_translation(coding: &Coding, writing: bool, out: &mut [u8]) -> Result<usize, Untranslated>
+    ensures { LaysTranslation (code_of coding.now.code.now) coding.now.r.now coding.now.loc.now coding.now.top coding.now.frame writing out.old result out.new }
 {
     if writing {
-        return write(r, loc, top, start, code, out);
+        return write(coding, out);
     }
-    measure(r, loc, top, start, out.len(), code)
+    measure(coding, out.len())
 }
 
-// The translation that was planned, at the front of out if it is to be written.
-pub fn lay_planned(
-    s: &[u8],
-    known: Known,
-    feature: FoundFeature,
-    plan: Plan,
-    writing: bool,
-    code: &[u8; 5128],
-    out: &mut [u8],
-) -> LentAnswer
-    requires { CodeTable code1 code.now }
-    ensures { LaysPlanned s.now known feature plan writing out.old result out.new }
-{
-    match plan {
-        Plan::NoCds => nothing_lent(35, 0),
-        Plan::Unjudged => nothing_lent(36, 0),
-        Plan::Given(value) => lay_text(bytes_of(s, value.from, value.to), writing, out),
-        Plan::From(start) => {
-            let r = bytes_of(s, known.residues.from, known.residues.to);
-            let loc = bytes_of(s, feature.location.from, feature.location.to);
-            match lay_translation(r, loc, known.top, start, writing, code, out) {
-                Size::Is(n) => LentAnswer {
-                    number: 0,
-                    place: 0,
-                    size: n,
-                },
-                Size::Short => nothing_lent(34, 0),
-                Size::Stop => nothing_lent(37, 0),
+// What translates the features of a sequence of the listing s: what is known of it, and the lent tables, of code 1 and of the vocabulary.
+// The vocabulary's fact stays in the contracts: it says where each name is, so it's no proposition, and a ghost field of it needs an
+// `impl Model`.
+#[derive(Clone, Copy)]
+pub struct Translator<'a> {
+    pub s: &'a [u8],
+    pub known: Known,
+    pub code: &'a [u8; 5128],
+    pub vocabulary: &'a [u8; 3492],
+    pub ghost code_table: { CodeTable code1 code.now },
+}
+
+impl Translator<'_> {
+    // The translation that was planned, at the front of out if it is to be written.
+    pub fn lay_planned(
+        &self,
+        feature: FoundFeature,
+        plan: Plan,
+        writing: bool,
+        out: &mut [u8],
+    ) -> Result<usize, Unwritten>
+        ensures { LaysPlanned self.now.s.now self.now.known feature plan writing out.old result out.new }
+    {
+        match plan {
+            Plan::NoCds => Err(Unwritten::NoCds),
+            Plan::Unjudged => Err(Unwritten::Unjudged),
+            Plan::Given(value) => lay_text(bytes_of(self.s, value.from, value.to), writing, out),
+            Plan::From(start) => {
+                let residues = self.known.residues;
+                let coding = Coding {
+                    r: bytes_of(self.s, residues.from, residues.to),
+                    loc: bytes_of(self.s, feature.location.from, feature.location.to),
+                    top: self.known.top,
+                    frame: start,
+                    code: self.code,
+                };
+                let n = lay_translation(&coding, writing, out)?;
+                Ok(n)
             }
         }
     }
@@ -201,6 +217,13 @@ pub fn translate(
     requires vocabulary_table { VocabularyTable vocabulary.now }
     ensures { TranslatesOne s.now known feature out.old result out.new }
 {
-    let Planned { plan, next: _ } = plan_of(s, known, feature, vocabulary);
-    lay_planned(s, known, feature, plan, true, code, out)
+    let translator = Translator {
+        s,
+        known,
+        code,
+        vocabulary,
+    };
+    let plan = plan_of(s, known, feature, vocabulary).plan;
+    let size = translator.lay_planned(feature, plan, true, out)?;
+    Ok(size)
 }

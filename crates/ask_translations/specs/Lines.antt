@@ -1,5 +1,5 @@
 -- What is promised of the lines of translations that are measured and written.
-use Rattle.std.specs.Prelude.{ℕ, ◌≤◌, ◌≡◌, Bool, List, [], ◌++◌, length, drop}
+use Rattle.std.specs.Prelude.{ℕ, ◌≤◌, ◌≡◌, Bool, IfOk, List, [], ◌++◌, length, drop}
 use Rattle.paper.specs.Bytes.{bytes}
 use Rattle.paper.specs.Lists.{◌∈◌}
 use Rattle.paper.specs.Form.{each}
@@ -7,8 +7,7 @@ use Rattle.paper.specs.Layout.{child, feature}
 use Rattle.paper.specs.Tree.{Sequence, Feature, features_of}
 use Rattle.paper.specs.Answers.{refuse, give, Translates, Lent}
 use Rattle.paper.specs.Answers as paper
-use Rattle.lent_room.specs.Room.{Lays, LaysMore}
-use Rattle.lent_room.specs.declared.Laid.{Laid}
+use Rattle.lent_room.specs.Room.{Laid, Lays, LaysMore}
 use Rattle.read_steps.specs.Follow.{Starts, closing}
 use Rattle.walk_steps.specs.Stands.{Stands}
 use Rattle.walk_items.specs.Items.{IsFeature, FirstFeature}
@@ -18,7 +17,8 @@ use Rattle.judge_faults.specs.declared.Known.{Known}
 use Rattle.ask_translation.specs.Plans.{Keeps, PlanIs}
 use Rattle.ask_translation.specs.Ones.{pass_of}
 use Rattle.ask_translation.specs.declared.Plan.{Plan}
-use Rattle.ask_answers.specs.declared.LentAnswer.{LentAnswer}
+use Rattle.ask_answers.specs.Stretches.{LentAnswer}
+use Rattle.ask_answers.specs.Given.{LentGivenBy}
 
 -- ---- one line
 
@@ -33,12 +33,12 @@ pub data Line (q : Sequence ℕ) (f : Feature ℕ) : List ℕ → Type 0 where
 pub record LineLaid (q : Sequence ℕ) (f : Feature ℕ) (on : Bool) (out : List ℕ) (r : Laid) (after : List ℕ) : Type 0 where
   pub line : List ℕ
   pub is : Line q f line
-  pub laid : Lays [] 0 line out (pass_of on) r.on r.at after
+  pub laid : Lays [] 0 line out (pass_of on) r after
 
 -- of whichever feature that is planned so
 pub record LaysLine (s : List ℕ) (known : Known) (g : FoundFeature) (p : Plan) (on : Bool) (out : List ℕ) (r : Laid) (after : List ℕ) : Type 0 where
   pub kept : length after ≡ length out
-  pub within : r.at ≤ length out
+  pub within : IfOk r (λ (at : ℕ). at ≤ length out)
   pub says : (q : Sequence ℕ) (f : Feature ℕ) (e : ℕ) → Knows s q known → IsFeature s f e g → PlanIs s q f p → LineLaid q f on out r after
 
 -- the line of f is laid behind what was
@@ -49,7 +49,7 @@ pub record LineBehind (q : Sequence ℕ) (f : Feature ℕ) (was : Laid) (on : Bo
 
 pub record LaysBehind (s : List ℕ) (known : Known) (g : FoundFeature) (p : Plan) (was : Laid) (on : Bool) (out : List ℕ) (r : Laid) (after : List ℕ) : Type 0 where
   pub kept : length after ≡ length out
-  pub within : r.at ≤ length out
+  pub within : IfOk r (λ (at : ℕ). at ≤ length out)
   pub says : (q : Sequence ℕ) (f : Feature ℕ) (e : ℕ) → Knows s q known → IsFeature s f e g → PlanIs s q f p → LineBehind q f was on out r after
 
 -- ---- the lines of all features
@@ -73,7 +73,7 @@ pub record LaysRest (s : List ℕ) (first : ℕ) (known : Known) (was : Laid) (o
 pub record AllLaid (q : Sequence ℕ) (on : Bool) (out : List ℕ) (r : Laid) (after : List ℕ) : Type 0 where
   pub lines : List ℕ
   pub are : paper.Lines q (features_of q) lines
-  pub laid : Lays [] 0 lines out (pass_of on) r.on r.at after
+  pub laid : Lays [] 0 lines out (pass_of on) r after
 
 pub record LaysAll (s : List ℕ) (known : Known) (g : FoundFeature) (on : Bool) (out : List ℕ) (r : Laid) (after : List ℕ) : Type 0 where
   pub says : (q : Sequence ℕ) → Knows s q known → FirstFeature s q g → KeepAll q (features_of q) → AllLaid q on out r after
@@ -83,7 +83,7 @@ pub record LaysAll (s : List ℕ) (known : Known) (g : FoundFeature) (on : Bool)
 pub record GivesAll (q : Sequence ℕ) (out : List ℕ) (r : LentAnswer) (after : List ℕ) : Type 0 where
   pub lines : List ℕ
   pub are : paper.Lines q (features_of q) lines
-  pub lent : Lent out (give lines) r.number r.place r.size after
+  pub lent : LentGivenBy (Lent out (give lines)) r after
 
 pub record TranslatesAll (s : List ℕ) (known : Known) (g : FoundFeature) (out : List ℕ) (r : LentAnswer) (after : List ℕ) : Type 0 where
   pub says : (q : Sequence ℕ) → Knows s q known → FirstFeature s q g → KeepAll q (features_of q) → GivesAll q out r after

@@ -1,9 +1,8 @@
 -- What the C functions return and set, by name; and how they say a Boolean in numbers.
 use Rattle.std.specs.Prelude.{ℕ, ◌≡◌, Bool, List}
-use Rattle.paper.specs.Answers.{Part, FeatureShown, CheckSays, CheckNumbers, numbers_of, QualifierSays}
+use Rattle.paper.specs.Answers.{Verdict, Part, FeatureShown, CheckSays, CheckNumbers, numbers_of, QualifierSays}
 use Rattle.paper.specs.Index.{IndexedQualifierSays}
 use Rattle.paper.specs.Demands.{InListing}
-use Rattle.paper.specs.declared.Verdict.{Verdict}
 use Rattle.ask_answers.specs.Handed.{flag_of}
 
 -- ---- the check

@@ -1,7 +1,7 @@
 // The library for the box: the calls of document 01 and of request 5 of 02 as C functions. hosts/include/dreichnook.h describes each.
 // Relies on the check, the index and the lookups with and without one, and on ask_answers, which hands their answers over as numbers: 0
 // or the number of the refusal is returned, every number pointed to is set in every case, and a part is given as start and size within the
-// lent listing.
+// lent listing. A call with an index and the one without are two functions: C has no generic one.
 #![tactic(auto)]
 
 ghost use Rattle.paper.specs.Demands.{InListing};

@@ -4,6 +4,7 @@ use native.Mathlib.Omega.{arith}
 use mathlib.Core.Path.{◌≡◌, sym, ap, ◌∙◌, subst}
 use mathlib.Core.List.{List, [], ◌∷◌, ◌++◌, map, append_assoc}
 use lib.ListN.{length, length-append}
+use Rattle.std.specs.Prelude.{Ok, Err}
 use Rattle.paper.specs.Lists.{Numbered, gather}
 use Rattle.paper.specs.Tree.{Sequence, Listing, features_of}
 use Rattle.paper.specs.Rules.{Skipped}
@@ -14,7 +15,6 @@ use Rattle.value_words.specs.declared.Molecule.{Molecule}
 use Rattle.walk_steps.specs.declared.Range.{Range}
 use Rattle.index_find.specs.Numbers.{number_at}
 use Rattle.index_find.specs.Finds.{NumbersAt, Fits, PartFound, molecule_number, no_sequence, skipped, BodyFound}
-use Rattle.index_find.specs.declared.BodyAt.TheVariants as body
 use Rattle.index_find.proofs.Numbers.{numbers_all, number_is, numbers_first, numbers_behind}
 
 -- ---- in an index
@@ -77,10 +77,10 @@ record Here (x : List ℕ) (l : Listing ℕ) (k first size : ℕ) : Type 0 where
   size_is : size ≡ size_of (body_of sequence)
 
 module _ {x : List ℕ} {k : ℕ} where
-  pub none_zero : k ≡ 0 → BodyFound x k (body.Refused 30 0)
+  pub none_zero : k ≡ 0 → BodyFound x k (Err (record { rule = 30; place = 0 }))
   none_zero z = record { says = λ l e f. no_sequence (λ s n. omega (arith, z, numbered_inside l.sequences k s n)) }
 
-  pub none_above : {count : ℕ} → count ≡ number_at x 0 → count < k → BodyFound x k (body.Refused 30 0)
+  pub none_above : {count : ℕ} → count ≡ number_at x 0 → count < k → BodyFound x k (Err (record { rule = 30; place = 0 }))
   none_above a h = record { says = λ l e f. no_sequence (λ s n. omega (arith, a, h, counted l e f, numbered_inside l.sequences k s n)) }
 
   -- the count of sequences, the start of the body and its size; n stands at its start
@@ -103,14 +103,14 @@ module _ {x : List ℕ} {k : ℕ} where
     kind_is_lem : {l : Listing ℕ} (h : Here x l k first size) → n ≡ kind_in h.sequence
     kind_is_lem h = d ∙ number_is h.numbers
 
-    pub body_skipped : n ≡ 0 → BodyFound x k (body.Refused 31 0)
+    pub body_skipped : n ≡ 0 → BodyFound x k (Err (record { rule = 31; place = 0 }))
     body_skipped z =
         record { says = λ l e f. let h = here l e f in skipped h.sequence h.numbered (kind_none h.sequence (sym (kind_is_lem h) ∙ z)) }
 
     pub body_found : ¬ (n ≡ 0) → {kind : Molecule} → (n < 4 → molecule_number kind ≡ n)
         → {place : ℕ} {residues : Range} → PartFound x place residues → place ≡ first + 4
         → {entries features : ℕ} → entries ≡ first + 12 → features ≡ size / 16
-        → BodyFound x k (body.Found (record { kind = kind; residues = residues; first = entries; count = features }))
+        → BodyFound x k (Ok (record { kind = kind; residues = residues; first = entries; count = features }))
     body_found z m r place_is entries-are counts =
         record {
           says =

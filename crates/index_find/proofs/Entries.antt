@@ -4,6 +4,7 @@ use native.Mathlib.Omega.{arith}
 use mathlib.Core.Path.{◌≡◌, ap, subst}
 use mathlib.Core.List.{List, ◌++◌}
 use lib.ListN.{length, length-append, length-drop}
+use Rattle.std.specs.Prelude.{Some, None}
 use Rattle.paper.specs.Lists.{gather}
 use Rattle.paper.specs.Tree.{Sequence, features_of}
 use Rattle.paper.specs.Index.{in_bytes, place_and_length, feature_entry}
@@ -13,7 +14,6 @@ use Rattle.walk_steps.specs.Stands.{Past}
 use Rattle.walk_steps.specs.declared.Range.{Range}
 use Rattle.index_find.specs.Finds.{NumbersAt, PartFound, BodyIs, EntryIn, EntryFound}
 use Rattle.index_find.specs.declared.Body.{Body}
-use Rattle.index_find.specs.declared.EntryAt.TheVariants as entry
 use Rattle.index_find.proofs.Numbers.{numbers_first, numbers_past}
 
 -- all entries stand in the index
@@ -31,13 +31,13 @@ entries_inside {x} {b} {s} i =
 
 module _ {x : List ℕ} {b : Body} {j : ℕ} where
   -- numbers count from 1
-  pub entry_zero : j ≡ 0 → EntryFound x b j entry.Missing
+  pub entry_zero : j ≡ 0 → EntryFound x b j None
   entry_zero z = record { says = λ s i f n. omega (arith, z, numbered_inside (features_of s) j f n) }
 
-  pub entry_above : b.count < j → EntryFound x b j entry.Missing
+  pub entry_above : b.count < j → EntryFound x b j None
   entry_above h = record { says = λ s i f n. omega (arith, h, i.count, numbered_inside (features_of s) j f n) }
 
-  pub entry_outside : length x / 16 < j → EntryFound x b j entry.Missing
+  pub entry_outside : length x / 16 < j → EntryFound x b j None
   entry_outside h = record { says = λ s i f n. omega (arith, h, entries_inside i, numbered_inside (features_of s) j f n) }
 
   -- its key stands m bytes behind the first entry, and its location n bytes further
@@ -50,10 +50,10 @@ module _ {x : List ℕ} {b : Body} {j : ℕ} where
         (omega (arith, to-key, length_features p.before, p.size)) past
 
     pub entry_found : {key location : Range} → PartFound x at key → PartFound x next location
-        → EntryFound x b j (entry.Found (record { key = key; location = location }))
+        → EntryFound x b j (Some (record { key = key; location = location }))
     entry_found {key = k} {location = o} key location = record { says = λ s i. go i (parted (features_of s) (j - 1) (omega (arith, some, within, i.count))) }
       where
-        go : {s : Sequence ℕ} → BodyIs x s b → Parted (features_of s) (j - 1) → EntryIn s j (entry.Found (record { key = k; location = o }))
+        go : {s : Sequence ℕ} → BodyIs x s b → Parted (features_of s) (j - 1) → EntryIn s j (Some (record { key = k; location = o }))
         go i p =
             let f = p.item in
             let behind = place_and_length f.location ++ gather feature_entry p.behind in (

@@ -1,11 +1,10 @@
 -- Numbers that stand in bytes, one behind another.
-use Prim.Native.Nat.{ℕ, ◌+◌, ◌*◌, ◌≤◌, ◌<◌}
-use native.Mathlib.Nat.{add-zero}
+use Prim.Native.Nat.{ℕ, ◌+◌, ◌*◌}
 use native.Mathlib.Omega.{arith}
 use mathlib.Core.Path.{◌≡◌, refl, sym, ap, ◌∙◌}
 use mathlib.Core.List.{List, [], ◌∷◌, ◌++◌, append_assoc, append-nil}
-use lib.ListN.{length, drop, get_or, length-append, length-drop}
-use lib.Seq.{get_or-drop, drop-drop, drop_at}
+use lib.ListN.{length, drop, length-append}
+use lib.Seq.{drop-drop, drop_at}
 use Rattle.paper.specs.Index.{in_bytes}
 use Rattle.paper.proofs.Lists.{in_first, in_second}
 use Rattle.paper.proofs.Index.{length_in_bytes, in_bytes_append}
@@ -13,38 +12,6 @@ use Rattle.walk_steps.specs.Stands.{Past}
 use Rattle.walk_steps.specs.declared.Range.{Range}
 use Rattle.index_find.specs.Numbers.{low_first, number_at}
 use Rattle.index_find.specs.Finds.{NumbersAt, Fits, PartFound}
-
--- ---- the number at a place
-
-few : (l : List ℕ) → length l < 4 → low_first l ≡ 0
-few [] h = refl
-few (a ∷ []) h = refl
-few (a ∷ b ∷ []) h = refl
-few (a ∷ b ∷ c ∷ []) h = refl
-few (a ∷ b ∷ c ∷ d ∷ l) h = absurd (omega (arith, h))
-
-four : (l : List ℕ) → 4 ≤ length l → low_first l ≡ get_or l 0 0 + 256 * get_or l 1 0 + 65536 * get_or l 2 0 + 16777216 * get_or l 3 0
-four [] h = absurd (omega (arith, h))
-four (a ∷ []) h = absurd (omega (arith, h))
-four (a ∷ b ∷ []) h = absurd (omega (arith, h))
-four (a ∷ b ∷ c ∷ []) h = absurd (omega (arith, h))
-four (a ∷ b ∷ c ∷ d ∷ l) h = refl
-
-module _ (x : List ℕ) (at : ℕ) where
-  pub number_none : length x < at + 4 → number_at x at ≡ 0
-  number_none h = few (drop at x) (omega (arith, h, length-drop at x))
-
-  pub number_some : at + 4 ≤ length x
-      → number_at x at ≡ get_or x at 0 + 256 * get_or x (at + 1) 0 + 65536 * get_or x (at + 2) 0 + 16777216 * get_or x (at + 3) 0
-  number_some h =
-      omega (
-        arith,
-        four (drop at x) (omega (arith, h, length-drop at x)),
-        get_or-drop at x 0 0 ∙ ap (λ (k : ℕ). get_or x k 0) (add-zero at),
-        get_or-drop at x 1 0,
-        get_or-drop at x 2 0,
-        get_or-drop at x 3 0,
-      )
 
 -- ---- numbers one behind another
 

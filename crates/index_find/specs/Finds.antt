@@ -1,18 +1,16 @@
 -- What is promised of an item that is found by the numbers of an index: which of the paper's tree it is.
-use Rattle.std.specs.Prelude.{ℕ, ◌+◌, ◌<◌, ◌≡◌, List, ◌++◌, length, drop}
+use Rattle.std.specs.Prelude.{ℕ, ◌+◌, ◌<◌, ◌≡◌, Option, Some, None, Result, Ok, Err, List, ◌++◌, length, drop}
 use Rattle.paper.specs.Bytes.{raw}
 use Rattle.paper.specs.Lists.{◌∈◌, Numbered, gather}
 use Rattle.paper.specs.Tree.{Text, Feature, Sequence, Listing, features_of}
 use Rattle.paper.specs.Rules.{Skipped}
+use Rattle.paper.specs.declared.Refused.{Refused}
 use Rattle.paper.specs.Index.{in_bytes, place_and_length, kind_in, feature_entry, body_of, contents_of, index_of}
 use Rattle.value_words.specs.declared.Molecule.{Molecule}
 use Rattle.value_words.specs.declared.Molecule.TheVariants.{Dna, Rna, Aa, Other}
 use Rattle.walk_steps.specs.declared.Range.{Range}
 use Rattle.index_find.specs.declared.Body.{Body}
-use Rattle.index_find.specs.declared.BodyAt.{BodyAt}
-use Rattle.index_find.specs.declared.BodyAt.TheVariants as body
-use Rattle.index_find.specs.declared.EntryAt.{EntryAt}
-use Rattle.index_find.specs.declared.EntryAt.TheVariants as entry
+use Rattle.index_find.specs.declared.Entry.{Entry}
 
 -- ---- numbers
 
@@ -56,20 +54,20 @@ pub data NoBody (l : Listing ℕ) (k : ℕ) : (number place : ℕ) → Type 0 wh
   no_sequence : ((s : Sequence ℕ) → ¬ Numbered l.sequences k s) → NoBody l k 30 0
   skipped : (s : Sequence ℕ) → Numbered l.sequences k s → Skipped s → NoBody l k 31 0
 
-abbrev pub BodyIn : Listing ℕ → List ℕ → ℕ → BodyAt → Type 0
-BodyIn l x k (body.Refused n p) = NoBody l k n p
-BodyIn l x k (body.Found b) = (s : Sequence ℕ) × Numbered l.sequences k s × (¬ Skipped s) × BodyIs x s b
+abbrev pub BodyIn : Listing ℕ → List ℕ → ℕ → Result Body Refused → Type 0
+BodyIn l x k (Err r) = NoBody l k r.rule r.place
+BodyIn l x k (Ok b) = (s : Sequence ℕ) × Numbered l.sequences k s × (¬ Skipped s) × BodyIs x s b
 
 -- of whichever listing x is the index
-pub record BodyFound (x : List ℕ) (k : ℕ) (y : BodyAt) : Type 0 where
+pub record BodyFound (x : List ℕ) (k : ℕ) (y : Result Body Refused) : Type 0 where
   pub says : (l : Listing ℕ) → x ≡ index_of l → Fits (contents_of l ++ gather body_of l.sequences) → BodyIn l x k y
 
 -- ---- the entry of a feature
 
-abbrev pub EntryIn : Sequence ℕ → ℕ → EntryAt → Type 0
-EntryIn s j entry.Missing = (f : Feature ℕ) → ¬ Numbered (features_of s) j f
-EntryIn s j (entry.Found e) = (f : Feature ℕ) × Numbered (features_of s) j f × RangeOf f.key e.key × RangeOf f.location e.location
+abbrev pub EntryIn : Sequence ℕ → ℕ → Option Entry → Type 0
+EntryIn s j None = (f : Feature ℕ) → ¬ Numbered (features_of s) j f
+EntryIn s j (Some e) = (f : Feature ℕ) × Numbered (features_of s) j f × RangeOf f.key e.key × RangeOf f.location e.location
 
 -- of whichever sequence this is the body
-pub record EntryFound (x : List ℕ) (b : Body) (j : ℕ) (y : EntryAt) : Type 0 where
+pub record EntryFound (x : List ℕ) (b : Body) (j : ℕ) (y : Option Entry) : Type 0 where
   pub says : (s : Sequence ℕ) → BodyIs x s b → EntryIn s j y

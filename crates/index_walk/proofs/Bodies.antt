@@ -1,6 +1,7 @@
 -- A body: its head, and then the entries of its features, each behind what was laid before.
-use Rattle.std.proofs.Common.{◌≡◌, ℕ, ◌+◌, ◌%◌, ◌^◌, ◌≤◌, Bool, true, false, List, [], ◌∷◌, ◌++◌, length, sym, refl, ap, ◌∙◌, subst, true≢false, append-nil, arith, length-append}
+use Rattle.std.proofs.Common.{◌≡◌, ℕ, ◌+◌, ◌%◌, ◌^◌, ◌≤◌, Bool, true, false, List, [], ◌∷◌, ◌++◌, length, sym, refl, ap, ◌∙◌, subst, append-nil, arith, length-append}
 use mathlib.Core.Option.{Option, none, some}
+use Rattle.std.specs.Prelude.{Some, None}
 use Rattle.paper.specs.Bytes.{bytes, is_blank}
 use Rattle.paper.specs.Lists.{gather}
 use Rattle.paper.specs.Tree.{Feature, Table, Sequence, features_in, features_of}
@@ -9,8 +10,7 @@ use Rattle.paper.specs.Answers.{limit}
 use Rattle.paper.specs.Index.{little_end, in_bytes, size_of, place_and_length, kind_in, feature_entry, body_of}
 use Rattle.paper.proofs.Lists.{gather_append, gather_last}
 use Rattle.paper.proofs.Index.{is_skipped_lem, kind_skipped, kind_none, unskipped}
-use Rattle.lent_room.specs.Room.{LaysMore}
-use Rattle.lent_room.specs.declared.Laid.{Laid}
+use Rattle.lent_room.specs.Room.{Laid, LaysMore}
 use Rattle.lent_room.specs.declared.Pass.{Pass}
 use Rattle.lent_room.proofs.Passes.{more_none, more_then}
 use Rattle.read_steps.specs.Follow.{Not, closing}
@@ -18,6 +18,7 @@ use Rattle.walk_steps.specs.Stands.{IsPart, Over, TellsChild}
 use Rattle.walk_items.specs.Items.{MeetsFeature, PassesFeature, TableIs, IsSequence}
 use Rattle.walk_items.specs.declared.FoundFeature.{FoundFeature}
 use Rattle.walk_items.specs.declared.FoundSequence.{FoundSequence}
+use Rattle.walk_items.specs.declared.FoundTable.{FoundTable}
 use Rattle.walk_items.proofs.Sequences.{feature_leads}
 use Rattle.judge_faults.proofs.Seen.{Seen, seen_none, seen_next, seen_stuck, seen_all}
 use Rattle.index_walk.specs.Bodies.{IsEntry, KindOfBody, IsHead, InWord, LaidNumbers, LaysFeatures, LaysBody}
@@ -135,28 +136,28 @@ module _ {p : Pass} {s : List ℕ} {found : FoundSequence} {was mid : Laid} {giv
     unskipped_body : (q : Sequence ℕ) (e : ℕ) → IsSequence s q e found → body_of q ≡ head_of q ++ entries_of (features_of q)
     unskipped_body q e i = unskipped q (λ x. k≢0 (kind_is_lem q e i ∙ kind_skipped q x))
 
-    pub table_none : found.table.present ≡ false → (q : Sequence ℕ) (e : ℕ) → IsSequence s q e found → body_of q ≡ head_of q ++ []
-    table_none z q e i = unskipped_body q e i ∙ ap (λ (l : List (Feature ℕ)). head_of q ++ entries_of l) (none_in q.table i.table)
+    pub table_none : found.table ≡ None → (q : Sequence ℕ) (e : ℕ) → IsSequence s q e found → body_of q ≡ head_of q ++ []
+    table_none z q e i = unskipped_body q e i ∙ ap (λ (l : List (Feature ℕ)). head_of q ++ entries_of l) (none_in q.table (subst (TableIs s q.table) z i.table))
       where
-        none_in : (o : Option (Table ℕ)) → TableIs s o found.table → features_in o ≡ []
+        none_in : (o : Option (Table ℕ)) → TableIs s o None → features_in o ≡ []
         none_in none t = refl
-        none_in (some x) t = absurd (true≢false (sym t.0 ∙ z))
+        none_in (some x) t = absurd t
 
-    pub body_features : {r : Sized} {n : ℕ} {after : List ℕ} → found.table.present ≡ true → LaysFeatures p s found.table.first mid given now r after
+    pub body_features : {t : FoundTable} {r : Sized} {n : ℕ} {after : List ℕ} → found.table ≡ Some t → LaysFeatures p s t.first mid given now r after
         → n ≡ (12 + r.size) % 2 ^ 64 → LaysBody p s found was given room (record { laid = r.laid; size = n }) after
-    body_features {r} {n} {after} z f e =
+    body_features {t} {r} {n} {after} z f e =
         record {
           kept = f.kept ∙ m.kept;
           says =
               λ short q d i w.
               let b = unskipped_body q d i in
               let u : InWord (size_of (entries_of (features_of q))) = omega (arith, w, ap length b, length-append (head_of q) (entries_of (features_of q))) in
-              let y = in_table q.table i.table short u in
+              let y = in_table q.table (subst (TableIs s q.table) z i.table) short u in
               subst (λ (v : List ℕ). LaidNumbers p v was given room (record { laid = r.laid; size = n }) after) (sym b)
               (numbers_then (head_of q) (entries_of (features_of q)) (head_laid short q d i) y.laid (omega (arith, e, y.size, u)));
         }
       where
-        in_table : (o : Option (Table ℕ)) → TableIs s o found.table → length s ≤ limit → InWord (size_of (entries_of (features_in o)))
+        in_table : (o : Option (Table ℕ)) → TableIs s o (Some t) → length s ≤ limit → InWord (size_of (entries_of (features_in o)))
             → LaidNumbers p (entries_of (features_in o)) mid given now r after
-        in_table none t short u = absurd (true≢false (sym z ∙ t))
-        in_table (some x) t short u = f.says short x.features t.1.stop t.1.features t.1.closes u
+        in_table none h short u = absurd h
+        in_table (some x) h short u = f.says short x.features h.stop h.features h.closes u

@@ -1,5 +1,5 @@
 -- The numbers of an item, from the parts that the walk found.
-use Rattle.std.proofs.Common.{◌≡◌, ℕ, ◌+◌, ◌-◌, ◌%◌, ◌<◌, ◌≤◌, Bool, true, false, cond, List, [], ◌∷◌, length, drop, sym, refl, ap, ◌∙◌, arith, length-append, length-drop}
+use Rattle.std.proofs.Common.{◌≡◌, ℕ, ◌+◌, ◌-◌, ◌%◌, ◌≤◌, Bool, true, false, cond, List, [], ◌∷◌, length, drop, sym, refl, ap, ◌∙◌, arith, length-append, length-drop}
 use Rattle.paper.specs.Bytes.{bytes, same, raw}
 use Rattle.paper.specs.Tree.{Text, Sequence}
 use Rattle.paper.specs.Rules.{dna, rna}
@@ -25,11 +25,8 @@ part_ends {s} {t} {p} h i = (
   omega (arith, i.first, i.behind),
 )
 
-pub size_none : {p : Range} → p.to < p.from → SizeOfPart p 0
-size_none l = record { says = λ s t h i. absurd (omega (arith, l, (part_ends h i).2)) }
-
-pub size_some : {p : Range} {r : ℕ} → r ≡ (p.to - p.from) % 4294967296 → SizeOfPart p r
-size_some e = record { says = λ s t h i. let x = part_ends h i in omega (arith, e, x.1, x.2) }
+pub size_is : {p : Range} {n r : ℕ} → n ≡ p.to - p.from → r ≡ n % 4294967296 → SizeOfPart p r
+size_is d e = record { says = λ s t h i. let x = part_ends h i in omega (arith, d, e, x.1, x.2) }
 
 -- the place and the length of whichever text the part is
 pair : {s : List ℕ} {t : Text ℕ} {p : Range} {a b : ℕ} → length s ≤ limit → IsPart s t p → a ≡ p.from % 4294967296 → SizeOfPart p b

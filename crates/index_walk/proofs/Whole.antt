@@ -8,8 +8,9 @@ use Rattle.paper.specs.Answers.{limit}
 use Rattle.paper.specs.Index.{in_bytes, size_of, body_of, entries}
 use Rattle.paper.proofs.Lists.{gather_last, length-map}
 use Rattle.paper.proofs.Index.{length_in_bytes, in_bytes_append, length_entries, entries_append}
-use Rattle.lent_room.specs.Room.{Lays, LaysMore}
-use Rattle.lent_room.specs.declared.Laid.{Laid}
+use Rattle.std.specs.Prelude.{Ok}
+use Rattle.std.specs.Result.{result_and}
+use Rattle.lent_room.specs.Room.{Laid, Lays, LaysMore}
 use Rattle.lent_room.specs.declared.Pass.{Pass}
 use Rattle.lent_room.specs.declared.Pass.TheVariants.{Measure, Write, Compare}
 use Rattle.lent_room.proofs.Passes.{lays_none}
@@ -21,7 +22,7 @@ use Rattle.walk_items.proofs.Sequences.{sequence_leads}
 use Rattle.judge_faults.proofs.Seen.{Seen, seen_none, seen_next, seen_stuck, seen_all}
 use Rattle.index_walk.specs.Bodies.{InWord, LaysBody, numbers_of, IndexLaid, LaysSequences, LaysIndex}
 use Rattle.index_walk.specs.declared.Sized.{Sized}
-use Rattle.index_walk.proofs.Sides.{Roomy, roomy_less, Sides, sides_first, sides_second, sides_more, sides_on, sides_off}
+use Rattle.index_walk.proofs.Sides.{Roomy, roomy_less, Sides, sides_first, sides_second, sides_more, sides_both}
 
 -- ---- what has been laid
 
@@ -50,7 +51,7 @@ bound_less {p} {bodies = bodies} {room = room} l x b =
 -- where the next body starts, and contents and bodies side by side
 pub record Laying (p : Pass) (total bodies : ℕ) (given room : List ℕ) (contents laid : Laid) (start : ℕ) (now : List ℕ) (l : List (Sequence ℕ)) : Type 0 where
   pub next : start ≡ bodies + size_of (bodies_of l)
-  pub sides : Sides given room bodies (in_bytes (contents_of total bodies l)) (in_bytes (bodies_of l)) p contents.on contents.at laid.on laid.at now
+  pub sides : Sides given room bodies (in_bytes (contents_of total bodies l)) (in_bytes (bodies_of l)) p contents laid now
 
 abbrev pub Placed : Pass → (total bodies : ℕ) → (given room : List ℕ) → (contents laid : Laid) → ℕ → List ℕ → List (Sequence ℕ) → Type 0
 Placed p total bodies given room contents laid start now l = Bound p bodies (length room) l → Laying p total bodies given room contents laid start now l
@@ -58,7 +59,7 @@ Placed p total bodies given room contents laid start now l = Bound p bodies (len
 -- behind the count, whatever it is and wherever it was laid
 pub record Indexing (p : Pass) (s : List ℕ) (first bodies : ℕ) (count : Laid) (given room : List ℕ) (contents laid : Laid) (start at : ℕ) (now : List ℕ) : Type 0 where
   pub kept : length now ≡ length room
-  pub seen : (total : ℕ) (before : List ℕ) → Lays given 0 (in_bytes (total ∷ [])) before p count.on count.at room → length s ≤ limit
+  pub seen : (total : ℕ) (before : List ℕ) → Lays given 0 (in_bytes (total ∷ [])) before p count room → length s ≤ limit
       → Seen (child sequence) closing s first at (Placed p total bodies given before contents laid start now)
 
 -- ---- sizes
@@ -88,13 +89,13 @@ sum_of bodies a en es ez ec w = omega (arith, en, es, ez, ec, w)
 -- ---- the loop
 
 module _ {p : Pass} {s : List ℕ} {first bodies : ℕ} {count : Laid} {given room : List ℕ} where
-  pub indexing_none : Indexing p s first bodies count given room count (record { on = true; at = bodies }) bodies first room
+  pub indexing_none : Indexing p s first bodies count given room count (Ok bodies) bodies first room
   indexing_none =
       record {
         kept = refl;
         seen =
             λ total before l h.
-            seen_none (child sequence) closing first (Placed p total bodies given before count (record { on = true; at = bodies }) bodies room)
+            seen_none (child sequence) closing first (Placed p total bodies given before count (Ok bodies) bodies room)
             (λ b. record { next = omega arith; sides = sides_first given before bodies (b.apart, b.roomy) l });
       }
 
@@ -104,7 +105,7 @@ module _ {p : Pass} {s : List ℕ} {first bodies : ℕ} {count : Laid} {given ro
       over : Over (child sequence) (Not is_blank) s at g.next
       over = record { is = λ q e d fol. (f q e d fol).next }
 
-      pub indexing_stuck : g.next ≤ at → LaysSequences p s first bodies count given room contents now
+      pub indexing_stuck : g.next ≤ at → {r : Laid} → LaysSequences p s first bodies count given room r now
       indexing_stuck stuck =
           record {
             kept = w.kept;
@@ -148,32 +149,29 @@ module _ {p : Pass} {s : List ℕ} {first bodies : ℕ} {count : Laid} {given ro
                 let j = sides_more given before bodies (omega (arith, lc, le, length-append C (in_bytes (entry bodies l q)), bound.apart, la), fits) k m'.says in
                 record {
                   next = sum_of bodies (size_of (bodies_of l)) en u.next v.size (omega (arith, z)) bound.small;
-                  sides = subst₂ (λ (x y : List ℕ). Sides given before bodies x y p more.on more.at r.laid.on r.laid.at after)
+                  sides = subst₂ (λ (x y : List ℕ). Sides given before bodies x y p more r.laid after)
                       (sym (contents_more total bodies l q)) (sym (bodies_more l q)) j;
                 }
 
     -- all have been laid
     module _ (h : t ≡ false) where
-      indexing_done : (r : Laid)
-          → ((l : List (Sequence ℕ)) (before : List ℕ) → bodies ≡ length (in_bytes (contents_of (length l) bodies l))
-          → Laying p (length l) bodies given before contents laid start now l → IndexLaid p (in_bytes (contents_of (length l) bodies l) ++ in_bytes (bodies_of l)) given before r now)
-          → LaysSequences p s first bodies count given room r now
-      indexing_done r end =
+      pub indexing_done : LaysSequences p s first bodies count given room (result_and contents laid) now
+      indexing_done =
           record {
             kept = w.kept;
             says =
                 λ l before c short e d fol b i.
                 go p l before b i
                 (λ k.
-                end l before (omega (arith, b, length_contents (length l) bodies l))
+                sides_both given before bodies contents laid (omega (arith, b, length_contents (length l) bodies l))
                 ((seen_all (bytes "SequenceData") (child sequence) sequence_leads closing (record { clash = refl; sharps = refl })
-                (Placed p (length l) bodies given before contents laid start now) h (here.tells (bytes "SequenceData") refl) (w.seen (length l) before c short) l e d fol).0 k));
+                (Placed p (length l) bodies given before contents laid start now) h (here.tells (bytes "SequenceData") refl) (w.seen (length l) before c short) l e d fol).0 k).sides);
           }
         where
           go : (c : Pass) (l : List (Sequence ℕ)) (before : List ℕ) → bodies ≡ 4 + 8 * length l → InWord (size_of (numbers_of l))
-              → (Bound c bodies (length before) l → IndexLaid c (in_bytes (contents_of (length l) bodies l) ++ in_bytes (bodies_of l)) given before r now)
-              → IndexLaid c (in_bytes (numbers_of l)) given before r now
-          go c l before eb i k = by c (λ f. subst (λ (x : List ℕ). IndexLaid c x given before r now) (sym same) (k (bound f)))
+              → (Bound c bodies (length before) l → IndexLaid c (in_bytes (contents_of (length l) bodies l) ++ in_bytes (bodies_of l)) given before (result_and contents laid) now)
+              → IndexLaid c (in_bytes (numbers_of l)) given before (result_and contents laid) now
+          go c l before eb i k = by c (λ f. subst (λ (x : List ℕ). IndexLaid c x given before (result_and contents laid) now) (sym same) (k (bound f)))
             where
               -- the size of its numbers is where the bodies end
               whole : size_of (numbers_of l) ≡ bodies + size_of (bodies_of l)
@@ -187,21 +185,15 @@ module _ {p : Pass} {s : List ℕ} {first bodies : ℕ} {count : Laid} {given ro
               bound : Roomy c (bodies + size_of (bodies_of l)) (length before) → Bound c bodies (length before) l
               bound f = record { apart = omega (arith, eb); small = omega (arith, i, whole); roomy = f }
 
-              by : (c : Pass) → (Roomy c (bodies + size_of (bodies_of l)) (length before) → IndexLaid c (in_bytes (numbers_of l)) given before r now)
-                  → IndexLaid c (in_bytes (numbers_of l)) given before r now
+              by : (c : Pass) → (Roomy c (bodies + size_of (bodies_of l)) (length before) → IndexLaid c (in_bytes (numbers_of l)) given before (result_and contents laid) now)
+                  → IndexLaid c (in_bytes (numbers_of l)) given before (result_and contents laid) now
               by Measure f = tt
               by Write f = λ h. f (omega (arith, h, whole, length_in_bytes (numbers_of l))) h
               by Compare f = f tt
 
-      pub indexing_on : contents.on ≡ true → LaysSequences p s first bodies count given room laid now
-      indexing_on o = indexing_done laid (λ l before b x. sides_on given before bodies contents laid b o x.sides)
-
-      pub indexing_off : contents.on ≡ false → LaysSequences p s first bodies count given room contents now
-      indexing_off o = indexing_done contents (λ l before b x. sides_off given before bodies contents laid o x.sides)
-
 -- the count, and then the sequences
 pub index_laid : {p : Pass} {s : List ℕ} {first total bodies n : ℕ} {count r : Laid} {given room now after : List ℕ} → n ≡ total % 4294967296
-    → LaysMore given (in_bytes (n ∷ [])) p (record { on = true; at = 0 }) count room now → LaysSequences p s first bodies count given now r after
+    → LaysMore given (in_bytes (n ∷ [])) p (Ok 0) count room now → LaysSequences p s first bodies count given now r after
     → LaysIndex p s first total bodies given room r after
 index_laid {p} {total = total} {n = n} {count} {given = given} {room} {now} e m f =
     record {
@@ -209,5 +201,5 @@ index_laid {p} {total = total} {n = n} {count} {given = given} {room} {now} e m 
       says =
           λ short l d st fol a b i.
           let k : n ≡ length l = omega (arith, e, a, i, length-append (length l ∷ entries (4 + 8 * length l) (map body_of l)) (bodies_of l), length_entries (4 + 8 * length l) (map body_of l), length-map body_of l) in
-          f.says l room (subst (λ (j : ℕ). Lays given 0 (in_bytes (j ∷ [])) room p count.on count.at now) k (m.says 0 [] room (lays_none p))) short d st fol b i;
+          f.says l room (subst (λ (j : ℕ). Lays given 0 (in_bytes (j ∷ [])) room p count now) k (m.says 0 [] room (lays_none p))) short d st fol b i;
     }

@@ -8,8 +8,7 @@ use Rattle.paper.specs.Tree.{Text, Feature, Sequence}
 use Rattle.paper.specs.Layout.{child, feature, sequence}
 use Rattle.paper.specs.Answers.{limit}
 use Rattle.paper.specs.Index.{in_bytes, size_of, place_and_length, kind_in, feature_entry, body_of, entries}
-use Rattle.lent_room.specs.Room.{Agrees, Lays, LaysMore}
-use Rattle.lent_room.specs.declared.Laid.{Laid}
+use Rattle.lent_room.specs.Room.{Laid, Agrees, Lays, LaysMore}
 use Rattle.lent_room.specs.declared.Pass.{Pass}
 use Rattle.lent_room.specs.declared.Pass.TheVariants.{Measure, Write, Compare}
 use Rattle.read_steps.specs.Follow.{Starts, closing}
@@ -64,12 +63,12 @@ numbers_of l = (length l ∷ entries (4 + 8 * length l) (map body_of l)) ++ gath
 abbrev pub IndexLaid : Pass → (x given room : List ℕ) → Laid → List ℕ → Type 0
 IndexLaid Measure x given room r after = Unit {0}
 IndexLaid Write x given room r after = length x ≤ length room → after ≡ sets room 0 x
-IndexLaid Compare x given room r after = Agrees x 0 given r.on r.at
+IndexLaid Compare x given room r after = Agrees x 0 given r
 
 -- behind the count, which was laid in the room `before`
 pub record LaysSequences (p : Pass) (s : List ℕ) (first bodies : ℕ) (count : Laid) (given room : List ℕ) (r : Laid) (after : List ℕ) : Type 0 where
   pub kept : length after ≡ length room
-  pub says : (l : List (Sequence ℕ)) (before : List ℕ) → Lays given 0 (in_bytes (length l ∷ [])) before p count.on count.at room
+  pub says : (l : List (Sequence ℕ)) (before : List ℕ) → Lays given 0 (in_bytes (length l ∷ [])) before p count room
       → length s ≤ limit → (e : ℕ) → Stands (each (child sequence) l) s first e → Starts closing (drop e s)
       → bodies ≡ 4 + 8 * length l → InWord (size_of (numbers_of l)) → IndexLaid p (in_bytes (numbers_of l)) given before r after
 

@@ -21,10 +21,7 @@ fn word(n: usize) -> u32
 fn part_size(part: Range) -> u32
     ensures { SizeOfPart part result }
 {
-    if part.to < part.from {
-        return 0;
-    }
-    word(part.to - part.from)
+    word(part.to.saturating_sub(part.from))
 }
 
 // The four numbers of a feature.
@@ -49,9 +46,8 @@ fn kind_of_body(s: &[u8], moltype: Range, residues: Range) -> u32
     match value_words::kind_of(read_steps::bytes_of(s, moltype.from, moltype.to)) {
         Molecule::Dna => 1,
         Molecule::Rna => 2,
-        Molecule::Aa => 3,
-        // An accepted listing has none.
-        Molecule::Other => 3,
+        // An accepted listing has no other kind.
+        Molecule::Aa | Molecule::Other => 3,
     }
 }
 
@@ -62,14 +58,15 @@ fn body_head(kind: u32, residues: Range) -> [u32; 3]
     [kind, word(residues.from), part_size(residues)]
 }
 
-// What was laid, and its size in bytes.
+// What was laid, and its size in bytes: of a pass that has stopped too, since the contents tell where each body starts. A sum of sizes
+// wraps only where the bytes are no listing.
 #[derive(Clone, Copy)]
 pub struct Sized {
     pub laid: Laid,
     pub size: usize,
 }
 
-// The entries of the features that stand from here on.
+// The entries of the features that stand from here on. Only a feature says where the next one starts, so it is a while.
 fn lay_features(
     pass: Pass,
     s: &[u8],
@@ -83,21 +80,19 @@ fn lay_features(
     let mut at = first;
     let mut laid = was;
     let mut size: usize = 0;
-    loop {
-        if walk_steps::child_here(s, at) {
-            let feature = walk_items::feature(s, at);
-            let next = walk_items::feature_past(s, feature);
-            if next <= at {
-                return Sized { laid, size };
-            }
-            let numbers = feature_entry(feature.key, feature.location);
-            laid = lay_more(pass, laid, &numbers, given, room);
-            size = std::num::wrapping_add_usize(size, 16);
-            at = next;
-        } else {
-            return Sized { laid, size };
+    while walk_steps::child_here(s, at) {
+        let feature = walk_items::feature(s, at);
+        let next = walk_items::feature_past(s, feature);
+        // A feature that stands is not empty.
+        if next <= at {
+            break;
         }
+        let numbers = feature_entry(feature.key, feature.location);
+        laid = lay_more(pass, laid, &numbers, given, room);
+        size = std::num::wrapping_add_usize(size, 16);
+        at = next;
     }
+    Sized { laid, size }
 }
 
 // The body of a sequence.
@@ -117,10 +112,9 @@ fn lay_body(
     if kind == 0 {
         return Sized { laid, size: 12 };
     }
-    let table = sequence.table;
-    if !table.present {
+    let Some(table) = sequence.table else {
         return Sized { laid, size: 12 };
-    }
+    };
     let Sized { laid: all, size } = lay_features(pass, s, table.first, laid, given, room);
     Sized {
         laid: all,
@@ -128,7 +122,8 @@ fn lay_body(
     }
 }
 
-// The entries and the bodies of the sequences that stand from here on, the first body at `bodies`.
+// The entries and the bodies of the sequences that stand from here on, the first body at `bodies`. Either goes on where the other has
+// stopped: the contents say where each body starts, and the bodies how long each is.
 fn lay_sequences(
     pass: Pass,
     s: &[u8],
@@ -141,32 +136,24 @@ fn lay_sequences(
     ensures { LaysSequences pass s.now first bodies count given.now room.old result room.new }
 {
     let mut contents = count;
-    let mut laid = Laid {
-        on: true,
-        at: bodies,
-    };
+    let mut laid: Laid = Ok(bodies);
     let mut start = bodies;
     let mut at = first;
-    loop {
-        if walk_steps::child_here(s, at) {
-            let sequence = walk_items::sequence(s, at);
-            let next = sequence.next;
-            if next <= at {
-                return contents;
-            }
-            let Sized { laid: body, size } = lay_body(pass, s, sequence, laid, given, room);
-            let numbers = [word(start), word(size)];
-            contents = lay_more(pass, contents, &numbers, given, room);
-            laid = body;
-            start = std::num::wrapping_add_usize(start, size);
-            at = next;
-        } else {
-            if contents.on {
-                return laid;
-            }
-            return contents;
+    while walk_steps::child_here(s, at) {
+        let sequence = walk_items::sequence(s, at);
+        let next = sequence.next;
+        // A sequence that stands is not empty.
+        if next <= at {
+            break;
         }
+        let Sized { laid: body, size } = lay_body(pass, s, sequence, laid, given, room);
+        let numbers = [word(start), word(size)];
+        contents = lay_more(pass, contents, &numbers, given, room);
+        laid = body;
+        start = std::num::wrapping_add_usize(start, size);
+        at = next;
     }
+    contents.and(laid)
 }
 
 // The index of the `total` sequences that stand from here on, the first body at `bodies`.
@@ -182,6 +169,6 @@ pub fn lay_index(
     ensures { LaysIndex pass s.now first total bodies given.now room.old result room.new }
 {
     let numbers = [word(total)];
-    let count = lay_more(pass, Laid { on: true, at: 0 }, &numbers, given, room);
+    let count = lay_more(pass, Ok(0), &numbers, given, room);
     lay_sequences(pass, s, first, bodies, count, given, room)
 }

@@ -1,4 +1,5 @@
 -- The whole region and its first fault.
+use Rattle.std.specs.Prelude as rust
 use Prim.Native.Nat.{ℕ, suc, ◌≤◌, ◌<◌}
 use native.Mathlib.Omega.{arith}
 use mathlib.Core.Path.{◌≡◌, refl, sym, ap, ◌∙◌, subst, subst₂}
@@ -14,8 +15,7 @@ use Rattle.paper.specs.Locations.{Location, Locates, breaks25}
 use Rattle.paper.specs.Translation.{Code, code1, drop_stop, has_stop_inside}
 use Rattle.paper.specs.Rules.{L, Kind, is_symbol, value_place, Before, CodonStart, Judged, InCoding, rule_27, rule_28}
 use Rattle.paper.specs.Answers.{Translates}
-use Rattle.judge_faults.specs.declared.Fault.{Fault}
-use Rattle.judge_faults.specs.declared.Fault.TheVariants.{Clean, At}
+use Rattle.std.specs.Prelude.{None, Some}
 use Rattle.paper.proofs.Locate.{locates_once}
 use Rattle.paper.proofs.Once.{translates_once}
 use Rattle.read_steps.specs.Parts.{ShowsBytes}
@@ -24,11 +24,10 @@ use Rattle.value_words.proofs.Tests.{tells_true, tells_false}
 use Rattle.walk_steps.specs.declared.Range.{Range}
 use Rattle.location_judge.specs.Judging.{JudgedText as Placed}
 use Rattle.location_judge.specs.declared.judging.Facts.{Facts}
-use Rattle.location_judge.specs.declared.judging.Judgement.{Judgement}
-use Rattle.location_judge.specs.declared.judging.Judgement.TheVariants.{Bad, Is}
+use Rattle.protein_code.specs.Tables.{code_of}
 use Rattle.protein_codons.specs.Reading.{Codes}
 use Rattle.protein_codons.specs.Letters.{letters_of}
-use Rattle.judge_faults.specs.Sets.{Firsts, Some}
+use Rattle.judge_faults.specs.Sets.{Fault, fault_at, Firsts, InSome}
 use Rattle.judge_faults.proofs.Symbols.{symbols_all, symbols_not}
 use Rattle.judge_faults.specs.Known.{Knows}
 use Rattle.judge_faults.specs.declared.Known.{Known}
@@ -36,6 +35,7 @@ use Rattle.judge_faults.proofs.Bytes.{part_shows}
 use Rattle.judge_faults.proofs.Faults.{firsts_none, firsts_as}
 use Rattle.judge_qualifiers.specs.Qualifiers.{FrameIs, RestIs, LeavesOut}
 use Rattle.judge_coding.specs.Translations.{Breaks28, Rights}
+use Rattle.judge_coding.specs.declared.Codons.{Codons}
 use Rattle.judge_coding.specs.Coding.{Asked, JudgesCoding, JudgesRegion}
 use Rattle.judge_qualifiers.specs.declared.Frame.TheVariants.{Wrong}
 use Rattle.judge_qualifiers.specs.declared.Noted.{Noted}
@@ -61,7 +61,7 @@ agree {q} {f} {x} {y} {v} j k h = by (has_stop_inside y) refl
 
 module _ {q : Sequence ℕ} {f : Feature ℕ} {start : ℕ} (starts : CodonStart f start) where
   -- nothing is broken where it isn't judged
-  none_judged : ((x : List ℕ) → ¬ Judged q f x) → Firsts (InCoding q f) Clean
+  none_judged : ((x : List ℕ) → ¬ Judged q f x) → Firsts (InCoding q f) None
   none_judged h = firsts_none (InCoding q f) not_broken
     where
       not_broken : (n p : ℕ) → ¬ InCoding q f n p
@@ -69,21 +69,21 @@ module _ {q : Sequence ℕ} {f : Feature ℕ} {start : ℕ} (starts : CodonStart
       not_broken n p (rule_28 x j y m i k) = h x j
 
   -- it is judged by the qualifiers from the first translation on
-  judged_as : {s x : List ℕ} {rest stop : ℕ} {r : Fault} → Judged q f x → (t : RestIs s rest (qualifiers_of f) stop) → Firsts (Some (Breaks28 x) t.back) r → Firsts (InCoding q f) r
-  judged_as {x = x} j t = firsts_as (Some (Breaks28 x) t.back) (InCoding q f) to of
+  judged_as : {s x : List ℕ} {rest stop : ℕ} {r : Fault} → Judged q f x → (t : RestIs s rest (qualifiers_of f) stop) → Firsts (InSome (Breaks28 x) t.back) r → Firsts (InCoding q f) r
+  judged_as {x = x} j t = firsts_as (InSome (Breaks28 x) t.back) (InCoding q f) to of
     where
-      to : (n p : ℕ) → Some (Breaks28 x) t.back n p → InCoding q f n p
+      to : (n p : ℕ) → InSome (Breaks28 x) t.back n p → InCoding q f n p
       to n p b =
           let y = b.1 in
           let u = b.3 in
           let m = subst (λ (l : List (Qualifier ℕ)). y ∈ l) (sym t.is) (in_behind t.front t.back y (b.2.0, b.2.2)) in
           subst₂ (InCoding q f) (sym u.0) (sym u.1) (rule_28 x j y m u.2 u.3)
 
-      of : (n p : ℕ) → InCoding q f n p → Some (Breaks28 x) t.back n p
+      of : (n p : ℕ) → InCoding q f n p → InSome (Breaks28 x) t.back n p
       of n p (rule_27 c k) = absurd (k start starts)
       of n p (rule_28 z i y m d k) = behind (in_either t.front t.back y (subst (λ (l : List (Qualifier ℕ)). y ∈ l) t.is m))
         where
-          behind : (y ∈ t.front) ⊎ (y ∈ t.back) → Some (Breaks28 x) t.back 28 (value_place y.value y.name)
+          behind : (y ∈ t.front) ⊎ (y ∈ t.back) → InSome (Breaks28 x) t.back 28 (value_place y.value y.name)
           behind (inl a) = absurd (t.none y a d)
           behind (inr a) = (suc a.0, y, (a.0, refl, a.1), (refl, refl, d, λ h. k (agree j i h)))
 
@@ -96,19 +96,19 @@ module _ {s r : List ℕ} {known : Known} {q : Sequence ℕ} (k : Knows s q know
   found_codes {v = v} {t = t} el er l b =
       record { sized = ap length er ∙ sym k.size; read = v; written = el; located = l; right = ap (λ (n : ℕ). breaks25 n t) k.size ∙ b }
 
-module _ {s : List ℕ} {location : Range} {rest : ℕ} {known : Known} {verdict : Judgement} {start : ℕ} {u : Bool} where
-  pub region_unjudged : u ≡ true → JudgesRegion s location rest known verdict start u Clean
+module _ {s : List ℕ} {location : Range} {rest : ℕ} {known : Known} {verdict : rust.Option Facts} {start : ℕ} {u : Bool} where
+  pub region_unjudged : u ≡ true → JudgesRegion s location rest known verdict start u None
   region_unjudged e = record { says = λ key q f stop a l c t. none_judged c (λ x j. j.judged (tells_true u e t)) }
 
-  pub region_unclean : known.foreign < known.residues.to → JudgesRegion s location rest known verdict start u Clean
+  pub region_unclean : known.foreign < known.residues.to → JudgesRegion s location rest known verdict start u None
   region_unclean e = record { says = λ key q f stop a l c t. none_judged c (λ x j. symbols_not a.knows j.coding.kind j.coding.is e j.symbols) }
 
-  pub region_bad : verdict ≡ Bad → JudgesRegion s location rest known verdict start u Clean
+  pub region_bad : verdict ≡ None → JudgesRegion s location rest known verdict start u None
   region_bad e =
       record { says = λ key q f stop a l c t. none_judged c (λ x j. subst (Placed (L q) f.location.read) e a.judged j.codons.location j.codons.located) }
 
-  module _ {x : Facts} (e : verdict ≡ Is x) where
-    pub region_outside : x.wrong ≡ true → JudgesRegion s location rest known verdict start u Clean
+  module _ {x : Facts} (e : verdict ≡ Some x) where
+    pub region_outside : x.wrong ≡ true → JudgesRegion s location rest known verdict start u None
     region_outside w =
         record {
           says =
@@ -120,32 +120,42 @@ module _ {s : List ℕ} {location : Range} {rest : ℕ} {known : Known} {verdict
               true≢false (sym w ∙ k.2.wrong ∙ ap (breaks25 (L q)) o ∙ j.codons.inside));
         }
 
-    pub region_judged : {gc : Code} {r loc : List ℕ} {y : Fault} → gc ≡ code1 → u ≡ false → known.residues.to ≤ known.foreign → x.wrong ≡ false
-        → ShowsBytes s known.residues.from known.residues.to r → ShowsBytes s location.from location.to loc
-        → Rights gc s r loc known.top start rest y → JudgesRegion s location rest known verdict start u y
-    region_judged {r = r} {loc = loc} {y = y} code d g w shr shl right =
-        let rights = subst (λ (c : Code). Rights c s r loc known.top start rest y) code right in
-        record {
-          says =
-              λ key q f stop a l c t.
-              let k = subst (Placed (L q) f.location.read) e a.judged in
-              let sy : all (is_symbol a.coding.kind) q.residues.read = symbols_all a.knows a.coding.kind a.coding.is g in
-              let er = residues_read a.knows shr a.coding.kind sy in
-              let b : breaks25 (L q) k.0 ≡ false = sym k.2.wrong ∙ w in
-              judged_as c
-              (record {
-                coding = a.coding;
-                symbols = sy;
-                judged = tells_false u d t;
-                codons =
-                    record { location = k.0; located = k.1; inside = b; start = start; starts = c; are = ap (λ (z : List ℕ). letters_of code1 z start k.0) er };
-              })
-              l (rights.says k.0 (found_codes a.knows (part_shows a.located shl) er k.1 b) l.back stop l.stands a.closes);
-        }
+module _ {c : Codons} {location : Range} {rest : ℕ} {known : Known} {verdict : rust.Option Facts} {u : Bool} {x : Facts} (e : verdict ≡ Some x) where
+  pub region_judged : {y : Fault} → code_of c.of.code.now ≡ code1 → c.of.top ≡ known.top → u ≡ false → known.residues.to ≤ known.foreign → x.wrong ≡ false
+      → ShowsBytes c.s.now known.residues.from known.residues.to c.of.r.now → ShowsBytes c.s.now location.from location.to c.of.loc.now
+      → Rights c rest y → JudgesRegion c.s.now location rest known verdict c.of.frame u y
+  region_judged code top d g w shr shl rights =
+      record {
+        says =
+            λ key q f stop a l n t.
+            let k = subst (Placed (L q) f.location.read) e a.judged in
+            let sy : all (is_symbol a.coding.kind) q.residues.read = symbols_all a.knows a.coding.kind a.coding.is g in
+            let er = residues_read a.knows shr a.coding.kind sy in
+            let b : breaks25 (L q) k.0 ≡ false = sym k.2.wrong ∙ w in
+            let codes = found_codes a.knows (part_shows a.located shl) er k.1 b in
+            judged_as n
+            (record {
+              coding = a.coding;
+              symbols = sy;
+              judged = tells_false u d t;
+              codons =
+                  record {
+                    location = k.0;
+                    located = k.1;
+                    inside = b;
+                    start = c.of.frame;
+                    starts = n;
+                    are =
+                        ap (λ (z : Code). letters_of z c.of.r.now c.of.frame k.0) code
+                        ∙ ap (λ (z : List ℕ). letters_of code1 z c.of.frame k.0) er;
+                  };
+            })
+            l (rights.says k.0 (subst (λ (n : ℕ). Codes c.of.r.now c.of.loc.now n k.0) (sym top) codes) l.back stop l.stands a.closes);
+      }
 
 -- ---- the region
 
-module _ {s : List ℕ} {key : ℕ} {location : Range} {known : Known} {verdict : Judgement} {x : Noted} {u : Bool} (leaves : LeavesOut x.excepted verdict u) where
+module _ {s : List ℕ} {key : ℕ} {location : Range} {known : Known} {verdict : rust.Option Facts} {x : Noted} {u : Bool} (leaves : LeavesOut x.excepted verdict u) where
   pub coding_framed : {start : ℕ} {y : Fault} → ((f : Feature ℕ) → FrameIs (qualifiers_of f) x.frame → CodonStart f start)
       → JudgesRegion s location x.rest known verdict start u y → JudgesCoding s key location x known verdict (record { fault = y; unjudged = u })
   coding_framed g r =
@@ -156,7 +166,7 @@ module _ {s : List ℕ} {key : ℕ} {location : Range} {known : Known} {verdict 
             record { fault = r.says key q f stop a n.rest (g f n.says.framed) t; unjudged = t };
       }
 
-  pub coding_wrong : x.frame ≡ Wrong → JudgesCoding s key location x known verdict (record { fault = At 27 key; unjudged = u })
+  pub coding_wrong : x.frame ≡ Wrong → JudgesCoding s key location x known verdict (record { fault = fault_at 27 key; unjudged = u })
   coding_wrong e =
       record {
         says =

@@ -3,19 +3,20 @@
 #![tactic(auto)]
 
 ghost use Rattle.paper.specs.Translation.{code1};
-ghost use Rattle.protein_code.specs.Tables.{CodeTable, Coded, code_of};
+ghost use Rattle.protein_code.specs.Tables.{CodeTable};
 ghost use Rattle.value_words.specs.Reading.{Tells};
-ghost use Rattle.judge_coding.specs.Translations.{Settled, SaysRight, Checks, Rights};
-ghost use Rattle.judge_coding.specs.Coding.{JudgesCoding, JudgesRegion};
+ghost use Rattle.judge_coding.specs.Coding.{Settled, JudgesCoding, JudgesRegion};
 
 use judge_faults::{Fault, Known, anew, earlier};
 use judge_qualifiers::{Frame, Noted, is_unjudged};
-use location_judge::judging::Judgement;
+use location_judge::judging::Facts;
+use paper::Refused;
+use protein_codons::Coding;
 use protein_compare::is_right;
 use read_steps::bytes_of;
 use value_words::same;
-use walk_items::FoundQualifier;
-use walk_steps::{Maybe, Range};
+use walk_items::{FoundFeature, FoundQualifier};
+use walk_steps::Range;
 
 // The first fault of the region, and whether it is unjudged.
 #[derive(Clone, Copy)]
@@ -24,48 +25,15 @@ pub struct Region {
     pub unjudged: bool,
 }
 
-// ---- its translations: `r` are the residues, `loc` is the raw part of the location, `start` the codon_start
-
-// Whether the value is right. Where one that is right was seen, that is the same bytes, and no codon is read.
-fn value_right(
-    s: &[u8],
-    r: &[u8],
-    loc: &[u8],
-    top: u32,
-    start: usize,
-    value: Range,
-    right: Maybe,
-    code: &[u8; 5128],
-) -> bool
-    requires { Coded code.now }
-    ensures { SaysRight (code_of code.now) s.now r.now loc.now top start value right result }
-{
-    let v = bytes_of(s, value.from, value.to);
-    match right {
-        Maybe::Absent => {
-            return is_right(r, loc, top, start, v, code);
-        }
-        Maybe::Present(k) => {
-            let u = bytes_of(s, k.from, k.to);
-            return same(v, u);
-        }
-    }
-}
+// ---- its translations
 
 // Whether the fault comes before this place, so that no fault there is the first.
 fn is_settled(fault: Fault, place: usize) -> bool
     ensures { Tells result (Settled fault place) }
 {
     match fault {
-        Fault::Clean => {
-            return false;
-        }
-        Fault::At {
-            rule: _,
-            place: first,
-        } => {
-            return first < place;
-        }
+        None => false,
+        Some(first) => first.place < place,
     }
 }
 
@@ -73,94 +41,90 @@ fn is_settled(fault: Fault, place: usize) -> bool
 #[derive(Clone, Copy)]
 struct SoFar {
     fault: Fault,
-    right: Maybe,
+    right: Option<Range>,
 }
 
-// The same, after one qualifier more. Where a fault stands before its value no codon is read.
-fn check(
-    s: &[u8],
-    r: &[u8],
-    loc: &[u8],
-    top: u32,
-    start: usize,
-    name: Range,
-    value: Maybe,
-    fault: Fault,
-    right: Maybe,
-    code: &[u8; 5128],
-) -> SoFar
-    requires { Coded code.now }
-    ensures { Checks (code_of code.now) s.now r.now loc.now top start name value fault right result }
-{
-    let w = bytes_of(s, name.from, name.to);
-    if !same(w, b"translation") {
-        return SoFar { fault, right };
+// What the translations in the listing `s` are compared with.
+#[derive(Clone, Copy)]
+struct Codons<'a> {
+    s: &'a [u8],
+    of: Coding<'a>,
+}
+
+impl<'a> Codons<'a> {
+    ghost use Rattle.judge_coding.specs.Translations.{SaysRight, Checks, Rights};
+
+    // Whether the value is right. Where one that is right was seen, that is the same bytes, and no codon is read.
+    fn is_right(&self, value: Range, right: Option<Range>) -> bool
+        ensures { SaysRight self.now value right result }
+    {
+        let v = bytes_of(self.s, value.from, value.to);
+        match right {
+            None => is_right(&self.of, v),
+            Some(k) => same(v, bytes_of(self.s, k.from, k.to)),
+        }
     }
-    match value {
-        Maybe::Absent => {
-            let missing = Fault::At {
+
+    // What is known after one qualifier more. Where a fault stands before its value no codon is read.
+    fn check(&self, name: Range, value: Option<Range>, known: SoFar) -> SoFar
+        ensures { Checks self.now name value known result }
+    {
+        if !same(bytes_of(self.s, name.from, name.to), b"translation") {
+            return known;
+        }
+        let Some(p) = value else {
+            let missing = Some(Refused {
                 rule: 28,
                 place: name.from,
-            };
+            });
             return SoFar {
-                fault: earlier(fault, missing),
-                right,
+                fault: earlier(known.fault, missing),
+                ..known
+            };
+        };
+        if is_settled(known.fault, p.from) {
+            return known;
+        }
+        if self.is_right(p, known.right) {
+            return SoFar {
+                right: value,
+                ..known
             };
         }
-        Maybe::Present(p) => {
-            if is_settled(fault, p.from) {
-                return SoFar { fault, right };
-            }
-            if value_right(s, r, loc, top, start, p, right, code) {
-                return SoFar {
-                    fault,
-                    right: Maybe::Present(p),
-                };
-            }
-            let wrong = Fault::At {
-                rule: 28,
-                place: p.from,
-            };
-            return SoFar {
-                fault: earlier(fault, wrong),
-                right,
-            };
+        let wrong = Some(Refused {
+            rule: 28,
+            place: p.from,
+        });
+        SoFar {
+            fault: earlier(known.fault, wrong),
+            ..known
         }
     }
-}
 
-// The first fault of all translations.
-fn translations(
-    s: &[u8],
-    r: &[u8],
-    loc: &[u8],
-    top: u32,
-    start: usize,
-    first: usize,
-    code: &[u8; 5128],
-) -> Fault
-    requires { Coded code.now }
-    ensures { Rights (code_of code.now) s.now r.now loc.now top start first result }
-{
-    let mut at = first;
-    let mut fault = Fault::Clean;
-    let mut right = Maybe::Absent;
-    loop {
-        if walk_steps::child_here(s, at) {
-            let FoundQualifier { name, value, next } = walk_items::qualifier(s, at);
+    // The first fault of the translations among the qualifiers that stand from `first` on.
+    fn translations(&self, first: usize) -> Fault
+        ensures { Rights self.now first result }
+    {
+        let mut at = first;
+        let mut known = SoFar {
+            fault: None,
+            right: None,
+        };
+        // Only a qualifier says where the next one starts, so this is a while. One that stands is not empty: the test is there so that
+        // the loop ends, whatever the bytes are.
+        while walk_steps::child_here(self.s, at) {
+            let FoundQualifier { name, value, next } = walk_items::qualifier(self.s, at);
             if next <= at {
-                return fault;
+                break;
             }
-            let SoFar {
-                fault: least,
-                right: known,
-            } = check(s, r, loc, top, start, name, value, fault, right, code);
-            fault = anew(least);
-            right = known;
+            let SoFar { fault, right } = self.check(name, value, known);
+            known = SoFar {
+                fault: anew(fault),
+                right,
+            };
             at = next;
-        } else {
-            return fault;
         }
+        known.fault
     }
 }
 
@@ -172,7 +136,7 @@ fn region_fault(
     location: Range,
     rest: usize,
     known: Known,
-    verdict: Judgement,
+    verdict: Option<Facts>,
     start: usize,
     unjudged: bool,
     code: &[u8; 5128],
@@ -180,67 +144,55 @@ fn region_fault(
     requires { CodeTable code1 code.now }
     ensures { JudgesRegion s.now location rest known verdict start unjudged result }
 {
-    if unjudged {
-        return Fault::Clean;
+    if unjudged || known.foreign < known.residues.to {
+        return None;
     }
-    if known.foreign < known.residues.to {
-        return Fault::Clean;
+    if verdict?.wrong {
+        return None;
     }
-    match verdict {
-        Judgement::Bad => {
-            return Fault::Clean;
-        }
-        Judgement::Is(f) => {
-            if f.wrong {
-                return Fault::Clean;
-            }
-            let r = bytes_of(s, known.residues.from, known.residues.to);
-            let loc = bytes_of(s, location.from, location.to);
-            return translations(s, r, loc, known.top, start, rest, code);
-        }
-    }
+    let of = Coding {
+        r: bytes_of(s, known.residues.from, known.residues.to),
+        loc: bytes_of(s, location.from, location.to),
+        top: known.top,
+        frame: start,
+        code,
+    };
+    Codons { s, of }.translations(rest)
 }
 
-// `key` is the place of the feature's key, `noted` what its qualifiers say, `verdict` what was judged of its location.
+// `noted` is what the qualifiers of the feature say, `verdict` what was judged of its location.
 pub fn judge_coding(
     s: &[u8],
-    key: usize,
-    location: Range,
+    feature: &FoundFeature,
     noted: Noted,
     known: Known,
-    verdict: Judgement,
+    verdict: Option<Facts>,
     code: &[u8; 5128],
 ) -> Region
     requires { CodeTable code1 code.now }
-    ensures { JudgesCoding s.now key location noted known verdict result }
+    ensures { JudgesCoding s.now feature.now.key.from feature.now.location noted known verdict result }
 {
-    let Noted {
-        frame,
-        excepted,
-        organisms: _,
-        moltypes: _,
-        words: _,
-        rest,
-        next: _,
-    } = noted;
-    let unjudged = is_unjudged(excepted, verdict);
-    match frame {
-        Frame::Unstated => {
-            let fault = region_fault(s, location, rest, known, verdict, 1, unjudged, code);
-            return Region { fault, unjudged };
-        }
-        Frame::Stated(n) => {
-            let fault = region_fault(s, location, rest, known, verdict, n, unjudged, code);
-            return Region { fault, unjudged };
-        }
+    let unjudged = is_unjudged(noted.excepted, verdict);
+    let start = match noted.frame {
+        Frame::Unstated => 1,
+        Frame::Stated(n) => n,
         Frame::Wrong => {
-            return Region {
-                fault: Fault::At {
-                    rule: 27,
-                    place: key,
-                },
-                unjudged,
-            };
+            let fault = Some(Refused {
+                rule: 27,
+                place: feature.key.from,
+            });
+            return Region { fault, unjudged };
         }
-    }
+    };
+    let fault = region_fault(
+        s,
+        feature.location,
+        noted.rest,
+        known,
+        verdict,
+        start,
+        unjudged,
+        code,
+    );
+    Region { fault, unjudged }
 }

@@ -8,11 +8,10 @@ use mathlib.Core.List.{List, [], ◌∷◌, ◌++◌}
 use lib.ListN.{length}
 use Rattle.paper.specs.Lists.{Nth}
 use Rattle.paper.specs.Rules.{Before}
-use Rattle.judge_faults.specs.declared.Fault.{Fault}
-use Rattle.judge_faults.specs.declared.Fault.TheVariants.{Clean, At}
+use Rattle.std.specs.Prelude.{None, Some}
 use Rattle.judge_faults.proofs.Parts.{◌or◌, least_or, least_as}
 use Rattle.value_words.specs.Reading.{Tells}
-use Rattle.judge_faults.specs.Sets.{Earlier, Faults, Firsts, Bad, Some, unless_of}
+use Rattle.judge_faults.specs.Sets.{Fault, fault_at, Earlier, Faults, Firsts, Bad, InSome, unless_of}
 
 pub firsts_or : (S T : Faults) {a b r : Fault} → Firsts S a → Firsts T b → Earlier a b r → Firsts (◌or◌ S T) r
 firsts_or S T {a} {b} {r} f g e = record { is = least_or S T a b r f.is g.is e }
@@ -21,15 +20,15 @@ pub firsts_as : (S T : Faults) → ((n p : ℕ) → S n p → T n p) → ((n p :
 firsts_as S T to of {r} f = record { is = least_as S T to of r f.is }
 
 -- nothing is broken in a set that is empty
-pub firsts_none : (S : Faults) → ((n p : ℕ) → ¬ S n p) → Firsts S Clean
+pub firsts_none : (S : Faults) → ((n p : ℕ) → ¬ S n p) → Firsts S None
 firsts_none S h = record { is = h }
 
 -- a single fault
-pub earlier_clean : (a : Fault) → Earlier a Clean a
-earlier_clean Clean = refl
-earlier_clean (At n p) = refl
+pub earlier_clean : (a : Fault) → Earlier a None a
+earlier_clean None = refl
+earlier_clean (Some x) = refl
 
-pub firsts_one : (m q : ℕ) (A : Type 0) → ¬ A → Firsts (Bad m q A) (At m q)
+pub firsts_one : (m q : ℕ) (A : Type 0) → ¬ A → Firsts (Bad m q A) (fault_at m q)
 firsts_one m q A h =
     record {
       is =
@@ -67,30 +66,30 @@ module _ {A : Type 0} where
       up (inr a) = inr (ap suc a.0, a.1)
 
 module _ {A : Type 0} (B : ℕ → A → Faults) where
-  pub some_none : Firsts (Some B []) Clean
-  some_none = firsts_none (Some B []) (λ n p x. x.2.2)
+  pub some_none : Firsts (InSome B []) None
+  some_none = firsts_none (InSome B []) (λ n p x. x.2.2)
 
   module _ (l : List A) (y : A) where
-    to : (n p : ℕ) → ◌or◌ (Some B l) (B (suc (length l)) y) n p → Some B (l ++ (y ∷ [])) n p
+    to : (n p : ℕ) → ◌or◌ (InSome B l) (B (suc (length l)) y) n p → InSome B (l ++ (y ∷ [])) n p
     to n p (inl x) = (x.0, x.1, (x.2.0, x.2.1, nth_front l (y ∷ []) x.2.0 x.1 x.2.2), x.3)
     to n p (inr x) = (suc (length l), y, (length l, refl, nth_last l y), x)
 
-    of : (n p : ℕ) → Some B (l ++ (y ∷ [])) n p → ◌or◌ (Some B l) (B (suc (length l)) y) n p
+    of : (n p : ℕ) → InSome B (l ++ (y ∷ [])) n p → ◌or◌ (InSome B l) (B (suc (length l)) y) n p
     of n p x = cases (nth_split l y x.2.0 x.1 x.2.2)
       where
-        cases : Nth l x.2.0 x.1 ⊎ ((x.2.0 ≡ length l) × (x.1 ≡ y)) → ◌or◌ (Some B l) (B (suc (length l)) y) n p
+        cases : Nth l x.2.0 x.1 ⊎ ((x.2.0 ≡ length l) × (x.1 ≡ y)) → ◌or◌ (InSome B l) (B (suc (length l)) y) n p
         cases (inl h) = inl (x.0, x.1, (x.2.0, x.2.1, h), x.3)
         cases (inr h) = inr (subst (λ (k : ℕ). B k y n p) (x.2.1 ∙ ap suc h.0) (subst (λ (z : A). B x.0 z n p) h.1 x.3))
 
     -- one element more
-    pub some_more : {a b r : Fault} → Firsts (Some B l) a → Firsts (B (suc (length l)) y) b → Earlier a b r → Firsts (Some B (l ++ (y ∷ []))) r
-    some_more f g e = firsts_as (◌or◌ (Some B l) (B (suc (length l)) y)) (Some B (l ++ (y ∷ []))) to of (firsts_or (Some B l) (B (suc (length l)) y) f g e)
+    pub some_more : {a b r : Fault} → Firsts (InSome B l) a → Firsts (B (suc (length l)) y) b → Earlier a b r → Firsts (InSome B (l ++ (y ∷ []))) r
+    some_more f g e = firsts_as (◌or◌ (InSome B l) (B (suc (length l)) y)) (InSome B (l ++ (y ∷ []))) to of (firsts_or (InSome B l) (B (suc (length l)) y) f g e)
 
     -- one whose faults come later, whatever they are
-    pub some_later : {n p : ℕ} → Firsts (Some B l) (At n p) → ((m q : ℕ) → B (suc (length l)) y m q → Before n p m q) → Firsts (Some B (l ++ (y ∷ []))) (At n p)
+    pub some_later : {n p : ℕ} → Firsts (InSome B l) (fault_at n p) → ((m q : ℕ) → B (suc (length l)) y m q → Before n p m q) → Firsts (InSome B (l ++ (y ∷ []))) (fault_at n p)
     some_later {n} {p} f h =
-        firsts_as (◌or◌ (Some B l) (B (suc (length l)) y)) (Some B (l ++ (y ∷ []))) to of (record { is = record { broken = inl f.is.broken; least = least } })
+        firsts_as (◌or◌ (InSome B l) (B (suc (length l)) y)) (InSome B (l ++ (y ∷ []))) to of (record { is = record { broken = inl f.is.broken; least = least } })
       where
-        least : (m q : ℕ) → ◌or◌ (Some B l) (B (suc (length l)) y) m q → Before n p m q
+        least : (m q : ℕ) → ◌or◌ (InSome B l) (B (suc (length l)) y) m q → Before n p m q
         least m q (inl x) = f.is.least m q x
         least m q (inr x) = h m q x

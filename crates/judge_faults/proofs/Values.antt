@@ -4,12 +4,11 @@ use mathlib.Core.Path.{◌≡◌, ap, ◌∙◌}
 use mathlib.Core.Bool.{Bool}
 use mathlib.Core.List.{List}
 use Rattle.paper.specs.Tree.{Text}
-use Rattle.judge_faults.specs.declared.Fault.{Fault}
 use Rattle.read_steps.specs.Parts.{ShowsBytes}
 use Rattle.value_words.specs.Reading.{OfRead}
 use Rattle.walk_steps.specs.Stands.{IsPart}
 use Rattle.walk_steps.specs.declared.Range.{Range}
-use Rattle.judge_faults.specs.Sets.{Firsts, Bad, unless_of}
+use Rattle.judge_faults.specs.Sets.{Fault, Firsts, Bad, unless_of}
 use Rattle.judge_faults.proofs.Bytes.{part_shows}
 use Rattle.judge_faults.proofs.Faults.{firsts_unless}
 

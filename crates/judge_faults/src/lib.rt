@@ -6,15 +6,12 @@ ghost use Rattle.std.specs.Prelude.{◌≡◌};
 ghost use Rattle.judge_faults.specs.Sets.{Earlier, unless_of};
 ghost use Rattle.judge_faults.specs.Counters.{up_to, up_to_two};
 
+use paper::Refused;
 use value_words::Molecule;
 use walk_steps::Range;
 
 // The first broken rule of some part of a listing, if one is broken.
-#[derive(Clone, Copy)]
-pub enum Fault {
-    Clean,
-    At { rule: usize, place: usize },
-}
+pub type Fault = Option<Refused>;
 
 // What is known of a sequence while its features are judged: the kind that its moltype names, L, where the first residue stands that is
 // no symbol of the kind, or behind them all, and where its residues stand.
@@ -31,31 +28,25 @@ pub fn anew(a: Fault) -> Fault
     ensures { result ≡ a }
 {
     match a {
-        Fault::Clean => Fault::Clean,
-        Fault::At { rule, place } => Fault::At { rule, place },
+        None => None,
+        Some(x) => Some(x),
     }
 }
 
-// The earlier of two faults.
+// The earlier of two faults: by place, and at one place by rule. No derived order is this one: a rule is the first field, and none is last.
 pub fn earlier(a: Fault, b: Fault) -> Fault
     ensures { Earlier a b result }
 {
-    let Fault::At { rule: n, place: p } = a else {
+    let Some(x) = a else {
         return anew(b);
     };
-    let Fault::At { rule: m, place: q } = b else {
-        return Fault::At { rule: n, place: p };
+    let Some(y) = b else {
+        return Some(x);
     };
-    if p < q {
-        return Fault::At { rule: n, place: p };
+    if x.place < y.place || (x.place == y.place && x.rule <= y.rule) {
+        return Some(x);
     }
-    if q < p {
-        return Fault::At { rule: m, place: q };
-    }
-    if n <= m {
-        return Fault::At { rule: n, place: p };
-    }
-    Fault::At { rule: m, place: q }
+    Some(y)
 }
 
 // The fault of a test that fails.
@@ -63,9 +54,9 @@ pub fn unless(ok: bool, rule: usize, place: usize) -> Fault
     ensures { result ≡ unless_of ok rule place }
 {
     if ok {
-        return Fault::Clean;
+        return None;
     }
-    Fault::At { rule, place }
+    Some(Refused { rule, place })
 }
 
 // ---- counters

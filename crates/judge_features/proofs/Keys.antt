@@ -1,4 +1,5 @@
 -- The location and the key of a feature: rules 24 to 26, and what a key names.
+use Rattle.location_judge.specs.declared.judging.Facts.{Facts}
 use Prim.Native.Nat.{ℕ, ◌≤◌}
 use native.Mathlib.Omega.{arith}
 use mathlib.Core.Path.{◌≡◌, refl, sym, ap, ◌∙◌, subst}
@@ -10,23 +11,21 @@ use Rattle.paper.specs.Bytes.{bytes, raw}
 use Rattle.paper.specs.Tree.{Text, Sequence, Feature}
 use Rattle.paper.specs.Locations.{Location, Locates, breaks25, has_complement}
 use Rattle.paper.specs.Rules.{L, Kind, dna, rna, aa, IsKind, Keyed, upper_in, source_name, Coding, InLocation, rule_24, rule_25, rule_26}
-use Rattle.judge_faults.specs.declared.Fault.TheVariants.{Clean, At}
+use Rattle.std.specs.Prelude.{None, Option, Some}
 use Rattle.paper.proofs.Locate.{locates_once}
 use Rattle.value_words.specs.Reading.{Tells, KindIs, Names}
 use Rattle.value_words.specs.declared.Molecule as code
 use Rattle.value_words.specs.declared.Molecule.TheVariants as kind
 use Rattle.value_words.proofs.Read.{tells_word}
 use Rattle.location_judge.specs.Judging.{JudgedText}
-use Rattle.location_judge.specs.declared.judging.Judgement.{Judgement}
-use Rattle.location_judge.specs.declared.judging.Judgement.TheVariants.{Bad, Is}
-use Rattle.judge_faults.specs.Sets.{Firsts}
+use Rattle.judge_faults.specs.Sets.{fault_at, Firsts}
 use Rattle.judge_faults.proofs.Moltypes.{kind_once}
 use Rattle.judge_features.specs.Featured.{if_aa, place_fault, IsSource, NamesSource}
 
 -- ---- rules 24 to 26
 
 -- a rule at the one place where all of a set have theirs
-at_place : (S : ℕ → ℕ → Type 0) (m p : ℕ) → S m p → ((n q : ℕ) → S n q → (q ≡ p) × (m ≤ n)) → Firsts S (At m p)
+at_place : (S : ℕ → ℕ → Type 0) (m p : ℕ) → S m p → ((n q : ℕ) → S n q → (q ≡ p) × (m ≤ n)) → Firsts S (fault_at m p)
 at_place S m p b h = record { is = record { broken = b; least = λ n q x. let y = h n q x in inr (sym y.0, y.1) } }
 
 module _ (q : Sequence ℕ) (t : Text ℕ) where
@@ -53,7 +52,7 @@ module _ (q : Sequence ℕ) (t : Text ℕ) where
     nothing r c n p (rule_26 a y m h) = true≢false (sym h ∙ ap has_complement (locates_once y x m l) ∙ c a)
 
     complemented : (c : code.Molecule) → KindIs q.moltype.read c → breaks25 (L q) x ≡ false → has_complement x ≡ true
-        → Firsts (InLocation q t) (if_aa c (At 26 t.place))
+        → Firsts (InLocation q t) (if_aa c (fault_at 26 t.place))
     complemented kind.Aa k r h = at_place (InLocation q t) 26 t.place (rule_26 k x l h) (λ n p y. ((all_at n p y).0, right_25 r n p y))
     complemented kind.Dna k r h = record { is = nothing r (λ a. absurd (dna_aa (kind_once q.moltype.read dna aa k a))) }
       where
@@ -75,12 +74,12 @@ module _ (q : Sequence ℕ) (t : Text ℕ) where
             is_rna aa = false
     complemented kind.Other k r h = record { is = nothing r (λ a. absurd (k aa a)) }
 
-  pub placed : (v : Judgement) (c : code.Molecule) → JudgedText (L q) t.read v → KindIs q.moltype.read c → Firsts (InLocation q t) (place_fault v c t.place)
-  placed Bad c j k = at_place (InLocation q t) 24 t.place (rule_24 j) all_at
-  placed (Is f) c j k = by f.wrong f.complemented (sym j.2.wrong) (sym j.2.complemented)
+  pub placed : (v : Option Facts) (c : code.Molecule) → JudgedText (L q) t.read v → KindIs q.moltype.read c → Firsts (InLocation q t) (place_fault v c t.place)
+  placed None c j k = at_place (InLocation q t) 24 t.place (rule_24 j) all_at
+  placed (Some f) c j k = by f.wrong f.complemented (sym j.2.wrong) (sym j.2.complemented)
     where
       by : (w d : Bool) → breaks25 (L q) j.0 ≡ w → has_complement j.0 ≡ d
-          → Firsts (InLocation q t) (cond w (At 25 t.place) (cond d (if_aa c (At 26 t.place)) Clean))
+          → Firsts (InLocation q t) (cond w (fault_at 25 t.place) (cond d (if_aa c (fault_at 26 t.place)) None))
       by true d r h = at_place (InLocation q t) 25 t.place (rule_25 j.0 j.1 r) (λ n p y. ((all_at n p y).0, not_24 j.0 j.1 n p y))
       by false true r h = complemented j.0 j.1 c k r h
       by false false r h = record { is = nothing j.0 j.1 r (λ a. h) }
@@ -96,9 +95,6 @@ source_named k r plain named t =
     by : (q : Sequence ℕ) (f : Feature ℕ) → Names q.moltype.read k → (d : Bool) → Tells d (Keyed (source_name (upper_in k)) f) → Tells d (IsSource q f)
     by q f i true h = (k, i, h)
     by q f i false h = λ x. h (subst (λ (j : Kind). Keyed (source_name (upper_in j)) f) (kind_once q.moltype.read x.0 k x.1 i) x.2)
-
-pub source_other : {w : List ℕ} → NamesSource w kind.Other false
-source_other = record { says = λ q f i e x. i x.0 x.1 }
 
 -- no source is a coding region
 first_letter : (k : Kind) → get_or (bytes (source_name (upper_in k))) 0 0 ≡ 67 → ⊥

@@ -1,4 +1,5 @@
 -- One feature judged, as a source, as a coding region, or as neither.
+use Rattle.location_judge.specs.declared.judging.Facts.{Facts}
 use Prim.Native.Nat.{ℕ}
 use mathlib.Core.Path.{◌≡◌, refl, sym, ap, ◌∙◌, subst}
 use mathlib.Core.Bool.{Bool, true, false}
@@ -8,23 +9,21 @@ use lib.ListN.{drop}
 use Rattle.paper.specs.Bytes.{is_blank, raw}
 use Rattle.paper.specs.Tree.{Sequence, Feature, qualifiers_of}
 use Rattle.paper.specs.Rules.{L, Kind, upper_in, Coding, Unjudged, InLocation, InCoding, rule_27, rule_28, InVocabulary, InFeature}
-use Rattle.judge_faults.specs.declared.Fault.{Fault}
-use Rattle.judge_faults.specs.declared.Fault.TheVariants.{Clean}
+use Rattle.std.specs.Prelude.{None, Option}
 use Rattle.read_steps.specs.Follow.{Not}
 use Rattle.read_steps.specs.Parts.{ShowsBytes}
 use Rattle.walk_steps.specs.Stands.{Ends}
 use Rattle.walk_steps.proofs.Places.{from}
 use Rattle.walk_items.specs.Items.{MeetsFeature, IsFeature, feature_tail}
 use Rattle.walk_items.specs.declared.FoundFeature.{FoundFeature}
-use Rattle.value_words.specs.Reading.{Tells, KindIs}
+use Rattle.value_words.specs.Reading.{Tells, KindIs, is_acid}
 use Rattle.value_words.specs.declared.Molecule as code
 use Rattle.value_words.specs.declared.Molecule.TheVariants as kind
 use Rattle.value_words.proofs.Tests.{told}
 use Rattle.location_judge.specs.Judging.{JudgedText, JudgesPart}
-use Rattle.location_judge.specs.declared.judging.Judgement.{Judgement}
 use Rattle.location_judge.proofs.Verdicts.{judged_by}
-use Rattle.value_vocabulary.specs.Lookups.{is_acid, FindsRow}
-use Rattle.judge_faults.specs.Sets.{Faults, Earlier, Firsts}
+use Rattle.value_vocabulary.specs.Lookups.{FindsRow}
+use Rattle.judge_faults.specs.Sets.{Fault, Faults, Earlier, Firsts}
 use Rattle.judge_faults.specs.Known.{Knows, CodeOf}
 use Rattle.judge_faults.specs.declared.Known.{Known}
 use Rattle.judge_faults.proofs.Bytes.{part_shows, text_shown}
@@ -74,7 +73,7 @@ with_coding {q} {f} a b e = firsts_as (◌or◌ (Own q f) (InCoding q f)) (InFea
     into m p (inr (inl x)) = inr x
     into m p (inr (inr x)) = inl (inr x)
 
-module _ (v : Judgement) {s : List ℕ} {known : Known} {x : FoundFeature} {q : Sequence ℕ} {f : Feature ℕ} {e : ℕ} (y : IsFeature s f e x) (k : Knows s q known)
+module _ (v : Option Facts) {s : List ℕ} {known : Known} {x : FoundFeature} {q : Sequence ℕ} {f : Feature ℕ} {e : ℕ} (y : IsFeature s f e x) (k : Knows s q known)
     (jl : JudgesPart s x.location.from x.location.to known.top v) where
   judged : JudgedText (L q) f.location.read v
   judged = subst (λ (n : ℕ). JudgedText n f.location.read v) k.size (judged_by known.top v (jl.is (raw f.location.read) (text_shown y.location)) f.location.read refl)
@@ -99,7 +98,7 @@ module _ {s : List ℕ} {x : FoundFeature} {noted : Noted} {upper : Bool} {row :
   next_is : {n : ℕ} → Ends (feature_tail x.long) (Not is_blank) s noted.next n → (f : Feature ℕ) {e : ℕ} → IsFeature s f e x → Not is_blank (drop e s) → n ≡ e
   next_is ends f {e} z fol = ends.is e (from (noted_of f z).next z.ends) fol
 
-module _ (v : Judgement) (place words own : Fault) {s wk t : List ℕ} {at n row : ℕ} {known : Known} {x : FoundFeature} {noted : Noted} {upper is-source : Bool} (finds : MeetsFeature s at x)
+module _ (v : Option Facts) (place words own : Fault) {s wk t : List ℕ} {at n row : ℕ} {known : Known} {x : FoundFeature} {noted : Noted} {upper is-source : Bool} (finds : MeetsFeature s at x)
     (jl : JudgesPart s x.location.from x.location.to known.top v) (sk : ShowsBytes s x.key.from x.key.to wk) (rows : FindsRow t wk known.kind row)
     (eu : upper ≡ is_acid known.kind) (notes : Notes s x.quals upper row t noted) (pl : place ≡ place_fault v known.kind x.location.from)
     (jw : JudgesWords t x.key.from known.kind row noted.words words) (eo : Earlier place words own)
@@ -137,7 +136,7 @@ module _ (v : Judgement) (place words own : Fault) {s wk t : List ℕ} {at n row
 
   module _ {is-coding : Bool} (h : is-source ≡ false) (nc : NamesCoding wk known.kind is-coding) where
     pub as_coding : {y : Region} {r : Role} (both : Fault) → is-coding ≡ true → JudgesCoding s x.key.from x.location noted known v y → Earlier own y.fault both
-        → r ≡ role_of y.unjudged → JudgesFeature s at known (record { fault = both; source = Clean; role = r; next = n })
+        → r ≡ role_of y.unjudged → JudgesFeature s at known (record { fault = both; source = None; role = r; next = n })
     as_coding {y} {r} both g jc el er =
         record {
           says =
@@ -161,7 +160,7 @@ module _ (v : Judgement) (place words own : Fault) {s wk t : List ℕ} {at n row
         by q f i c true t = (i, c, t)
         by q f i c false t = (i, c, t)
 
-    pub as_plain : is-coding ≡ false → JudgesFeature s at known (record { fault = own; source = Clean; role = role.Plain; next = n })
+    pub as_plain : is-coding ≡ false → JudgesFeature s at known (record { fault = own; source = None; role = role.Plain; next = n })
     as_plain g =
         record {
           says =

@@ -1,14 +1,15 @@
 -- The loop over the features, and the table from its sum.
+use Rattle.std.specs.Prelude.{None, Some}
+use Rattle.std.specs.Prelude as rust
 use Prim.Native.Nat.{ℕ, ◌+◌, ◌≤◌, ◌<◌}
 use native.Mathlib.Decide.{dec_lt}
 use native.Mathlib.Omega.{arith}
-use mathlib.Core.Path.{◌≡◌, refl, sym, ap, ◌∙◌, subst}
-use mathlib.Core.Bool.{Bool, true, false, true≢false}
+use mathlib.Core.Path.{◌≡◌, refl, sym, subst}
+use mathlib.Core.Bool.{Bool, true, false}
 use mathlib.Core.List.{List, []}
 use mathlib.Core.Option.{Option, none, some}
 use lib.ListN.{length}
 use Rattle.paper.specs.Bytes.{bytes, is_blank}
-use Rattle.paper.specs.Lists.{Count}
 use Rattle.paper.specs.Layout.{child, feature}
 use Rattle.paper.specs.Tree.{Table, Sequence, Feature, features_in, features_of}
 use Rattle.paper.specs.Rules.{table_place}
@@ -22,7 +23,7 @@ use Rattle.judge_faults.specs.declared.Known.{Known}
 use Rattle.judge_faults.specs.Counters.{up_to}
 use Rattle.judge_faults.proofs.Counters.{up_more, up_full}
 use Rattle.judge_faults.proofs.Seen.{Seen, seen_none, seen_next, seen_stuck, seen_all}
-use Rattle.judge_features.specs.Featured.{JudgesFeature, nothing_yet, if_judged, if_unjudged, Adds, Tallied, Below, JudgesFeatures, JudgedIn, UnjudgedIn, IsTabled, Tables, JudgesTable}
+use Rattle.judge_features.specs.Featured.{JudgesFeature, nothing_yet, if_judged, if_unjudged, Adds, Tallied, Below, JudgesFeatures, CountedIn, IsTabled, Tables, JudgesTable}
 use Rattle.judge_features.specs.declared.Role.{Role}
 use Rattle.judge_features.specs.declared.Role.TheVariants as role
 use Rattle.judge_features.specs.declared.Featured.{Featured}
@@ -36,8 +37,8 @@ use Rattle.judge_features.proofs.Tables.{finished}
 -- for whichever sequence it is, what has been seen of its features is added up
 pub record Adding (s : List ℕ) (first at : ℕ) (known : Known) (a : Tally) : Type 0 where
   pub seen : (q : Sequence ℕ) → Knows s q known → Seen (child feature) closing s first at (λ (l : List (Feature ℕ)). Tallied q l a)
-  pub below : Below a at
-  pub within : Below a (length s)
+  pub below : Below a.counts at
+  pub within : Below a.counts (length s)
 
 pub adding_none : {s : List ℕ} {first : ℕ} {known : Known} {a : Tally} → a ≡ nothing_yet → Adding s first first known a
 adding_none {s} {first} {known} e =
@@ -101,15 +102,15 @@ module _ {s : List ℕ} {first at : ℕ} {known : Known} {a : Tally} {x : Featur
             (λ done f e d fol y. tally_more q (length s) done f ad (j.says q f e k d fol) y (omega (arith, w.below.features, inside)) (omega (arith, w.below.judged, inside)) (omega (arith, w.below.unjudged, inside)));
         below =
             record {
-              features = omega (arith, onward, ad.features, up_below (length s) a.features at w.below.features);
-              judged = omega (arith, onward, ad.judged, judged_below x.role (length s) a.judged at w.below.judged);
-              unjudged = omega (arith, onward, ad.unjudged, unjudged_below x.role (length s) a.unjudged at w.below.unjudged);
+              features = omega (arith, onward, ad.features, up_below (length s) a.counts.features at w.below.features);
+              judged = omega (arith, onward, ad.judged, judged_below x.role (length s) a.counts.judged at w.below.judged);
+              unjudged = omega (arith, onward, ad.unjudged, unjudged_below x.role (length s) a.counts.unjudged at w.below.unjudged);
             };
         within =
             record {
-              features = omega (arith, ad.features, up_within (length s) a.features w.within.features);
-              judged = omega (arith, ad.judged, judged_within x.role (length s) a.judged w.within.judged);
-              unjudged = omega (arith, ad.unjudged, unjudged_within x.role (length s) a.unjudged w.within.unjudged);
+              features = omega (arith, ad.features, up_within (length s) a.counts.features w.within.features);
+              judged = omega (arith, ad.judged, judged_within x.role (length s) a.counts.judged w.within.judged);
+              unjudged = omega (arith, ad.unjudged, unjudged_within x.role (length s) a.counts.unjudged w.within.unjudged);
             };
       }
 
@@ -142,39 +143,33 @@ tabled : {s : List ℕ} (q : Sequence ℕ) {known : Known} {a : Tally} {r : Tabl
 tabled q {known} {a} {r} k t pl ta =
     record {
       fault = finished q a t known.kind k.kind r.fault pl ta.fault;
-      features = ta.features ∙ t.features;
-      judged = subst (Count (JudgedIn q) (features_of q)) (sym ta.judged) t.judged;
-      unjudged = subst (Count (UnjudgedIn q) (features_of q)) (sym ta.unjudged) t.unjudged;
+      counts = subst (CountedIn q (features_of q)) (sym ta.counts) t.counts;
     }
 
-pub table_missing : {s : List ℕ} {t : FoundTable} {known : Known} {a : Tally} {r : Tabled} → t.present ≡ false → a ≡ nothing_yet
+pub table_missing : {s : List ℕ} {t : rust.Option FoundTable} {known : Known} {a : Tally} {r : Tabled} → t ≡ None → a ≡ nothing_yet
     → Tables a known.kind known.residues.from r → JudgesTable s t known r
 table_missing {s} {t} {known} {a} {r} h ea ta =
     record {
-      says = λ q k i. by q k q.table refl i;
-      features_below = omega (arith, ta.features, ap (λ (y : Tally). y.features) ea);
-      judged_below = omega (arith, ta.judged, ap (λ (y : Tally). y.judged) ea);
-      unjudged_below = omega (arith, ta.unjudged, ap (λ (y : Tally). y.unjudged) ea);
+      says = λ q k i. by q k q.table refl (subst (TableIs s q.table) h i);
+      below = rw (ta.counts, ea) (record { features = omega arith; judged = omega arith; unjudged = omega arith });
     }
   where
-    by : (q : Sequence ℕ) → Knows s q known → (o : Option (Table ℕ)) → q.table ≡ o → TableIs s o t → IsTabled q r
+    by : (q : Sequence ℕ) → Knows s q known → (o : Option (Table ℕ)) → q.table ≡ o → TableIs s o None → IsTabled q r
     by q k none e i =
         tabled q k (subst (λ (y : Option (Table ℕ)). Tallied q (features_in y) a) (sym e) (subst (Tallied q []) (sym ea) (tally_none q 0)))
         (subst (λ (y : Option (Table ℕ)). known.residues.from ≡ table_place y q.residues) (sym e) k.residues.first) ta
-    by q k (some x) e i = absurd (true≢false (sym i.0 ∙ h))
+    by q k (some x) e i = absurd i
 
-pub table_there : {s : List ℕ} {t : FoundTable} {known : Known} {a : Tally} {r : Tabled} → t.present ≡ true → JudgesFeatures s t.first known a
-    → Tables a known.kind t.place r → JudgesTable s t known r
-table_there {s} {t} {known} {a} {r} h j ta =
+pub table_there : {s : List ℕ} {t : rust.Option FoundTable} {known : Known} {a : Tally} {r : Tabled} (f : FoundTable) → t ≡ Some f → JudgesFeatures s f.first known a
+    → Tables a known.kind f.place r → JudgesTable s t known r
+table_there {s} {t} {known} {a} {r} f h j ta =
     record {
-      says = λ q k i. by q k q.table refl i;
-      features_below = omega (arith, ta.features, j.below.features);
-      judged_below = omega (arith, ta.judged, j.below.judged);
-      unjudged_below = omega (arith, ta.unjudged, j.below.unjudged);
+      says = λ q k i. by q k q.table refl (subst (TableIs s q.table) h i);
+      below = rw ta.counts j.below;
     }
   where
-    by : (q : Sequence ℕ) → Knows s q known → (o : Option (Table ℕ)) → q.table ≡ o → TableIs s o t → IsTabled q r
-    by q k none e i = absurd (true≢false (sym h ∙ i))
+    by : (q : Sequence ℕ) → Knows s q known → (o : Option (Table ℕ)) → q.table ≡ o → TableIs s o (Some f) → IsTabled q r
+    by q k none e i = absurd i
     by q k (some x) e i =
-        tabled q k (subst (λ (y : Option (Table ℕ)). Tallied q (features_in y) a) (sym e) (j.says q k x.features i.1.stop i.1.features i.1.closes))
-        (subst (λ (y : Option (Table ℕ)). t.place ≡ table_place y q.residues) (sym e) i.1.is) ta
+        tabled q k (subst (λ (y : Option (Table ℕ)). Tallied q (features_in y) a) (sym e) (j.says q k x.features i.stop i.features i.closes))
+        (subst (λ (y : Option (Table ℕ)). f.place ≡ table_place y q.residues) (sym e) i.is) ta

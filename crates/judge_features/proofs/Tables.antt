@@ -8,14 +8,13 @@ use mathlib.Core.List.{List, [], ◌∷◌}
 use Rattle.paper.specs.Lists.{Nth, ◌∈◌, Count, end, has, lacks}
 use Rattle.paper.specs.Tree.{Sequence, Feature, features_of}
 use Rattle.paper.specs.Rules.{Kind, dna, rna, aa, IsKind, Keyed, upper_in, source_name, OneSource, Source, table_place, InSource, InFeature, InTable}
-use Rattle.judge_faults.specs.declared.Fault.{Fault}
-use Rattle.judge_faults.specs.declared.Fault.TheVariants.{Clean, At}
+use Rattle.std.specs.Prelude.{None, Some}
 use Rattle.paper.proofs.Lists.{count_once, count_as}
 use Rattle.judge_faults.proofs.Parts.{◌or◌}
 use Rattle.value_words.specs.Reading.{KindIs}
 use Rattle.value_words.specs.declared.Molecule as code
 use Rattle.value_words.specs.declared.Molecule.TheVariants as kind
-use Rattle.judge_faults.specs.Sets.{Faults, Firsts, Bad, Some}
+use Rattle.judge_faults.specs.Sets.{Fault, Faults, Firsts, Bad, InSome}
 use Rattle.paper.specs.Rules as part
 use Rattle.judge_faults.proofs.Counters.{capped_one, one_capped}
 use Rattle.judge_faults.proofs.Faults.{firsts_or, firsts_as, firsts_one}
@@ -30,7 +29,7 @@ counted_there (y ∷ l) n (has c r) h = (0, y, refl, c)
 counted_there (y ∷ l) n (lacks c r) h = let z = counted_there l n r h in (suc z.0, z.1, z.2, z.3)
 
 module _ (q : Sequence ℕ) (a : Tally) (t : Tallied q (features_of q) a) where
-  of_features : (n p : ℕ) → Some (λ (i : ℕ) (f : Feature ℕ). InFeature q f) (features_of q) n p → InTable q n p
+  of_features : (n p : ℕ) → InSome (λ (i : ℕ) (f : Feature ℕ). InFeature q f) (features_of q) n p → InTable q n p
   of_features n p x = part.feature x.1 (x.2.0, x.2.2) x.3
 
   -- where the moltype names a kind
@@ -50,8 +49,8 @@ module _ (q : Sequence ℕ) (a : Tally) (t : Tallied q (features_of q) a) where
 
     -- the faults of the only source
     only_first : t.count ≡ 1 → (r : Fault) → ((f : Feature ℕ) → f ∈ features_of q → Keyed (source_name (upper_in k)) f → Firsts (InSource (upper_in k) q f) r) → Firsts InOnly r
-    only_first e Clean h = record { is = λ n p x. (h x.0 x.1.member x.1.keyed).is n p x.2 }
-    only_first e (At m s) h =
+    only_first e None h = record { is = λ n p x. (h x.0 x.1.member x.1.keyed).is n p x.2 }
+    only_first e (Some m) h =
         let z = counted_there (features_of q) 1 (one_source e) (omega arith) in
         let f = (h z.1 (z.0, z.2) z.3).is in
         record {
@@ -65,22 +64,22 @@ module _ (q : Sequence ℕ) (a : Tally) (t : Tallied q (features_of q) a) where
     pub with_source : {place : ℕ} (r : Fault) → place ≡ table_place q.table q.residues → WithSource a place r → Firsts (InTable q) r
     with_source {place} r pl s = by (dec_le a.sources 1) (dec_le 1 a.sources)
       where
-        to_one : (n p : ℕ) → ◌or◌ (Some (λ (i : ℕ) (f : Feature ℕ). InFeature q f) (features_of q)) InOnly n p → InTable q n p
+        to_one : (n p : ℕ) → ◌or◌ (InSome (λ (i : ℕ) (f : Feature ℕ). InFeature q f) (features_of q)) InOnly n p → InTable q n p
         to_one n p (inl x) = of_features n p x
         to_one n p (inr x) = part.source k i x.0 x.1 x.2
 
-        of_one : t.count ≡ 1 → (n p : ℕ) → InTable q n p → ◌or◌ (Some (λ (i : ℕ) (f : Feature ℕ). InFeature q f) (features_of q)) InOnly n p
+        of_one : t.count ≡ 1 → (n p : ℕ) → InTable q n p → ◌or◌ (InSome (λ (i : ℕ) (f : Feature ℕ). InFeature q f) (features_of q)) InOnly n p
         of_one e n p (part.rule_21 j g h) = absurd (h (subst (λ (z : Kind). OneSource (upper_in z) q) (kind_once q.moltype.read k j i g) (one_source e)))
         of_one e n p (part.source j g f x h) =
             let c = kind_once q.moltype.read j k g i in
             inr (f, subst (λ (z : Kind). Source (upper_in z) q f) c x, subst (λ (z : Kind). InSource (upper_in z) q f n p) c h)
         of_one e n p (part.feature f m h) = inl (suc m.0, f, (m.0, refl, m.1), h)
 
-        to_21 : (n p : ℕ) → ◌or◌ (Some (λ (i : ℕ) (f : Feature ℕ). InFeature q f) (features_of q)) (Bad 21 place (OneSource (upper_in k) q)) n p → InTable q n p
+        to_21 : (n p : ℕ) → ◌or◌ (InSome (λ (i : ℕ) (f : Feature ℕ). InFeature q f) (features_of q)) (Bad 21 place (OneSource (upper_in k) q)) n p → InTable q n p
         to_21 n p (inl x) = of_features n p x
         to_21 n p (inr x) = rw (x.0, x.1, pl) (part.rule_21 k i x.2)
 
-        of_21 : (n p : ℕ) → ¬ OneSource (upper_in k) q → InTable q n p → ◌or◌ (Some (λ (i : ℕ) (f : Feature ℕ). InFeature q f) (features_of q)) (Bad 21 place (OneSource (upper_in k) q)) n p
+        of_21 : (n p : ℕ) → ¬ OneSource (upper_in k) q → InTable q n p → ◌or◌ (InSome (λ (i : ℕ) (f : Feature ℕ). InFeature q f) (features_of q)) (Bad 21 place (OneSource (upper_in k) q)) n p
         of_21 n p no' (part.rule_21 j g h) = inr (refl, sym pl, no')
         of_21 n p no' (part.source j g f x h) = absurd (no' (subst (λ (z : Kind). OneSource (upper_in z) q) (kind_once q.moltype.read j k g i) x.only))
         of_21 n p no' (part.feature f m h) = inl (suc m.0, f, (m.0, refl, m.1), h)
@@ -88,14 +87,14 @@ module _ (q : Sequence ℕ) (a : Tally) (t : Tallied q (features_of q) a) where
         one : a.sources ≡ 1 → Firsts (InTable q) r
         one e =
             let c = capped_one t.capped e in
-            firsts_as (◌or◌ (Some (λ (i : ℕ) (f : Feature ℕ). InFeature q f) (features_of q)) InOnly) (InTable q) to_one (of_one c)
-            (firsts_or (Some (λ (i : ℕ) (f : Feature ℕ). InFeature q f) (features_of q)) InOnly t.fault (only_first c a.source (λ f m h. t.source c k i f m h)) (s.one e))
+            firsts_as (◌or◌ (InSome (λ (i : ℕ) (f : Feature ℕ). InFeature q f) (features_of q)) InOnly) (InTable q) to_one (of_one c)
+            (firsts_or (InSome (λ (i : ℕ) (f : Feature ℕ). InFeature q f) (features_of q)) InOnly t.fault (only_first c a.source (λ f m h. t.source c k i f m h)) (s.one e))
 
         other : ¬ (a.sources ≡ 1) → Firsts (InTable q) r
         other e =
             let n' : ¬ OneSource (upper_in k) q = λ o. e (one_capped t.capped (source_one o)) in
-            firsts_as (◌or◌ (Some (λ (i : ℕ) (f : Feature ℕ). InFeature q f) (features_of q)) (Bad 21 place (OneSource (upper_in k) q))) (InTable q) to_21 (λ n p. of_21 n p n')
-            (firsts_or (Some (λ (i : ℕ) (f : Feature ℕ). InFeature q f) (features_of q)) (Bad 21 place (OneSource (upper_in k) q)) t.fault (firsts_one 21 place (OneSource (upper_in k) q) n') (s.other e))
+            firsts_as (◌or◌ (InSome (λ (i : ℕ) (f : Feature ℕ). InFeature q f) (features_of q)) (Bad 21 place (OneSource (upper_in k) q))) (InTable q) to_21 (λ n p. of_21 n p n')
+            (firsts_or (InSome (λ (i : ℕ) (f : Feature ℕ). InFeature q f) (features_of q)) (Bad 21 place (OneSource (upper_in k) q)) t.fault (firsts_one 21 place (OneSource (upper_in k) q) n') (s.other e))
 
         by : Dec (a.sources ≤ 1) → Dec (1 ≤ a.sources) → Firsts (InTable q) r
         by (yes g) (yes h) = one (omega arith)
@@ -106,9 +105,9 @@ module _ (q : Sequence ℕ) (a : Tally) (t : Tallied q (features_of q) a) where
   no_kind : ((k : Kind) → ¬ IsKind k q) → {r : Fault} → r ≡ a.fault → Firsts (InTable q) r
   no_kind h {r} e =
       subst (Firsts (InTable q)) (sym e)
-      (firsts_as (Some (λ (i : ℕ) (f : Feature ℕ). InFeature q f) (features_of q)) (InTable q) of_features into t.fault)
+      (firsts_as (InSome (λ (i : ℕ) (f : Feature ℕ). InFeature q f) (features_of q)) (InTable q) of_features into t.fault)
     where
-      into : (n p : ℕ) → InTable q n p → Some (λ (i : ℕ) (f : Feature ℕ). InFeature q f) (features_of q) n p
+      into : (n p : ℕ) → InTable q n p → InSome (λ (i : ℕ) (f : Feature ℕ). InFeature q f) (features_of q) n p
       into n p (part.rule_21 j g x) = absurd (h j g)
       into n p (part.source j g f x y) = absurd (h j g)
       into n p (part.feature f m x) = (suc m.0, f, (m.0, refl, m.1), x)

@@ -8,13 +8,12 @@ use lib.ListN.{length, length-append}
 use Rattle.paper.specs.Lists.{Nth, ◌∈◌, Count, end, has, lacks}
 use Rattle.paper.specs.Tree.{Sequence, Feature}
 use Rattle.paper.specs.Rules.{Kind, IsKind, Keyed, upper_in, source_name, InSource, InFeature}
-use Rattle.judge_faults.specs.declared.Fault.{Fault}
-use Rattle.judge_faults.specs.Sets.{Firsts, Some}
+use Rattle.judge_faults.specs.Sets.{Fault, Firsts, InSome}
 use Rattle.judge_faults.proofs.Faults.{some_none, some_more, nth_split}
 use Rattle.judge_faults.proofs.Seen.{count_has, count_lacks}
 use Rattle.judge_faults.specs.Counters.{up_to, Capped}
 use Rattle.judge_faults.proofs.Counters.{up_more, capped_none, capped_more}
-use Rattle.judge_features.specs.Featured.{IsSource, RoleIs, IsFeatured, nothing_yet, if_source, if_judged, if_unjudged, Adds, JudgedIn, UnjudgedIn, Tallied}
+use Rattle.judge_features.specs.Featured.{IsSource, RoleIs, IsFeatured, nothing_yet, if_source, if_judged, if_unjudged, Adds, JudgedIn, UnjudgedIn, CountedIn, Tallied}
 use Rattle.judge_features.specs.declared.Role.{Role}
 use Rattle.judge_features.specs.declared.Role.TheVariants as role
 use Rattle.judge_features.specs.declared.Featured.{Featured}
@@ -67,19 +66,18 @@ module _ (q : Sequence ℕ) (limit : ℕ) where
   count_zero (y ∷ l) n (lacks d r) e (suc i) x h = count_zero l n r e i x h
 
   pub tally_more : (l : List (Feature ℕ)) (f : Feature ℕ) {e : ℕ} {a r : Tally} {x : Featured} → Adds limit a x r → IsFeatured q f e x → Tallied q l a
-      → a.features < limit → a.judged < limit → a.unjudged < limit → Tallied q (l ++ (f ∷ [])) r
+      → a.counts.features < limit → a.counts.judged < limit → a.counts.unjudged < limit → Tallied q (l ++ (f ∷ [])) r
   tally_more l f {a = a} {r} {x} ad y t bf bj bu = by (source_or f x.role y.role)
     where
-      features_more : r.features ≡ length (l ++ (f ∷ []))
-      features_more = omega (arith, ad.features, up_more limit a.features bf, t.features, length-append l (f ∷ []))
+      counted : CountedIn q (l ++ (f ∷ [])) r.counts
+      counted =
+          record {
+            features = omega (arith, ad.features, up_more limit a.counts.features bf, t.counts.features, length-append l (f ∷ []));
+            judged = subst (Count (JudgedIn q) (l ++ (f ∷ []))) (sym ad.judged) (judged_more l f x.role y.role bj t.counts.judged);
+            unjudged = subst (Count (UnjudgedIn q) (l ++ (f ∷ []))) (sym ad.unjudged) (unjudged_more l f x.role y.role bu t.counts.unjudged);
+          }
 
-      judged_are : Count (JudgedIn q) (l ++ (f ∷ [])) r.judged
-      judged_are = subst (Count (JudgedIn q) (l ++ (f ∷ []))) (sym ad.judged) (judged_more l f x.role y.role bj t.judged)
-
-      unjudged_are : Count (UnjudgedIn q) (l ++ (f ∷ [])) r.unjudged
-      unjudged_are = subst (Count (UnjudgedIn q) (l ++ (f ∷ []))) (sym ad.unjudged) (unjudged_more l f x.role y.role bu t.unjudged)
-
-      fault_is : Firsts (Some (λ (i : ℕ) (g : Feature ℕ). InFeature q g) (l ++ (f ∷ []))) r.fault
+      fault_is : Firsts (InSome (λ (i : ℕ) (g : Feature ℕ). InFeature q g) (l ++ (f ∷ []))) r.fault
       fault_is = some_more (λ (i : ℕ) (g : Feature ℕ). InFeature q g) l f t.fault y.fault ad.fault
 
       by : ((x.role ≡ role.Source) × IsSource q f) ⊎ (((u v : ℕ) → if_source x.role u v ≡ v) × ((u v : Fault) → if_source x.role u v ≡ v) × (¬ IsSource q f))
@@ -91,9 +89,7 @@ module _ (q : Sequence ℕ) (limit : ℕ) where
             sources = count_has (IsSource q) l f t.sources s.1;
             capped = subst (Capped (suc t.count)) (sym (ad.sources ∙ ap (λ (o : Role). if_source o (up_to 2 a.sources) a.sources) s.0)) (capped_more t.count a.sources t.capped);
             source = λ e k i g m h. subst (Firsts (InSource (upper_in k) q g)) (sym (ad.source ∙ ap (λ (o : Role). if_source o x.source a.source) s.0)) (last e k i g h (last_in l f g m));
-            features = features_more;
-            judged = judged_are;
-            unjudged = unjudged_are;
+            counts = counted;
           }
         where
           last : suc t.count ≡ 1 → (k : Kind) → IsKind k q → (g : Feature ℕ) → Keyed (source_name (upper_in k)) g → (g ∈ l) ⊎ (g ≡ f) → Firsts (InSource (upper_in k) q g) x.source
@@ -106,9 +102,7 @@ module _ (q : Sequence ℕ) (limit : ℕ) where
             sources = count_lacks (IsSource q) l f t.sources s.2;
             capped = subst (Capped t.count) (sym (ad.sources ∙ s.0 (up_to 2 a.sources) a.sources)) t.capped;
             source = λ e k i g m h. subst (Firsts (InSource (upper_in k) q g)) (sym (ad.source ∙ s.1 x.source a.source)) (old e k i g h (last_in l f g m));
-            features = features_more;
-            judged = judged_are;
-            unjudged = unjudged_are;
+            counts = counted;
           }
         where
           old : t.count ≡ 1 → (k : Kind) → IsKind k q → (g : Feature ℕ) → Keyed (source_name (upper_in k)) g → (g ∈ l) ⊎ (g ≡ f) → Firsts (InSource (upper_in k) q g) a.source
@@ -123,7 +117,5 @@ module _ (q : Sequence ℕ) (limit : ℕ) where
         sources = end;
         capped = capped_none;
         source = λ e. absurd (omega (arith, e));
-        features = refl;
-        judged = end;
-        unjudged = end;
+        counts = record { features = refl; judged = end; unjudged = end };
       }

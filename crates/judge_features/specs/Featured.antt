@@ -1,13 +1,12 @@
 -- What is promised of the judgement of features.
-use Rattle.std.specs.Prelude.{ℕ, ◌≤◌, ◌≡◌, Bool, true, false, cond, List, length, drop}
+use Rattle.location_judge.specs.declared.judging.Facts.{Facts}
+use Rattle.std.specs.Prelude.{ℕ, ◌≤◌, ◌≡◌, Bool, true, false, cond, List, length, drop, Option, None, Some}
 use Rattle.paper.specs.Bytes.{raw, is_blank}
 use Rattle.paper.specs.Lists.{◌∈◌, Count}
 use Rattle.paper.specs.Form.{each}
 use Rattle.paper.specs.Layout.{child, feature}
 use Rattle.paper.specs.Tree.{Sequence, Feature, features_of}
 use Rattle.paper.specs.Rules.{Kind, IsKind, Keyed, upper_in, source_name, Coding, Unjudged, InSource, InFeature, InTable}
-use Rattle.judge_faults.specs.declared.Fault.{Fault}
-use Rattle.judge_faults.specs.declared.Fault.TheVariants.{Clean, At}
 use Rattle.read_steps.specs.Follow.{Not, Starts, closing}
 use Rattle.walk_steps.specs.Stands.{Stands}
 use Rattle.walk_items.specs.Items.{TableIs}
@@ -15,15 +14,14 @@ use Rattle.walk_items.specs.declared.FoundTable.{FoundTable}
 use Rattle.value_words.specs.Reading.{Tells, KindIs}
 use Rattle.value_words.specs.declared.Molecule as code
 use Rattle.value_words.specs.declared.Molecule.TheVariants as kind
-use Rattle.location_judge.specs.declared.judging.Judgement.{Judgement}
-use Rattle.location_judge.specs.declared.judging.Judgement.TheVariants.{Bad, Is}
-use Rattle.judge_faults.specs.Sets.{Earlier, Firsts, Some}
+use Rattle.judge_faults.specs.Sets.{Fault, fault_at, Earlier, Firsts, InSome}
 use Rattle.judge_faults.specs.Known.{Knows}
 use Rattle.judge_faults.specs.declared.Known.{Known}
 use Rattle.judge_faults.specs.Counters.{up_to, Capped}
 use Rattle.judge_features.specs.declared.Role.{Role}
 use Rattle.judge_features.specs.declared.Role.TheVariants as role
 use Rattle.judge_features.specs.declared.Featured.{Featured}
+use Rattle.judge_features.specs.declared.FeatureCounts.{FeatureCounts}
 use Rattle.judge_features.specs.declared.Tally.{Tally}
 use Rattle.judge_features.specs.declared.Tabled.{Tabled}
 
@@ -32,13 +30,13 @@ use Rattle.judge_features.specs.declared.Tabled.{Tabled}
 -- rules 24 to 26, which all have the location's place
 abbrev pub if_aa : code.Molecule → Fault → Fault
 if_aa kind.Aa r = r
-if_aa kind.Dna r = Clean
-if_aa kind.Rna r = Clean
-if_aa kind.Other r = Clean
+if_aa kind.Dna r = None
+if_aa kind.Rna r = None
+if_aa kind.Other r = None
 
-abbrev pub place_fault : Judgement → code.Molecule → ℕ → Fault
-place_fault Bad c place = At 24 place
-place_fault (Is f) c place = cond f.wrong (At 25 place) (cond f.complemented (if_aa c (At 26 place)) Clean)
+abbrev pub place_fault : Option Facts → code.Molecule → ℕ → Fault
+place_fault None c place = fault_at 24 place
+place_fault (Some f) c place = cond f.wrong (fault_at 25 place) (cond f.complemented (if_aa c (fault_at 26 place)) None)
 
 -- f is a source of the sequence q, if it is the only one
 abbrev pub IsSource : Sequence ℕ → Feature ℕ → Type 0
@@ -70,7 +68,7 @@ pub record JudgesFeature (s : List ℕ) (at : ℕ) (known : Known) (r : Featured
 -- ---- features added up
 
 abbrev pub nothing_yet : Tally
-nothing_yet = record { fault = Clean; source = Clean; sources = 0; features = 0; judged = 0; unjudged = 0 }
+nothing_yet = record { fault = None; source = None; sources = 0; counts = record { features = 0; judged = 0; unjudged = 0 } }
 
 -- by what a feature is
 abbrev pub if_source : {A : Type 0} → Role → A → A → A
@@ -95,9 +93,9 @@ pub record Adds (limit : ℕ) (a : Tally) (x : Featured) (r : Tally) : Type 0 wh
   pub fault : Earlier a.fault x.fault r.fault
   pub source : r.source ≡ if_source x.role x.source a.source
   pub sources : r.sources ≡ if_source x.role (up_to 2 a.sources) a.sources
-  pub features : r.features ≡ up_to limit a.features
-  pub judged : r.judged ≡ if_judged x.role (up_to limit a.judged) a.judged
-  pub unjudged : r.unjudged ≡ if_unjudged x.role (up_to limit a.unjudged) a.unjudged
+  pub features : r.counts.features ≡ up_to limit a.counts.features
+  pub judged : r.counts.judged ≡ if_judged x.role (up_to limit a.counts.judged) a.counts.judged
+  pub unjudged : r.counts.unjudged ≡ if_unjudged x.role (up_to limit a.counts.unjudged) a.counts.unjudged
 
 abbrev pub JudgedIn : Sequence ℕ → Feature ℕ → Type 0
 JudgedIn q f = Coding q f × (¬ Unjudged f)
@@ -105,22 +103,26 @@ JudgedIn q f = Coding q f × (¬ Unjudged f)
 abbrev pub UnjudgedIn : Sequence ℕ → Feature ℕ → Type 0
 UnjudgedIn q f = Coding q f × Unjudged f
 
+-- how many of the features l of the sequence q there are
+pub record CountedIn (q : Sequence ℕ) (l : List (Feature ℕ)) (r : FeatureCounts) : Type 0 where
+  pub features : r.features ≡ length l
+  pub judged : Count (JudgedIn q) l r.judged
+  pub unjudged : Count (UnjudgedIn q) l r.unjudged
+
 -- what is known of the features l of the sequence q
 pub record Tallied (q : Sequence ℕ) (l : List (Feature ℕ)) (r : Tally) : Type 0 where
-  pub fault : Firsts (Some (λ (i : ℕ) (f : Feature ℕ). InFeature q f) l) r.fault
+  pub fault : Firsts (InSome (λ (i : ℕ) (f : Feature ℕ). InFeature q f) l) r.fault
   pub count : ℕ
   pub sources : Count (IsSource q) l count
   pub capped : Capped count r.sources
   pub source : count ≡ 1 → (k : Kind) → IsKind k q → (f : Feature ℕ) → f ∈ l → Keyed (source_name (upper_in k)) f → Firsts (InSource (upper_in k) q f) r.source
-  pub features : r.features ≡ length l
-  pub judged : Count (JudgedIn q) l r.judged
-  pub unjudged : Count (UnjudgedIn q) l r.unjudged
+  pub counts : CountedIn q l r.counts
 
 -- ---- the table
 
 pub record WithSource (a : Tally) (place : ℕ) (r : Fault) : Type 0 where
   pub one : a.sources ≡ 1 → Earlier a.fault a.source r
-  pub other : ¬ (a.sources ≡ 1) → Earlier a.fault (At 21 place) r
+  pub other : ¬ (a.sources ≡ 1) → Earlier a.fault (fault_at 21 place) r
 
 abbrev pub Finishes : Tally → code.Molecule → ℕ → Fault → Type 0
 Finishes a kind.Dna place r = WithSource a place r
@@ -129,7 +131,7 @@ Finishes a kind.Aa place r = WithSource a place r
 Finishes a kind.Other place r = r ≡ a.fault
 
 -- no count is above this, whatever the bytes are
-pub record Below (a : Tally) (n : ℕ) : Type 0 where
+pub record Below (a : FeatureCounts) (n : ℕ) : Type 0 where
   pub features : a.features ≤ n
   pub judged : a.judged ≤ n
   pub unjudged : a.unjudged ≤ n
@@ -137,22 +139,16 @@ pub record Below (a : Tally) (n : ℕ) : Type 0 where
 -- what is known of all the features of q; no count is above the length, whatever the bytes are
 pub record JudgesFeatures (s : List ℕ) (first : ℕ) (known : Known) (r : Tally) : Type 0 where
   pub says : (q : Sequence ℕ) → Knows s q known → (l : List (Feature ℕ)) (e : ℕ) → Stands (each (child feature) l) s first e → Starts closing (drop e s) → Tallied q l r
-  pub below : Below r (length s)
+  pub below : Below r.counts (length s)
 
 pub record IsTabled (q : Sequence ℕ) (r : Tabled) : Type 0 where
   pub fault : Firsts (InTable q) r.fault
-  pub features : r.features ≡ length (features_of q)
-  pub judged : Count (JudgedIn q) (features_of q) r.judged
-  pub unjudged : Count (UnjudgedIn q) (features_of q) r.unjudged
+  pub counts : CountedIn q (features_of q) r.counts
 
 pub record Tables (a : Tally) (c : code.Molecule) (place : ℕ) (r : Tabled) : Type 0 where
   pub fault : Finishes a c place r.fault
-  pub features : r.features ≡ a.features
-  pub judged : r.judged ≡ a.judged
-  pub unjudged : r.unjudged ≡ a.unjudged
+  pub counts : r.counts ≡ a.counts
 
-pub record JudgesTable (s : List ℕ) (t : FoundTable) (known : Known) (r : Tabled) : Type 0 where
+pub record JudgesTable (s : List ℕ) (t : Option FoundTable) (known : Known) (r : Tabled) : Type 0 where
   pub says : (q : Sequence ℕ) → Knows s q known → TableIs s q.table t → IsTabled q r
-  pub features_below : r.features ≤ length s
-  pub judged_below : r.judged ≤ length s
-  pub unjudged_below : r.unjudged ≤ length s
+  pub below : Below r.counts (length s)

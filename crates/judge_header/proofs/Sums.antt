@@ -1,7 +1,8 @@
 -- The faults of the header's texts, put together.
-use Prim.Native.Nat.{ℕ, zero, suc}
+use Rattle.std.specs.Prelude as rust
+use Prim.Native.Nat.{ℕ, zero, suc, ◌≤◌}
 use mathlib.Core.Path.{◌≡◌, refl, sym, ap, ◌∙◌, subst}
-use mathlib.Core.Bool.{Bool}
+use mathlib.Core.Bool.{Bool, true, false}
 use mathlib.Core.Logic.{◌⊎◌, inl, inr}
 use mathlib.Core.List.{List, [], ◌∷◌, ◌++◌, append-nil, map}
 use mathlib.Core.Option.{Option, none, some}
@@ -13,35 +14,33 @@ use Rattle.paper.specs.Layout.{child, leaf, spoken, sequence}
 use Rattle.paper.specs.Values.{Date, Two, is_upper, is_lower}
 use Rattle.paper.specs.Rules.{identified_in, dates, offices, languages, InHeader, rule_10, rule_11, rule_12, rule_13}
 use Rattle.paper.proofs.Lists.{of_append, in_first, in_second}
-use Rattle.judge_faults.specs.declared.Fault.{Fault}
-use Rattle.judge_faults.specs.declared.Fault.TheVariants.{Clean}
+use Rattle.std.specs.Prelude.{None, Some}
 use Rattle.judge_faults.proofs.Parts.{◌or◌}
 use Rattle.value_words.specs.Reading.{Tells, OfRead}
 use Rattle.value_words.proofs.Read.{tells_word}
 use Rattle.read_steps.specs.Follow.{Not, closing}
 use Rattle.read_steps.proofs.Fronts.{leads_by, whole, each_starts, starts_sharp}
 use Rattle.read_steps.specs.Parts.{ShowsBytes}
-use Rattle.walk_steps.specs.Stands.{IsPart, MaybeIs, Finds, Over}
+use Rattle.walk_steps.specs.Stands.{TellsTag, IsPart, MaybeIs, Finds, Over}
 use Rattle.walk_steps.specs.declared.Range.{Range}
 use Rattle.walk_steps.specs.declared.Found.{Found}
-use Rattle.walk_steps.specs.declared.Maybe.{Maybe}
-use Rattle.walk_steps.specs.declared.Maybe.TheVariants.{Absent, Present}
 use Rattle.walk_steps.proofs.Places.{before, from}
 use Rattle.walk_steps.proofs.Leaves.{starts_at}
 use Rattle.walk_steps.proofs.Elements.{leaf_leads}
 use Rattle.walk_items.proofs.Sequences.{sequence_leads}
 use Rattle.walk_header.specs.Header.{office_in, filed_in, language_in, identified_by, FindsSpoken, Behind, FindsHeader}
 use Rattle.walk_header.specs.declared.FoundHeader.{FoundHeader}
-use Rattle.judge_faults.specs.Sets.{Earlier, Firsts, Bad, unless_of}
+use Rattle.judge_faults.specs.Sets.{Fault, Earlier, Firsts, Bad, unless_of}
 use Rattle.judge_faults.proofs.Faults.{firsts_or, firsts_as, firsts_none}
+use Rattle.judge_faults.proofs.Seen.{Seen, seen_none, seen_next, seen_stuck, seen_all}
+use Rattle.walk_header.proofs.Entries.{spoken_leads}
 use Rattle.judge_faults.proofs.Values.{text_fault}
-use Rattle.judge_header.specs.Headers.{Wrong, JudgesMaybe, JudgesVersion, JudgesDates, JudgesOffices, codes, JudgesTitles, JudgesLanguages, JudgesHeader}
-use Rattle.judge_header.specs.declared.Spoke.{Spoke}
+use Rattle.judge_header.specs.Headers.{Wrong, Tries, JudgesMaybe, JudgesVersion, JudgesDates, JudgesOffices, codes, totalled, JudgesTitles, JudgesLanguages, JudgesHeader}
 
 -- ---- lists of texts under one rule
 
 module _ (m : ℕ) (A : List ℕ → Type 0) where
-  pub wrong_none : Firsts (Wrong m A []) Clean
+  pub wrong_none : Firsts (Wrong m A []) None
   wrong_none = firsts_none (Wrong m A []) (λ n p x. x.1.1)
 
   pub wrong_both : (l k : List (Text ℕ)) {a b r : Fault} → Firsts (Wrong m A l) a → Firsts (Wrong m A k) b → Earlier a b r → Firsts (Wrong m A (l ++ k)) r
@@ -70,19 +69,25 @@ module _ (m : ℕ) (A : List ℕ → Type 0) where
 
   -- ---- a text that may be missing
 
-  pub maybe_absent : {s : List ℕ} → JudgesMaybe m A s Absent Clean
+  pub maybe_absent : {s : List ℕ} → JudgesMaybe m A s None None
   maybe_absent {s} = record { says = says }
     where
-      says : (o : Option (Text ℕ)) → MaybeIs s o Absent → Firsts (Wrong m A (present o)) Clean
+      says : (o : Option (Text ℕ)) → MaybeIs s o None → Firsts (Wrong m A (present o)) None
       says none h = wrong_none
       says (some t) h = absurd h
 
-  pub maybe_present : {s w : List ℕ} {p : Range} (ok : Bool) {r : Fault} → ShowsBytes s p.from p.to w → OfRead w A ok → r ≡ unless_of ok m p.from → JudgesMaybe m A s (Present p) r
+  pub maybe_present : {s w : List ℕ} {p : Range} (ok : Bool) {r : Fault} → ShowsBytes s p.from p.to w → OfRead w A ok → r ≡ unless_of ok m p.from → JudgesMaybe m A s (Some p) r
   maybe_present {s} {p = p} ok {r} h o e = record { says = says }
     where
-      says : (x : Option (Text ℕ)) → MaybeIs s x (Present p) → Firsts (Wrong m A (present x)) r
+      says : (x : Option (Text ℕ)) → MaybeIs s x (Some p) → Firsts (Wrong m A (present x)) r
       says none i = absurd i
       says (some t) i = wrong_one t (text_fault m A ok i h o e)
+
+  -- where the test tells of A
+  pub maybe_tried : {T : List ℕ → Bool → Type 0} {s : List ℕ} (x : rust.Option Range) {r : Fault} → ((w : List ℕ) (ok : Bool) → T w ok → OfRead w A ok)
+      → Tries T m s x r → JudgesMaybe m A s x r
+  maybe_tried None tells e = rw e maybe_absent
+  maybe_tried (Some p) tells e = maybe_present e.1 e.2 (tells e.0 e.1 e.3) e.4
 
 -- ---- the rules
 
@@ -99,7 +104,7 @@ module _ (f : Identification ℕ → Option (Text ℕ)) (g : Option (Identificat
   asked (reference t) o = ap (λ (u : Option (Text ℕ)). present u ++ present (g o)) of_none ∙ asked_last o
   asked (application x t) o = ap (λ (u : Option (Text ℕ)). present u ++ present (g o)) (of_some x) ∙ ap (λ (k : List (Text ℕ)). present (f x) ++ k) (asked_last o)
 
-pub dates_judged : {s : List ℕ} {produced filed first : Maybe} (a b c d : Fault) {r : Fault} → JudgesMaybe 11 Date s produced a → JudgesMaybe 11 Date s filed b → JudgesMaybe 11 Date s first c
+pub dates_judged : {s : List ℕ} {produced filed first : rust.Option Range} (a b c d : Fault) {r : Fault} → JudgesMaybe 11 Date s produced a → JudgesMaybe 11 Date s filed b → JudgesMaybe 11 Date s first c
     → Earlier b c d → Earlier a d r → JudgesDates s produced filed first r
 dates_judged a b c d {r} ja jb jc x y =
     record {
@@ -112,7 +117,7 @@ dates_judged a b c d {r} ja jb jc x y =
           (wrong_both 11 Date P (H ++ E) (ja.says l.production_date p) (wrong_both 11 Date H E (jb.says (filed_in (identified_by l.heading)) h) (jc.says (filed_in l.earliest) k) x) y);
     }
 
-pub offices_judged : {s : List ℕ} {office first : Maybe} (a b : Fault) {r : Fault} → JudgesMaybe 12 (Two is_upper) s office a → JudgesMaybe 12 (Two is_upper) s first b
+pub offices_judged : {s : List ℕ} {office first : rust.Option Range} (a b : Fault) {r : Fault} → JudgesMaybe 12 (Two is_upper) s office a → JudgesMaybe 12 (Two is_upper) s first b
     → Earlier a b r → JudgesOffices s office first r
 offices_judged a b {r} ja jb x =
     record {
@@ -126,7 +131,7 @@ offices_judged a b {r} ja jb x =
 
 -- ---- languages
 
-pub title_over : {s : List ℕ} {at : ℕ} {r : Found} → FindsSpoken (bytes "InventionTitle") s at r → Over (child (spoken (bytes "InventionTitle"))) (Not is_blank) s at r.next
+pub title_over : {s : List ℕ} {at : ℕ} {r : Found Range} → FindsSpoken (bytes "InventionTitle") s at r → Over (child (spoken (bytes "InventionTitle"))) (Not is_blank) s at r.next
 title_over f = record { is = λ x e d fol. (f x e d fol).next }
 
 codes_more : (l : List (Spoken ℕ)) (x : Spoken ℕ) → codes l ++ (x.language_code ∷ []) ≡ codes (l ++ (x ∷ []))
@@ -135,10 +140,43 @@ codes_more (y ∷ l) x = ap (λ (k : List (Text ℕ)). y.language_code ∷ k) (c
 
 -- one title more
 pub title_more : {s : List ℕ} (l : List (Spoken ℕ)) (x : Spoken ℕ) {p : Range} (a b : Fault) {r : Fault} → Firsts (Wrong 13 (Two is_lower) (codes l)) a → IsPart s x.language_code p
-    → JudgesMaybe 13 (Two is_lower) s (Present p) b → Earlier a b r → Firsts (Wrong 13 (Two is_lower) (codes (l ++ (x ∷ [])))) r
+    → JudgesMaybe 13 (Two is_lower) s (Some p) b → Earlier a b r → Firsts (Wrong 13 (Two is_lower) (codes (l ++ (x ∷ [])))) r
 title_more l x a b {r} f i j e =
     subst (λ (k : List (Text ℕ)). Firsts (Wrong 13 (Two is_lower) k) r) (codes_more l x)
     (wrong_both 13 (Two is_lower) (codes l) (x.language_code ∷ []) f (j.says (some x.language_code) i) e)
+
+-- the titles from `first` up to `at` were seen, and this is their first fault
+abbrev pub TitlesSeen : List ℕ → ℕ → ℕ → Fault → Type 0
+TitlesSeen s first at fault = Seen (child (spoken (bytes "InventionTitle"))) totalled s first at (λ (l : List (Spoken ℕ)). Firsts (Wrong 13 (Two is_lower) (codes l)) fault)
+
+pub titles_none : {s : List ℕ} (first : ℕ) → TitlesSeen s first first None
+titles_none first = seen_none (child (spoken (bytes "InventionTitle"))) totalled first (λ (l : List (Spoken ℕ)). Firsts (Wrong 13 (Two is_lower) (codes l)) None) (wrong_none 13 (Two is_lower))
+
+module _ {s : List ℕ} {first at : ℕ} {fault : Fault} {t : Bool} (here : TellsTag (bytes "InventionTitle") totalled s at t) (seen : TitlesSeen s first at fault) where
+  pub titles_next : {x : Found Range} (own : Fault) {r : Fault} → t ≡ true → FindsSpoken (bytes "InventionTitle") s at x → JudgesMaybe 13 (Two is_lower) s (Some x.part) own
+      → Earlier fault own r → TitlesSeen s first x.next r
+  titles_next own {r} h f j e =
+      seen_next (bytes "InventionTitle") (child (spoken (bytes "InventionTitle"))) (spoken_leads (bytes "InventionTitle")) totalled (record { clash = refl; sharps = refl })
+      (λ (l : List (Spoken ℕ)). Firsts (Wrong 13 (Two is_lower) (codes l)) fault) (λ (l : List (Spoken ℕ)). Firsts (Wrong 13 (Two is_lower) (codes l)) r) h here seen (title_over f)
+      (λ done y n d fol g. title_more done y fault own g (f y n d fol).part j e)
+
+  pub titles_stuck : {x : Found Range} (r : Found Fault) → t ≡ true → FindsSpoken (bytes "InventionTitle") s at x → x.next ≤ at → JudgesTitles s first r
+  titles_stuck r h f n =
+      record {
+        says =
+            λ l e d fol.
+            absurd
+            (seen_stuck (bytes "InventionTitle") (child (spoken (bytes "InventionTitle"))) (spoken_leads (bytes "InventionTitle")) totalled (record { clash = refl; sharps = refl })
+            (λ (l : List (Spoken ℕ)). Firsts (Wrong 13 (Two is_lower) (codes l)) fault) h here seen (title_over f) n l e d fol);
+      }
+
+  pub titles_done : t ≡ false → JudgesTitles s first (record { part = fault; next = at })
+  titles_done h =
+      record {
+        says =
+            seen_all (bytes "InventionTitle") (child (spoken (bytes "InventionTitle"))) (spoken_leads (bytes "InventionTitle")) totalled (record { clash = refl; sharps = refl })
+            (λ (l : List (Spoken ℕ)). Firsts (Wrong 13 (Two is_lower) (codes l)) fault) h here seen;
+      }
 
 -- the languages of the names
 spoken_by : (a b : Option (Party ℕ)) → present (language_in a) ++ present (language_in b) ≡ map (λ (x : Party ℕ). x.name.language_code) (present a ++ present b)
@@ -147,9 +185,9 @@ spoken_by none (some b) = refl
 spoken_by (some a) none = refl
 spoken_by (some a) (some b) = refl
 
-pub languages_judged : {s : List ℕ} {applicant inventor : Maybe} {titles : ℕ} {x : Spoke} (a b d : Fault) {r : Fault} → JudgesMaybe 13 (Two is_lower) s applicant a
-    → JudgesMaybe 13 (Two is_lower) s inventor b → JudgesTitles s titles x → Earlier a b d → Earlier d x.fault r
-    → JudgesLanguages s applicant inventor titles (record { fault = r; next = x.next })
+pub languages_judged : {s : List ℕ} {applicant inventor : rust.Option Range} {titles : ℕ} {x : Found Fault} (a b d : Fault) {r : Fault} → JudgesMaybe 13 (Two is_lower) s applicant a
+    → JudgesMaybe 13 (Two is_lower) s inventor b → JudgesTitles s titles x → Earlier a b d → Earlier d x.part r
+    → JudgesLanguages s applicant inventor titles (record { part = r; next = x.next })
 languages_judged a b d {r} ja jb jt y z =
     record {
       says =
@@ -191,10 +229,10 @@ behind_total {s} {l} b =
     (starts_sharp is_blank (k ∷ closing) refl (d.word ++ drop b.end s)
     (each_starts whole k (child sequence) (leads_by k (child sequence) sequence_leads) closing l.sequences b.next d.word (drop b.end s) d.laid b.closes))
 
-pub header_judged : {s : List ℕ} {h : FoundHeader} {x : Spoke} {y : Found} (a b c f g : Fault) {r : Fault} → FindsHeader s h → JudgesVersion s h.version a
-    → JudgesDates s h.produced h.filed h.first_filed b → JudgesOffices s h.office h.first_office c
+pub header_judged : {s : List ℕ} {h : FoundHeader} {x : Found Fault} {y : Found Range} (a b c f g : Fault) {r : Fault} → FindsHeader s h → JudgesVersion s h.version a
+    → JudgesDates s h.produced h.heading.filed h.earliest.filed b → JudgesOffices s h.heading.office h.earliest.office c
     → JudgesLanguages s h.applicant h.inventor h.titles x → Finds (child (leaf (bytes "SequenceTotalQuantity"))) (Not is_blank) s x.next y
-    → Earlier a b f → Earlier c x.fault g → Earlier f g r → JudgesHeader s (record { fault = r; total = y.part; first = y.next })
+    → Earlier a b f → Earlier c x.part g → Earlier f g r → JudgesHeader s (record { fault = r; total = y.part; first = y.next })
 header_judged a b c f g found ja jb jc jd total e1 e2 e3 =
     record {
       says =
@@ -207,8 +245,8 @@ header_judged a b c f g found ja jb jc jd total e1 e2 e3 =
           let D = Wrong 13 (Two is_lower) (languages l) in
           let t = jd.says l k.stop h.applicant h.inventor k.titles (starts_at (bytes "<SequenceTotalQuantity") (leaf_leads (bytes "SequenceTotalQuantity") l.total) k.total) in
           let y = total l.total k.next (from t.1 k.total) (behind_total k) in
-          let fab = firsts_or A B (ja.says l.dtd_version h.version) (jb.says l h.produced h.filed h.first_filed) e1 in
-          let fcd = firsts_or C D (jc.says l h.office h.first_office) t.0 e2 in
+          let fab = firsts_or A B (ja.says l.dtd_version h.version) (jb.says l h.produced h.heading.filed h.earliest.filed) e1 in
+          let fcd = firsts_or C D (jc.says l h.heading.office h.earliest.office) t.0 e2 in
           record {
             fault = firsts_as (Parts l) (InHeader l) (parts_in l) (in_parts l) (firsts_or (◌or◌ A B) (◌or◌ C D) fab fcd e3);
             total = y.part;

@@ -1,50 +1,22 @@
 // The header: rules 10 to 13. Relies on the walk along it, the values and what the judge's parts share.
 #![tactic(auto)]
 
-ghost use Rattle.paper.specs.Values.{Date, Two, is_upper, is_lower};
-ghost use Rattle.judge_header.specs.Headers.{JudgesMaybe, JudgesVersion, JudgesDates, JudgesOffices, JudgesTitles, JudgesLanguages, JudgesHeader};
+ghost use Rattle.std.specs.Fn.{FnReturnsAt};
+ghost use Rattle.judge_header.specs.Headers.{Tries, JudgesVersion, JudgesDates, JudgesOffices, JudgesTitles, JudgesLanguages, JudgesHeader};
 
 use judge_faults::Fault;
+use value_codes::{is_date, is_language, is_office};
 use walk_header::FoundHeader;
-use walk_steps::{Found, Maybe, Range};
+use walk_steps::{Found, Range};
 
-// Rule 11, for a date that may be missing.
-fn judge_date(s: &[u8], m: Maybe) -> Fault
-    ensures { JudgesMaybe 11 Date s.now m result }
+// The rule of this number, for a text that may be missing.
+fn judge_maybe<F: Fn(&[u8]) -> bool>(s: &[u8], m: Option<Range>, rule: usize, is_right: F) -> Fault
+    requires { F.IsAlwaysCallable is_right }
+    ensures { Tries (FnReturnsAt F.Fn is_right) rule s.now m result }
 {
-    match m {
-        Maybe::Absent => Fault::Clean,
-        Maybe::Present(p) => {
-            let ok = value_codes::is_date(read_steps::bytes_of(s, p.from, p.to));
-            judge_faults::unless(ok, 11, p.from)
-        }
-    }
-}
-
-// Rule 12, for an office that may be missing.
-fn judge_office(s: &[u8], m: Maybe) -> Fault
-    ensures { JudgesMaybe 12 (Two is_upper) s.now m result }
-{
-    match m {
-        Maybe::Absent => Fault::Clean,
-        Maybe::Present(p) => {
-            let ok = value_codes::is_office(read_steps::bytes_of(s, p.from, p.to));
-            judge_faults::unless(ok, 12, p.from)
-        }
-    }
-}
-
-// Rule 13, for a language that may be missing.
-fn judge_language(s: &[u8], m: Maybe) -> Fault
-    ensures { JudgesMaybe 13 (Two is_lower) s.now m result }
-{
-    match m {
-        Maybe::Absent => Fault::Clean,
-        Maybe::Present(p) => {
-            let ok = value_codes::is_language(read_steps::bytes_of(s, p.from, p.to));
-            judge_faults::unless(ok, 13, p.from)
-        }
-    }
+    let p = m?;
+    let ok = is_right(read_steps::bytes_of(s, p.from, p.to));
+    judge_faults::unless(ok, rule, p.from)
 }
 
 // Rule 10.
@@ -56,61 +28,66 @@ fn judge_version(s: &[u8], version: Range) -> Fault
 }
 
 // Rule 11: the productionDate, and the dates of the heading and of the earliest application.
-fn judge_dates(s: &[u8], produced: Maybe, filed: Maybe, first: Maybe) -> Fault
+fn judge_dates(
+    s: &[u8],
+    produced: Option<Range>,
+    filed: Option<Range>,
+    first: Option<Range>,
+) -> Fault
     ensures { JudgesDates s.now produced filed first result }
 {
-    let a = judge_date(s, produced);
-    let b = judge_date(s, filed);
-    let c = judge_date(s, first);
+    let a = judge_maybe(s, produced, 11, is_date);
+    let b = judge_maybe(s, filed, 11, is_date);
+    let c = judge_maybe(s, first, 11, is_date);
     judge_faults::earlier(a, judge_faults::earlier(b, c))
 }
 
 // Rule 12: the offices of the heading and of the earliest application.
-fn judge_offices(s: &[u8], office: Maybe, first: Maybe) -> Fault
+fn judge_offices(s: &[u8], office: Option<Range>, first: Option<Range>) -> Fault
     ensures { JudgesOffices s.now office first result }
 {
-    let a = judge_office(s, office);
-    let b = judge_office(s, first);
+    let a = judge_maybe(s, office, 12, is_office);
+    let b = judge_maybe(s, first, 12, is_office);
     judge_faults::earlier(a, b)
 }
 
-// The first fault of some languages, and where the titles end.
-#[derive(Clone, Copy)]
-pub struct Spoke {
-    pub fault: Fault,
-    pub next: usize,
-}
-
-// Rule 13, for the titles.
-fn judge_titles(s: &[u8], first: usize) -> Spoke
+// Rule 13, for the titles, and where they end.
+fn judge_titles(s: &[u8], first: usize) -> Found<Fault>
     ensures { JudgesTitles s.now first result }
 {
     let mut at = first;
-    let mut fault = Fault::Clean;
-    loop {
-        if walk_header::title_here(s, at) {
-            let Found { part, next } = walk_header::title(s, at);
-            if next <= at {
-                return Spoke { fault, next: at };
-            }
-            let own = judge_language(s, Maybe::Present(part));
-            fault = judge_faults::earlier(fault, own);
-            at = next;
-        } else {
-            return Spoke { fault, next: at };
+    let mut fault = None;
+    // Only a title says where the next one starts, so this is a while. One that stands is not empty: the test is there so that the loop
+    // ends, whatever the bytes are.
+    while walk_header::title_here(s, at) {
+        let Found { part, next } = walk_header::title(s, at);
+        if next <= at {
+            break;
         }
+        let own = judge_maybe(s, Some(part), 13, is_language);
+        fault = judge_faults::earlier(fault, own);
+        at = next;
+    }
+    Found {
+        part: fault,
+        next: at,
     }
 }
 
-// Rule 13: the languages of the applicant, the inventor and the titles.
-fn judge_languages(s: &[u8], applicant: Maybe, inventor: Maybe, titles: usize) -> Spoke
+// Rule 13: the languages of the applicant, the inventor and the titles, and where those end.
+fn judge_languages(
+    s: &[u8],
+    applicant: Option<Range>,
+    inventor: Option<Range>,
+    titles: usize,
+) -> Found<Fault>
     ensures { JudgesLanguages s.now applicant inventor titles result }
 {
-    let a = judge_language(s, applicant);
-    let b = judge_language(s, inventor);
-    let Spoke { fault: c, next } = judge_titles(s, titles);
-    Spoke {
-        fault: judge_faults::earlier(judge_faults::earlier(a, b), c),
+    let a = judge_maybe(s, applicant, 13, is_language);
+    let b = judge_maybe(s, inventor, 13, is_language);
+    let Found { part: c, next } = judge_titles(s, titles);
+    Found {
+        part: judge_faults::earlier(judge_faults::earlier(a, b), c),
         next,
     }
 }
@@ -129,18 +106,16 @@ pub fn judge_header(s: &[u8]) -> Headed
     let FoundHeader {
         version,
         produced,
-        office,
-        filed,
-        first_office,
-        first_filed,
+        heading,
+        earliest,
         applicant,
         inventor,
         titles,
     } = walk_header::header(s);
     let a = judge_version(s, version);
-    let b = judge_dates(s, produced, filed, first_filed);
-    let c = judge_offices(s, office, first_office);
-    let Spoke { fault: d, next: e } = judge_languages(s, applicant, inventor, titles);
+    let b = judge_dates(s, produced, heading.filed, earliest.filed);
+    let c = judge_offices(s, heading.office, earliest.office);
+    let Found { part: d, next: e } = judge_languages(s, applicant, inventor, titles);
     let Found {
         part: total,
         next: first,

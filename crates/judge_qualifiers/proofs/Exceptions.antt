@@ -1,4 +1,7 @@
 -- Whether a region is unjudged, after one qualifier more, and by its location.
+use Rattle.std.specs.Prelude.{Option, None, Some}
+use Rattle.walk_steps.specs.declared.Range.{Range}
+use Rattle.std.specs.Prelude as rust
 use Prim.Native.Nat.{ℕ}
 use Prim.Native.String.{String}
 use native.Mathlib.Omega.{arith}
@@ -18,11 +21,8 @@ use Rattle.value_words.proofs.Tests.{tells_true, tells_false}
 use Rattle.value_dictionary.specs.Texts.{PlaceOf}
 use Rattle.value_vocabulary.specs.Tables.{name_texts}
 use Rattle.value_vocabulary.proofs.Keyed.{number_is, number_not}
-use Rattle.walk_steps.specs.declared.Maybe.{Maybe}
 use Rattle.location_judge.specs.Judging.{JudgedText}
 use Rattle.location_judge.specs.declared.judging.Facts.{Facts}
-use Rattle.location_judge.specs.declared.judging.Judgement.{Judgement}
-use Rattle.location_judge.specs.declared.judging.Judgement.TheVariants.{Bad, Is}
 use Rattle.judge_qualifiers.specs.Qualifiers.{ValueIs, OfName, Shown, exceptions, Excepted, OtherCode, HasExcepted, Excepts, LeavesOut}
 use Rattle.judge_qualifiers.proofs.Lists.{in_last, in_front, in_split}
 
@@ -57,7 +57,7 @@ module _ {number : ℕ} where
 
 -- ---- one qualifier more
 
-module _ {s : List ℕ} {number : ℕ} {value : Maybe} {e : Bool} where
+module _ {s : List ℕ} {number : ℕ} {value : rust.Option Range} {e : Bool} where
   pub excepts_before : e ≡ true → Excepts s e number value true
   excepts_before h = record { says = λ q z l t. let x = tells_true e h t in (x.0, in_front l q x.0 x.1, x.2) }
 
@@ -111,15 +111,11 @@ module _ (f : Feature ℕ) (n : ¬ HasExcepted (qualifiers_of f)) where
       let y = by_location z in
       true≢false (sym y.2 ∙ ap leaves_unjudged (locates_once y.0 t y.1 d) ∙ sym k)
 
-module _ {e : Bool} {verdict : Judgement} where
+module _ {e : Bool} {verdict : Option Facts} where
   pub leaves_excepted : e ≡ true → LeavesOut e verdict true
   leaves_excepted h = record { says = λ n f t j. leaves_by_qualifier f h t }
 
-  pub leaves_bad : e ≡ false → verdict ≡ Bad → LeavesOut e verdict false
-  leaves_bad h v =
-      record { says = λ n f t j u. let x = by_location f (tells_false e h t) u in subst (JudgedText n f.location.read) v j x.0 x.1 }
-
-  pub leaves_located : (x : Facts) → e ≡ false → verdict ≡ Is x → LeavesOut e verdict x.unjudged
+  pub leaves_located : (x : Facts) → e ≡ false → verdict ≡ Some x → LeavesOut e verdict x.unjudged
   leaves_located x h v =
       record {
         says =

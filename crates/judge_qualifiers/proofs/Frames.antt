@@ -1,4 +1,6 @@
 -- Rule 27: the frame of a list of qualifiers, after one qualifier more.
+use Rattle.walk_steps.specs.declared.Range.{Range}
+use Rattle.std.specs.Prelude as rust
 use Prim.Native.Nat.{ℕ}
 use native.Mathlib.Omega.{arith}
 use mathlib.Core.Path.{◌≡◌, subst}
@@ -9,7 +11,6 @@ use Rattle.paper.specs.Tree.{Qualifier, Feature, qualifiers_of}
 use Rattle.paper.specs.Rules.{Named, value_read, CodonStart, absent, stated}
 use Rattle.paper.proofs.Lists.{count_once}
 use Rattle.value_vocabulary.proofs.Keyed.{number_is, number_not}
-use Rattle.walk_steps.specs.declared.Maybe.{Maybe}
 use Rattle.judge_faults.proofs.Seen.{count_has, count_lacks}
 use Rattle.judge_qualifiers.specs.Qualifiers.{Shown, StatesStart, StateIs, States, OneStart, NoStart, FrameIs, Frames}
 use Rattle.judge_qualifiers.specs.Starts.{StartsAt}
@@ -56,7 +57,7 @@ module _ (l : List (Qualifier ℕ)) (q : Qualifier ℕ) where
     frame_more h = (not_none, λ m o. h (one_last o))
 
 -- 9 is the number of codon_start
-module _ {s : List ℕ} {number : ℕ} {value : Maybe} where
+module _ {s : List ℕ} {number : ℕ} {value : rust.Option Range} where
   name_is : number ≡ 9 → (q : Qualifier ℕ) → Shown s number value q → Named "codon_start" q
   name_is e q h = number_is h.name 9 (omega arith) e
 

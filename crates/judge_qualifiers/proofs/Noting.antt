@@ -2,8 +2,8 @@
 use Prim.Native.Nat.{ℕ, suc, ◌≤◌, ◌<◌}
 use Prim.Native.String.{String}
 use native.Mathlib.Omega.{arith}
-use mathlib.Core.Path.{◌≡◌, refl, sym, ◌∙◌, subst}
-use mathlib.Core.Bool.{Bool, true, false, true≢false, cond}
+use mathlib.Core.Path.{◌≡◌, refl, sym, subst}
+use mathlib.Core.Bool.{Bool, true, false, cond}
 use mathlib.Core.Logic.{◌⊎◌, inl, inr}
 use mathlib.Core.List.{List, [], ◌∷◌, ◌++◌}
 use lib.ListN.{length, get_or}
@@ -23,11 +23,12 @@ use Rattle.walk_steps.specs.Stands.{TellsChild}
 use Rattle.walk_items.specs.Items.{MeetsQualifier}
 use Rattle.walk_items.specs.declared.FoundQualifier.{FoundQualifier}
 use Rattle.judge_faults.specs.Counters.{up_to_two}
-use Rattle.judge_faults.specs.declared.Fault.TheVariants.{Clean}
+use Rattle.std.specs.Prelude.{None, unwrap_or}
+use Rattle.std.specs.Prelude as rust
 use Rattle.judge_faults.proofs.Bytes.{part_shows}
 use Rattle.judge_faults.proofs.Counters.{capped_none, capped_more}
 use Rattle.judge_faults.proofs.Seen.{seen_none, count_has, count_lacks}
-use Rattle.judge_qualifiers.specs.Qualifiers.{OfName, Shown, Frames, Excepts, IsOrganism, IsMolType, Counted, Untranslated, translation_number, Meets, WithWord, NotedOf, Notes}
+use Rattle.judge_qualifiers.specs.Qualifiers.{OfName, Shown, Frames, Excepts, IsOrganism, IsMolType, Counted, Untranslated, translation_number, met_at, WithWord, NotedOf, Notes}
 use Rattle.judge_qualifiers.specs.declared.Frame.{Frame}
 use Rattle.judge_qualifiers.specs.declared.Frame.TheVariants.{Unstated}
 use Rattle.judge_qualifiers.specs.declared.Noted.{Noted}
@@ -46,6 +47,15 @@ name_told {number} n h = go (eqb number n) refl
     go true e = record { says = λ v p. number_is p n h (eqb-true number n e) }
     go false e = record { says = λ v p. number_not p n h (eqb-false number n e) }
 
+-- the number of an organism or a mol_type, in either case
+pub organism_told : {number : ℕ} (upper : Bool) → OfName number (IsOrganism upper) (eqb number (cond upper 82 44))
+organism_told true = name_told 82 (omega arith)
+organism_told false = name_told 44 (omega arith)
+
+pub mol_type_told : {number : ℕ} (upper : Bool) → OfName number (IsMolType upper) (eqb number (cond upper 83 38))
+mol_type_told true = name_told 83 (omega arith)
+mol_type_told false = name_told 38 (omega arith)
+
 counted_none : (name : String) → Counted name [] 0
 counted_none name = record { count = 0; is = end; capped = capped_none }
 
@@ -62,34 +72,18 @@ untranslated_more l q u h x i = by (in_split l q i)
     by (inl j) = u x j
     by (inr e) = λ n. h (subst (Named "translation") e n)
 
--- whether a translation was met
-module _ {met : Bool} {number : ℕ} where
-  pub meets_before : met ≡ true → Meets met number true
-  meets_before e = record { says = inl e }
-
-  pub meets_now : number ≡ translation_number → Meets met number true
-  meets_now e = record { says = inr e }
-
-  pub meets_not : met ≡ false → ¬ (number ≡ translation_number) → Meets met number false
-  meets_not e n = record { says = by }
-    where
-      by : (met ≡ true) ⊎ (number ≡ translation_number) → ⊥
-      by (inl m) = true≢false (sym m ∙ e)
-      by (inr m) = n m
-
 -- ---- the loop
 
--- the qualifiers up to `at` say so, those before `rest` are no translations, and `rest` is `at` until one is met
-pub record Noting (s : List ℕ) (first : ℕ) (upper : Bool) (row : ℕ) (t : List ℕ) (at : ℕ) (frame : Frame) (excepted : Bool) (organisms molTypes : ℕ) (words : Worded) (met : Bool) (rest : ℕ) : Type 0 where
+-- the qualifiers up to `at` say so, and those before the translation that was met, or before `at`, are no translations
+pub record Noting (s : List ℕ) (first : ℕ) (upper : Bool) (row : ℕ) (t : List ℕ) (at : ℕ) (frame : Frame) (excepted : Bool) (organisms molTypes : ℕ) (words : Worded) (met : rust.Option ℕ) : Type 0 where
   pub noted : SeenSo s first at (NotedOf upper row t frame excepted organisms molTypes words)
-  pub passed : SeenSo s first rest Untranslated
-  pub unmet : met ≡ false → rest ≡ at
+  pub passed : SeenSo s first (unwrap_or met at) Untranslated
 
 -- nothing was said yet
 abbrev pub unworded : Worded
-unworded = record { foreign = Clean; first = false; second = false }
+unworded = record { foreign = None; first = false; second = false }
 
-pub noting_none : {s : List ℕ} (first : ℕ) (upper : Bool) (row : ℕ) (t : List ℕ) → Noting s first upper row t first Unstated false 0 0 unworded false first
+pub noting_none : {s : List ℕ} (first : ℕ) (upper : Bool) (row : ℕ) (t : List ℕ) → Noting s first upper row t first Unstated false 0 0 unworded None
 noting_none first upper row t =
     record {
       noted =
@@ -102,31 +96,26 @@ noting_none first upper row t =
             worded = λ st z. words_none st;
           });
       passed = seen_none (child qualifier) closing first Untranslated (λ q i. absurd i.1);
-      unmet = λ e. refl;
     }
 
-module _ {s : List ℕ} {first at : ℕ} {upper : Bool} {row : ℕ} {t : List ℕ} {frame : Frame} {excepted : Bool} {organisms molTypes : ℕ} {words : Worded} {met : Bool} {rest : ℕ} {h : Bool}
-    (here : TellsChild s at h) (w : Noting s first upper row t at frame excepted organisms molTypes words met rest) where
+module _ {s : List ℕ} {first at : ℕ} {upper : Bool} {row : ℕ} {t : List ℕ} {frame : Frame} {excepted : Bool} {organisms molTypes : ℕ} {words : Worded} {met : rust.Option ℕ} {h : Bool}
+    (here : TellsChild s at h) (w : Noting s first upper row t at frame excepted organisms molTypes words met) where
   module _ {x : FoundQualifier} {n : List ℕ} {number : ℕ} (e : h ≡ true) (f : MeetsQualifier s at x) (shown : ShowsBytes s x.name.from x.name.to n) (numbers : NameNumber n number) where
-    -- before a translation is met the next place is kept
-    kept_more : {r : ℕ} (m : Bool) → Meets met number m → r ≡ cond m rest x.next → SeenSo s first r Untranslated × (m ≡ false → r ≡ x.next)
-    kept_more true k e = (subst (λ (p : ℕ). SeenSo s first p Untranslated) (sym e) w.passed, λ z. absurd (true≢false z))
-    kept_more {r} false k d = (subst (λ (p : ℕ). SeenSo s first p Untranslated) (sym d) onward, λ z. d)
+    -- the place of the first translation stays
+    met_more : (m : rust.Option ℕ) → SeenSo s first (unwrap_or m at) Untranslated → SeenSo s first (unwrap_or (met_at m number at) x.next) Untranslated
+    met_more (rust.Some p) u = u
+    met_more rust.None u = by (eqb number translation_number) refl
       where
-        before : (m : Bool) → ¬ (m ≡ true) → m ≡ false
-        before true u = absurd (u refl)
-        before false u = refl
+        by : (b : Bool) → eqb number translation_number ≡ b → SeenSo s first (unwrap_or (cond b (rust.Some at) rust.None) x.next) Untranslated
+        by true k = u
+        by false k =
+            one_more Untranslated Untranslated e here u f
+            (λ l q i m u. untranslated_more l q u (number_not (numbers.says q.name.read (part_shows i shown)) translation_number (omega arith) (eqb-false number translation_number k)))
 
-        onward : SeenSo s first x.next Untranslated
-        onward =
-            one_more Untranslated Untranslated e here (subst (λ (p : ℕ). SeenSo s first p Untranslated) (w.unmet (before met (λ z. k.says (inl z)))) w.passed) f
-            (λ l q i m u. untranslated_more l q u (number_not (numbers.says q.name.read (part_shows i shown)) translation_number (omega arith) (λ z. k.says (inr z))))
-
-    pub noting_next : {a : Frame} {b m : Bool} {u v r : ℕ} {y : Worded} (o d : Bool) → Frames s frame number x.value a → Excepts s excepted number x.value b
+    pub noting_next : {a : Frame} {b : Bool} {u v : ℕ} {y : Worded} {m : rust.Option ℕ} (o d : Bool) → Frames s frame number x.value a → Excepts s excepted number x.value b
         → OfName number (IsOrganism upper) o → u ≡ up_to_two o organisms → OfName number (IsMolType upper) d → v ≡ up_to_two d molTypes
-        → WithWord (standing_at t row number) x.name.from words y → Meets met number m → r ≡ cond m rest x.next → Noting s first upper row t x.next a b u v y m r
-    noting_next {a} {b} {m} {u} {v} {y = y} o d g k to' eo td ed tw tm er =
-        let z = kept_more m tm er in
+        → WithWord (standing_at t row number) x.name.from words y → m ≡ met_at met number at → Noting s first upper row t x.next a b u v y m
+    noting_next {a} {b} {u} {v} {y} {m} o d g k to' eo td ed tw em =
         record {
           noted =
               one_more (NotedOf upper row t frame excepted organisms molTypes words) (NotedOf upper row t a b u v y) e here w.noted f
@@ -140,14 +129,13 @@ module _ {s : List ℕ} {first at : ℕ} {upper : Bool} {row : ℕ} {t : List �
                 mol_types_are = subst (Counted (mol_type_name upper) (l ++ (q ∷ []))) (sym ed) (counted_more (mol_type_name upper) l q d (td.says q.name.read p) z.mol_types_are);
                 worded = λ st by. tw.says st q (sym (by q.name.read number p)) i.first l (z.worded st by);
               });
-          passed = z.0;
-          unmet = z.1;
+          passed = subst (λ (m : rust.Option ℕ). SeenSo s first (unwrap_or m x.next) Untranslated) (sym em) (met_more met w.passed);
         }
 
   pub noting_stuck : {x : FoundQualifier} (r : Noted) → h ≡ true → MeetsQualifier s at x → x.next ≤ at → Notes s first upper row t r
   noting_stuck r e f n = record { is = λ l j d fol. absurd (stuck (NotedOf upper row t frame excepted organisms molTypes words) e here w.noted f n l j d fol) }
 
-  pub noting_done : h ≡ false → Notes s first upper row t (record { frame = frame; excepted = excepted; organisms = organisms; moltypes = molTypes; words = words; rest = rest; next = at })
+  pub noting_done : h ≡ false → Notes s first upper row t (record { frame = frame; excepted = excepted; organisms = organisms; moltypes = molTypes; words = words; rest = unwrap_or met at; next = at })
   noting_done e =
       record {
         is =

@@ -1,10 +1,12 @@
 -- The value of a qualifier, tested; what a codon_start of that value states.
+use Rattle.std.specs.Prelude as rust
+use Rattle.std.specs.Prelude.{None, Some}
 use Prim.Native.Nat.{ℕ}
 use mathlib.Core.Path.{◌≡◌, refl, ap, ◌∙◌, subst}
 use mathlib.Core.Bool.{Bool, true, false}
 use mathlib.Core.Logic.{inl, inr}
 use mathlib.Core.List.{List}
-use mathlib.Core.Option.{Option, none, some, none-ne-some, some-injective}
+use mathlib.Core.Option.{Option, none, some, some-injective}
 use Rattle.paper.specs.Bytes.{bytes, raw}
 use Rattle.paper.specs.Tree.{Text, opt}
 use Rattle.paper.specs.Values.{Number}
@@ -14,8 +16,6 @@ use Rattle.value_words.proofs.Tests.{tells_true, tells_false}
 use Rattle.value_words.proofs.Read.{tells_word}
 use Rattle.walk_steps.specs.Stands.{MaybeIs}
 use Rattle.walk_steps.specs.declared.Range.{Range}
-use Rattle.walk_steps.specs.declared.Maybe.{Maybe}
-use Rattle.walk_steps.specs.declared.Maybe.TheVariants.{Absent, Present}
 use Rattle.judge_faults.proofs.Bytes.{part_shows}
 use Rattle.judge_qualifiers.specs.Qualifiers.{ValueIs, Small, States}
 use Rattle.judge_qualifiers.specs.declared.Frame.TheVariants.{Stated, Wrong}
@@ -24,17 +24,10 @@ pub tells_as : (r : Bool) {A B : Type 0} → (A → B) → (B → A) → Tells r
 tells_as true to of t = to t
 tells_as false to of t = λ b. t (of b)
 
-pub value_absent : {s x : List ℕ} {value : Maybe} → value ≡ Absent → ValueIs s value x false
-value_absent {s} {x} e = record { says = λ h o m. none_is o (subst (MaybeIs s o) e m) }
-  where
-    none_is : (o : Option (Text ℕ)) → MaybeIs s o Absent → ¬ (opt (λ (t : Text ℕ). t.read) o ≡ some x)
-    none_is none m p = none-ne-some x p
-    none_is (some t) m p = m
-
-pub value_present : {s w x : List ℕ} {value : Maybe} {p : Range} (r : Bool) → value ≡ Present p → ShowsBytes s p.from p.to w → Tells r (w ≡ x) → ValueIs s value x r
+pub value_present : {s w x : List ℕ} {value : rust.Option Range} {p : Range} (r : Bool) → value ≡ Some p → ShowsBytes s p.from p.to w → Tells r (w ≡ x) → ValueIs s value x r
 value_present {s} {w} {x} {p = p} r e h t = record { says = λ a o m. told a o (subst (MaybeIs s o) e m) }
   where
-    told : raw x ≡ x → (o : Option (Text ℕ)) → MaybeIs s o (Present p) → Tells r (opt (λ (t : Text ℕ). t.read) o ≡ some x)
+    told : raw x ≡ x → (o : Option (Text ℕ)) → MaybeIs s o (Some p) → Tells r (opt (λ (t : Text ℕ). t.read) o ≡ some x)
     told a none m = absurd m
     told a (some u) m =
         tells_as r {A = u.read ≡ x} {B = some u.read ≡ some x} (ap some) (some-injective u.read x)
@@ -42,7 +35,7 @@ value_present {s} {w} {x} {p = p} r e h t = record { says = λ a o m. told a o (
 
 -- ---- codon_start
 
-module _ {s : List ℕ} {value : Maybe} where
+module _ {s : List ℕ} {value : rust.Option Range} where
   pub states : (n : ℕ) (x : List ℕ) {r : Bool} → raw x ≡ x → Small x → Number n x → r ≡ true → ValueIs s value x r → States s value (Stated n)
   states n x {r} a small number e v = record { says = λ o m. record { word = x; is = tells_true r e (v.says a o m); small = small; number = number } }
 

@@ -11,15 +11,14 @@ use borrow.Author.Tests.{eqb-true, eqb-false}
 use Rattle.paper.specs.Lists.{◌∈◌}
 use Rattle.paper.specs.Tree.{Qualifier}
 use Rattle.value_words.specs.Reading.{Tells}
-use Rattle.judge_faults.specs.Sets.{Earlier, Firsts, Some}
-use Rattle.judge_faults.specs.declared.Fault.{Fault}
-use Rattle.judge_faults.specs.declared.Fault.TheVariants.{Clean, At}
+use Rattle.std.specs.Prelude.{None}
+use Rattle.judge_faults.specs.Sets.{Fault, fault_at, Earlier, Firsts, InSome}
 use Rattle.judge_faults.proofs.Faults.{earlier_clean, firsts_none, some_none, some_more}
 use Rattle.judge_qualifiers.specs.Qualifiers.{Foreign, HasStanding, WordedBy, WithWord}
 use Rattle.judge_qualifiers.specs.declared.Worded.{Worded}
 use Rattle.judge_qualifiers.proofs.Lists.{in_last, in_front, in_split}
 
-pub words_none : (st : List ℕ → ℕ) → WordedBy st (record { foreign = Clean; first = false; second = false }) []
+pub words_none : (st : List ℕ → ℕ) → WordedBy st (record { foreign = None; first = false; second = false }) []
 words_none st = record { foreign = some_none (Foreign st); first = λ x. x.1.1; second = λ x. x.1.1 }
 
 module _ (st : List ℕ → ℕ) (l : List (Qualifier ℕ)) (q : Qualifier ℕ) where
@@ -41,16 +40,16 @@ module _ (st : List ℕ → ℕ) (l : List (Qualifier ℕ)) (q : Qualifier ℕ) 
       go true p = (q, in_last l q, e ∙ eqb-true how n p)
       go false p = has_other false (λ y. eqb-false how n p (sym e ∙ y)) t
 
-  foreign_other : {a : Fault} → ¬ (st q.name.read ≡ 0) → Firsts (Some (Foreign st) l) a → Firsts (Some (Foreign st) (l ++ (q ∷ []))) a
+  foreign_other : {a : Fault} → ¬ (st q.name.read ≡ 0) → Firsts (InSome (Foreign st) l) a → Firsts (InSome (Foreign st) (l ++ (q ∷ []))) a
   foreign_other {a} n f = some_more (Foreign st) l q f (firsts_none (Foreign st (suc (length l)) q) (λ m p b. n b.2)) (earlier_clean a)
 
-  foreign_this : {a r : Fault} {place : ℕ} → st q.name.read ≡ 0 → place ≡ q.name.place → Firsts (Some (Foreign st) l) a → Earlier a (At 41 place) r
-      → Firsts (Some (Foreign st) (l ++ (q ∷ []))) r
+  foreign_this : {a r : Fault} {place : ℕ} → st q.name.read ≡ 0 → place ≡ q.name.place → Firsts (InSome (Foreign st) l) a → Earlier a (fault_at 41 place) r
+      → Firsts (InSome (Foreign st) (l ++ (q ∷ []))) r
   foreign_this z e f g =
       some_more (Foreign st) l q f (record { is = record { broken = (refl, e, z); least = λ m p b. inr (e ∙ sym b.1, omega (arith, b.0)) } }) g
 
 module _ {how place : ℕ} {a : Worded} where
-  pub word_foreign : {r : Fault} → how ≡ 0 → Earlier a.foreign (At 41 place) r → WithWord how place a (record { foreign = r; first = a.first; second = a.second })
+  pub word_foreign : {r : Fault} → how ≡ 0 → Earlier a.foreign (fault_at 41 place) r → WithWord how place a (record { foreign = r; first = a.first; second = a.second })
   word_foreign h g =
       record {
         says =

@@ -1,6 +1,9 @@
 -- What the qualifiers of a feature say: of its frame, whether they leave it unjudged, how many organisms and mol_types there are, from
 -- where on its translations stand, and how its names stand in the row of its key.
-use Rattle.std.specs.Prelude.{ℕ, ◌≡◌, Bool, true, ◌⊎◌, List, [], ◌∷◌, ◌++◌, drop}
+use Rattle.location_judge.specs.declared.judging.Facts.{Facts}
+use Rattle.walk_steps.specs.declared.Range.{Range}
+use Rattle.std.specs.Prelude.{ℕ, ◌≡◌, Bool, true, ◌⊎◌, cond, ◌==◌, List, [], ◌∷◌, ◌++◌, drop}
+use Rattle.std.specs.Prelude as rust
 use Prim.Native.String.{String}
 use Rattle.std.proofs.Math.Option.{Option, some}
 use Rattle.paper.specs.Bytes.{bytes, raw}
@@ -13,20 +16,18 @@ use Rattle.paper.specs.Rules.{Named, organism_name, mol_type_name, value_read, U
 use Rattle.read_steps.specs.Follow.{Starts, closing}
 use Rattle.value_words.specs.Reading.{Tells}
 use Rattle.walk_steps.specs.Stands.{Stands, MaybeIs}
-use Rattle.walk_steps.specs.declared.Maybe.{Maybe}
 use Rattle.value_dictionary.specs.Texts.{PlaceOf}
 use Rattle.value_vocabulary.specs.Tables.{name_texts, standing_at}
 use Rattle.judge_faults.specs.Counters.{Capped}
-use Rattle.judge_faults.specs.Sets.{Faults, Firsts, Some}
+use Rattle.judge_faults.specs.Sets.{Faults, Firsts, InSome}
 use Rattle.location_judge.specs.Judging.{JudgedText}
-use Rattle.location_judge.specs.declared.judging.Judgement.{Judgement}
 use Rattle.judge_qualifiers.specs.declared.Frame.{Frame}
 use Rattle.judge_qualifiers.specs.declared.Frame.TheVariants.{Unstated, Stated, Wrong}
 use Rattle.judge_qualifiers.specs.declared.Noted.{Noted}
 use Rattle.judge_qualifiers.specs.declared.Worded.{Worded}
 
 -- whichever text, or none, is found there: r says whether it is x
-pub record ValueIs (s : List ℕ) (value : Maybe) (x : List ℕ) (r : Bool) : Type 0 where
+pub record ValueIs (s : List ℕ) (value : rust.Option Range) (x : List ℕ) (r : Bool) : Type 0 where
   pub says : raw x ≡ x → (o : Option (Text ℕ)) → MaybeIs s o value → Tells r (opt (λ (t : Text ℕ). t.read) o ≡ some x)
 
 -- whichever name has this number: r says whether it has the property
@@ -34,7 +35,7 @@ pub record OfName (number : ℕ) (A : List ℕ → Type 0) (r : Bool) : Type 0 w
   pub says : (v : List ℕ) → PlaceOf name_texts v number → Tells r (A v)
 
 -- the qualifier that is found there, with the number of its name, and its value
-pub record Shown (s : List ℕ) (number : ℕ) (value : Maybe) (q : Qualifier ℕ) : Type 0 where
+pub record Shown (s : List ℕ) (number : ℕ) (value : rust.Option Range) (q : Qualifier ℕ) : Type 0 where
   pub name : PlaceOf name_texts q.name.read number
   pub valued : MaybeIs s q.value value
 
@@ -57,7 +58,7 @@ StateIs v Unstated = ⊥
 StateIs v (Stated n) = StatesStart v n
 StateIs v Wrong = (n : ℕ) → ¬ StatesStart v n
 
-pub record States (s : List ℕ) (value : Maybe) (r : Frame) : Type 0 where
+pub record States (s : List ℕ) (value : rust.Option Range) (r : Frame) : Type 0 where
   pub says : (o : Option (Text ℕ)) → MaybeIs s o value → StateIs (opt (λ (t : Text ℕ). t.read) o) r
 
 -- one qualifier only is a codon_start, and states the start n
@@ -76,7 +77,7 @@ FrameIs l Unstated = NoStart l
 FrameIs l (Stated n) = OneStart l n
 FrameIs l Wrong = (¬ NoStart l) × ((n : ℕ) → ¬ OneStart l n)
 
-pub record Frames (s : List ℕ) (frame : Frame) (number : ℕ) (value : Maybe) (r : Frame) : Type 0 where
+pub record Frames (s : List ℕ) (frame : Frame) (number : ℕ) (value : rust.Option Range) (r : Frame) : Type 0 where
   pub says : (q : Qualifier ℕ) → Shown s number value q → (l : List (Qualifier ℕ)) → FrameIs l frame → FrameIs (l ++ (q ∷ [])) r
 
 -- ---- unjudged
@@ -96,11 +97,11 @@ OtherCode q = Named "transl_table" q × (¬ (value_read q ≡ some (bytes "1")))
 abbrev pub HasExcepted : List (Qualifier ℕ) → Type 0
 HasExcepted l = (q : Qualifier ℕ) × q ∈ l × (Excepted q.name.read ⊎ OtherCode q)
 
-pub record Excepts (s : List ℕ) (excepted : Bool) (number : ℕ) (value : Maybe) (r : Bool) : Type 0 where
+pub record Excepts (s : List ℕ) (excepted : Bool) (number : ℕ) (value : rust.Option Range) (r : Bool) : Type 0 where
   pub says : (q : Qualifier ℕ) → Shown s number value q → (l : List (Qualifier ℕ)) → Tells excepted (HasExcepted l) → Tells r (HasExcepted (l ++ (q ∷ [])))
 
 -- for its qualifiers or its location
-pub record LeavesOut (excepted : Bool) (verdict : Judgement) (r : Bool) : Type 0 where
+pub record LeavesOut (excepted : Bool) (verdict : rust.Option Facts) (r : Bool) : Type 0 where
   pub says : (n : ℕ) (f : Feature ℕ) → Tells excepted (HasExcepted (qualifiers_of f)) → JudgedText n f.location.read verdict → Tells r (Unjudged f)
 
 -- ---- rule 22
@@ -126,9 +127,10 @@ Untranslated l = (q : Qualifier ℕ) → q ∈ l → ¬ Named "translation" q
 abbrev pub translation_number : ℕ
 translation_number = 79
 
--- whether a translation was met, after one qualifier more
-pub record Meets (met : Bool) (number : ℕ) (r : Bool) : Type 0 where
-  pub says : Tells r ((met ≡ true) ⊎ (number ≡ translation_number))
+-- where the first translation stands that was met, after a qualifier more, which stands at a place
+abbrev pub met_at : rust.Option ℕ → ℕ → ℕ → rust.Option ℕ
+met_at (rust.Some p) number place = rust.Some p
+met_at rust.None number place = cond (number == translation_number) (rust.Some place) rust.None
 
 -- of the qualifiers l, which end at e, those before `rest` are no translations
 pub record RestIs (s : List ℕ) (rest : ℕ) (l : List (Qualifier ℕ)) (e : ℕ) : Type 0 where
@@ -154,7 +156,7 @@ HasStanding st how l = (q : Qualifier ℕ) × q ∈ l × (st q.name.read ≡ how
 
 -- what the names of the qualifiers l say, where they stand so
 pub record WordedBy (st : List ℕ → ℕ) (words : Worded) (l : List (Qualifier ℕ)) : Type 0 where
-  pub foreign : Firsts (Some (Foreign st) l) words.foreign
+  pub foreign : Firsts (InSome (Foreign st) l) words.foreign
   pub first : Tells words.first (HasStanding st 2 l)
   pub second : Tells words.second (HasStanding st 3 l)
 

@@ -4,20 +4,21 @@
 // number. Relies on the walk along the qualifiers, the values, the vocabulary and the judged location; it reads no residue.
 #![tactic(auto)]
 
-ghost use Rattle.std.specs.Prelude.{◌≡◌, ◌||◌, cond};
+ghost use Rattle.std.specs.Prelude.{◌≡◌, ◌==◌, cond};
 ghost use Rattle.value_vocabulary.specs.Tables.{VocabularyTable};
-ghost use Rattle.judge_qualifiers.specs.Qualifiers.{ValueIs, OfName, States, Frames, Excepted, Excepts, IsOrganism, IsMolType, Meets, WithWord, Notes, LeavesOut};
+ghost use Rattle.judge_qualifiers.specs.Qualifiers.{ValueIs, OfName, States, Frames, Excepted, Excepts, met_at, WithWord, Notes, LeavesOut};
 ghost use Rattle.judge_qualifiers.specs.Starts.{NamesCoding, StartsAt};
 
 use judge_faults::{Fault, earlier, more_of_two};
-use location_judge::judging::Judgement;
+use location_judge::judging::Facts;
+use paper::Refused;
 use read_steps::bytes_of;
 use value_vocabulary::{name_of, standing};
 use value_words::{Molecule, same};
 use walk_items::FoundQualifier;
-use walk_steps::Maybe;
+use walk_steps::Range;
 
-// The numbers of the names that are asked for, in the vocabulary.
+// The numbers of the names that are asked for: their places in the vocabulary's table.
 const CODON_START: usize = 9;
 
 const EXCEPTION: usize = 19;
@@ -45,31 +46,25 @@ pub fn is_coding(key: &[u8], kind: Molecule) -> bool
     ensures { NamesCoding key.now kind result }
 {
     match kind {
-        Molecule::Dna => same(key, b"CDS"),
-        Molecule::Rna => same(key, b"CDS"),
-        Molecule::Aa => false,
-        Molecule::Other => false,
+        Molecule::Dna | Molecule::Rna => same(key, b"CDS"),
+        Molecule::Aa | Molecule::Other => false,
     }
 }
 
 // ---- what the qualifiers say
 
 // Whether a value is there and is x, which is written as it reads.
-fn value_is(s: &[u8], value: Maybe, x: &[u8]) -> bool
+fn value_is(s: &[u8], value: Option<Range>, x: &[u8]) -> bool
     ensures { ValueIs s.now value x.now result }
 {
     match value {
-        Maybe::Absent => {
-            return false;
-        }
-        Maybe::Present(p) => {
-            let w = bytes_of(s, p.from, p.to);
-            return same(w, x);
-        }
+        None => false,
+        Some(p) => same(bytes_of(s, p.from, p.to), x),
     }
 }
 
-// Where translation starts: no codon_start was seen, or one, of the value 1, 2 or 3; else rule 27 is broken.
+// Where translation starts: no codon_start was seen, or one, of the value 1, 2 or 3; else rule 27 is broken. These are three cases, so it
+// is no Option and no Result.
 #[derive(Clone, Copy)]
 pub enum Frame {
     Unstated,
@@ -78,7 +73,7 @@ pub enum Frame {
 }
 
 // What one codon_start of this value states.
-fn stated(s: &[u8], value: Maybe) -> Frame
+fn stated(s: &[u8], value: Option<Range>) -> Frame
     ensures { States s.now value result }
 {
     if value_is(s, value, b"1") {
@@ -94,22 +89,15 @@ fn stated(s: &[u8], value: Maybe) -> Frame
 }
 
 // The frame, after one qualifier more, of the name of this number.
-fn frame_with(s: &[u8], frame: Frame, name: usize, value: Maybe) -> Frame
+fn frame_with(s: &[u8], frame: Frame, name: usize, value: Option<Range>) -> Frame
     ensures { Frames s.now frame name value result }
 {
     if name != CODON_START {
         return frame;
     }
     match frame {
-        Frame::Unstated => {
-            return stated(s, value);
-        }
-        Frame::Stated(_) => {
-            return Frame::Wrong;
-        }
-        Frame::Wrong => {
-            return Frame::Wrong;
-        }
+        Frame::Unstated => stated(s, value),
+        Frame::Stated(_) | Frame::Wrong => Frame::Wrong,
     }
 }
 
@@ -118,80 +106,35 @@ fn frame_with(s: &[u8], frame: Frame, name: usize, value: Maybe) -> Frame
 fn is_excepted(name: usize) -> bool
     ensures { OfName name Excepted result }
 {
-    if name == TRANSL_EXCEPT {
-        return true;
-    }
-    if name == EXCEPTION {
-        return true;
-    }
-    if name == PSEUDO {
-        return true;
-    }
-    if name == PSEUDOGENE {
-        return true;
-    }
-    false
+    name == TRANSL_EXCEPT || name == EXCEPTION || name == PSEUDO || name == PSEUDOGENE
 }
 
 // Whether some qualifier leaves the region unjudged, after one more.
-fn excepted_with(s: &[u8], excepted: bool, name: usize, value: Maybe) -> bool
+fn excepted_with(s: &[u8], excepted: bool, name: usize, value: Option<Range>) -> bool
     ensures { Excepts s.now excepted name value result }
 {
-    if excepted {
-        return true;
-    }
-    if is_excepted(name) {
-        return true;
-    }
-    if name != TRANSL_TABLE {
-        return false;
-    }
-    !value_is(s, value, b"1")
+    excepted || is_excepted(name) || (name == TRANSL_TABLE && !value_is(s, value, b"1"))
 }
 
 // ---- rule 22
 
-fn is_organism(name: usize, upper: bool) -> bool
-    ensures { OfName name (IsOrganism upper) result }
+// Whether a name has the number that is asked for: that of its form in upper case, or in lower case.
+fn is_name(name: usize, upper: bool, in_lower: usize, in_upper: usize) -> bool
+    ensures { result ≡ (name == cond upper in_upper in_lower) }
 {
-    if upper {
-        return name == UPPER_ORGANISM;
-    }
-    name == ORGANISM
-}
-
-fn is_moltype(name: usize, upper: bool) -> bool
-    ensures { OfName name (IsMolType upper) result }
-{
-    if upper {
-        return name == UPPER_MOL_TYPE;
-    }
-    name == MOL_TYPE
+    name == if upper { in_upper } else { in_lower }
 }
 
 // ---- rule 28
 
-// Whether a translation was met, after one qualifier more.
-fn met_with(met: bool, name: usize) -> bool
-    ensures { Meets met name result }
+// Where the first translation stands that was met, after one qualifier more, which stands at this place.
+fn met_with(met: Option<usize>, name: usize, place: usize) -> Option<usize>
+    ensures { result ≡ met_at met name place }
 {
-    if met {
-        return true;
-    }
     if name == TRANSLATION {
-        return true;
+        return met.or(Some(place));
     }
-    false
-}
-
-// The place kept once a translation was met, and the next one before.
-fn kept(met: bool, rest: usize, next: usize) -> usize
-    ensures { result ≡ cond met rest next }
-{
-    if met {
-        return rest;
-    }
-    next
+    met
 }
 
 // ---- rules 41 and 42
@@ -204,36 +147,22 @@ pub struct Worded {
     pub second: bool,
 }
 
-fn either(a: bool, b: bool) -> bool
-    ensures { result ≡ (a || b) }
-{
-    if a {
-        return true;
-    }
-    b
-}
-
-// The same, after one name more, which stands so in the key's row. The one branch is seldom taken.
+// The same, after one name more, which stands so in the key's row. The one branch is seldom taken, and `|`
+// makes none.
 #[tactic(auto, using(crate::proofs::Words::word_foreign))]
 fn with_word(a: Worded, how: usize, place: usize) -> Worded
     ensures { WithWord how place a result }
 {
-    let Worded {
-        foreign,
-        first,
-        second,
-    } = a;
     if how == 0 {
         return Worded {
-            foreign: earlier(foreign, Fault::At { rule: 41, place }),
-            first,
-            second,
+            foreign: earlier(a.foreign, Some(Refused { rule: 41, place })),
+            ..a
         };
     }
     Worded {
-        foreign,
-        first: either(first, how == 2),
-        second: either(second, how == 3),
+        first: a.first | (how == 2),
+        second: a.second | (how == 3),
+        ..a
     }
 }
 
@@ -262,63 +191,48 @@ pub fn note(s: &[u8], first: usize, upper: bool, row: usize, vocabulary: &[u8; 3
     let mut organisms: usize = 0;
     let mut moltypes: usize = 0;
     let mut words = Worded {
-        foreign: Fault::Clean,
+        foreign: None,
         first: false,
         second: false,
     };
-    let mut met = false;
-    let mut rest = first;
-    loop {
-        if walk_steps::child_here(s, at) {
-            let FoundQualifier { name, value, next } = walk_items::qualifier(s, at);
-            if next <= at {
-                return Noted {
-                    frame,
-                    excepted,
-                    organisms,
-                    moltypes,
-                    words,
-                    rest,
-                    next: at,
-                };
-            }
-            let number = name_of(bytes_of(s, name.from, name.to), vocabulary);
-            organisms = more_of_two(organisms, is_organism(number, upper));
-            moltypes = more_of_two(moltypes, is_moltype(number, upper));
-            frame = frame_with(s, frame, number, value);
-            excepted = excepted_with(s, excepted, number, value);
-            words = with_word(words, standing(row, number, vocabulary), name.from);
-            met = met_with(met, number);
-            rest = kept(met, rest, next);
-            at = next;
-        } else {
-            return Noted {
-                frame,
-                excepted,
-                organisms,
-                moltypes,
-                words,
-                rest,
-                next: at,
-            };
+    let mut met = None;
+    // Only a qualifier says where the next one starts, so this is a while. One that stands is not empty: the test is there so that the
+    // loop ends, whatever the bytes are.
+    while walk_steps::child_here(s, at) {
+        let FoundQualifier { name, value, next } = walk_items::qualifier(s, at);
+        if next <= at {
+            break;
         }
+        let number = name_of(bytes_of(s, name.from, name.to), vocabulary);
+        organisms = more_of_two(organisms, is_name(number, upper, ORGANISM, UPPER_ORGANISM));
+        moltypes = more_of_two(moltypes, is_name(number, upper, MOL_TYPE, UPPER_MOL_TYPE));
+        frame = frame_with(s, frame, number, value);
+        excepted = excepted_with(s, excepted, number, value);
+        words = with_word(words, standing(row, number, vocabulary), name.from);
+        met = met_with(met, number, at);
+        at = next;
+    }
+    Noted {
+        frame,
+        excepted,
+        organisms,
+        moltypes,
+        words,
+        rest: met.unwrap_or(at),
+        next: at,
     }
 }
 
 // Whether the region is unjudged, for its qualifiers or for its location.
-pub fn is_unjudged(excepted: bool, verdict: Judgement) -> bool
+pub fn is_unjudged(excepted: bool, verdict: Option<Facts>) -> bool
     ensures { LeavesOut excepted verdict result }
 {
     if excepted {
         return true;
     }
     match verdict {
-        Judgement::Bad => {
-            return false;
-        }
-        Judgement::Is(f) => {
-            return f.unjudged;
-        }
+        None => false,
+        Some(f) => f.unjudged,
     }
 }
 
@@ -327,9 +241,8 @@ pub fn start_of(frame: Frame) -> usize
     ensures { StartsAt frame result }
 {
     match frame {
-        Frame::Unstated => 1,
         Frame::Stated(n) => n,
-        // Rule 27 is broken.
-        Frame::Wrong => 1,
+        // Where it's wrong rule 27 is broken.
+        Frame::Unstated | Frame::Wrong => 1,
     }
 }

@@ -1,4 +1,6 @@
 -- One sequence, from its texts and its table.
+use Rattle.std.specs.Prelude.{None, Some, is_some}
+use Rattle.std.specs.Prelude as rust
 use Prim.Native.Nat.{ℕ}
 use native.Mathlib.Omega.{arith}
 use mathlib.Core.Path.{◌≡◌, refl, sym, ap, ◌∙◌, subst}
@@ -8,10 +10,9 @@ use mathlib.Core.List.{List}
 use mathlib.Core.Option.{Option, none, some}
 use lib.ListN.{length}
 use Rattle.paper.specs.Lists.{Count, end}
-use Rattle.paper.specs.Tree.{Sequence, Table, features_in}
+use Rattle.paper.specs.Tree.{Sequence, Table, features_in, features_of}
 use Rattle.paper.specs.Values.{Number}
 use Rattle.paper.specs.Rules.{Skipped, InTexts, InTable, InSequence, rule_15, rule_29, texts, table, Empty}
-use Rattle.judge_faults.specs.declared.Fault.{Fault}
 use Rattle.judge_faults.proofs.Parts.{◌or◌}
 use Rattle.walk_steps.specs.Stands.{is_there}
 use Rattle.walk_items.specs.Items.{MeetsSequence, TableIs}
@@ -19,24 +20,26 @@ use Rattle.walk_items.specs.declared.FoundSequence.{FoundSequence}
 use Rattle.walk_items.specs.declared.FoundTable.{FoundTable}
 use Rattle.value_words.specs.Reading.{Tells}
 use Rattle.value_words.proofs.Tests.{told}
-use Rattle.judge_faults.specs.Sets.{Earlier, Firsts, Bad, unless_of}
+use Rattle.judge_faults.specs.Sets.{Fault, Earlier, Firsts, Bad, unless_of}
 use Rattle.judge_faults.specs.declared.Known.{Known}
 use Rattle.judge_faults.proofs.Faults.{firsts_or, firsts_as, firsts_unless}
 use Rattle.judge_texts.specs.Texts.{KnowsOf, JudgesNumber, TellsSkipped, TellsEmpty, JudgesTexts}
-use Rattle.judge_features.specs.Featured.{JudgesTable, JudgedIn, UnjudgedIn}
+use Rattle.judge_features.specs.Featured.{JudgesTable, CountedIn, JudgedIn, UnjudgedIn}
 use Rattle.judge_features.specs.declared.Tabled.{Tabled}
-use Rattle.judge_sequences.specs.Sequences.{CountedIn, JudgesSequence}
+use Rattle.judge_sequences.specs.Sequences.{JudgesSequence}
 
 -- what a walk says of a table is whether it is there
-table_told : (s : List ℕ) (o : Option (Table ℕ)) (t : FoundTable) → TableIs s o t → t.present ≡ is_there o
-table_told s none t i = i
-table_told s (some x) t i = i.0
+table_told : (s : List ℕ) (o : Option (Table ℕ)) (t : rust.Option FoundTable) → TableIs s o t → is_some t ≡ is_there o
+table_told s none None i = refl
+table_told s none (Some t) i = absurd i
+table_told s (some x) None i = absurd i
+table_told s (some x) (Some t) i = refl
 
 module _ {s : List ℕ} {at k : ℕ} {x : FoundSequence} {a : Fault} {skip : Bool} (finds : MeetsSequence s at x) (jn : JudgesNumber s x.number k a)
     (ts : TellsSkipped s x.residues skip) where
-  pub skipped_one : {ok : Bool} {b : Fault} (r : Fault) → skip ≡ true → TellsEmpty x.declared x.moltype x.division x.ids x.table.present ok
+  pub skipped_one : {ok : Bool} {b : Fault} (r : Fault) → skip ≡ true → TellsEmpty x.declared x.moltype x.division x.ids (is_some x.table) ok
       → b ≡ unless_of ok 29 x.residues.from → Earlier a b r
-      → JudgesSequence s at k (record { fault = r; skipped = true; features = 0; judged = 0; unjudged = 0; next = x.next })
+      → JudgesSequence s at k (record { fault = r; skipped = true; counts = record { features = 0; judged = 0; unjudged = 0 }; next = x.next })
   skipped_one {ok} {b} r h te eb el =
       record {
         says =
@@ -54,9 +57,7 @@ module _ {s : List ℕ} {at k : ℕ} {x : FoundSequence} {a : Fault} {skip : Boo
               counted = λ clean. empty_counts q ok (te.says s q y.declared y.moltype y.division y.ids (table_told s q.table x.table y.table)) (λ n'. clean 29 q.residues.place (rule_29 sk n'));
               next = y.next;
             };
-        features_below = omega arith;
-        judged_below = omega arith;
-        unjudged_below = omega arith;
+        below = record { features = omega arith; judged = omega arith; unjudged = omega arith };
       }
     where
       to : (q : Sequence ℕ) → Skipped q → (n p : ℕ) → ◌or◌ (Bad 15 q.number.place (Number k q.number.read)) (Bad 29 q.residues.place (Empty q)) n p → InSequence k q n p
@@ -70,15 +71,15 @@ module _ {s : List ℕ} {at k : ℕ} {x : FoundSequence} {a : Fault} {skip : Boo
       of q sk n p (rule_29 u z) = inr (refl, refl, z)
 
       -- a skipped sequence that keeps rule 29 has no features
-      empty_counts : (q : Sequence ℕ) (o : Bool) → Tells o (Empty q) → ¬ (¬ Empty q) → CountedIn q 0 0 0
+      empty_counts : (q : Sequence ℕ) (o : Bool) → Tells o (Empty q) → ¬ (¬ Empty q) → CountedIn q (features_of q) (record { features = 0; judged = 0; unjudged = 0 })
       empty_counts q true t n =
           let c = subst (λ (y : Option (Table ℕ)). (0 ≡ length (features_in y)) × Count (JudgedIn q) (features_in y) 0 × Count (UnjudgedIn q) (features_in y) 0) (sym t.4) (refl, end, end) in
-          record { features_are = c.0; judged_are = c.1; unjudged_are = c.2 }
+          record { features = c.0; judged = c.1; unjudged = c.2 }
       empty_counts q false t n = absurd (n t)
 
   pub judged_one : {known : Known} {b : Fault} {y : Tabled} (d r : Fault) → skip ≡ false → KnowsOf s x.moltype x.residues known
       → JudgesTexts s x.declared x.moltype x.division known b → JudgesTable s x.table known y → Earlier a b d → Earlier d y.fault r
-      → JudgesSequence s at k (record { fault = r; skipped = false; features = y.features; judged = y.judged; unjudged = y.unjudged; next = x.next })
+      → JudgesSequence s at k (record { fault = r; skipped = false; counts = y.counts; next = x.next })
   judged_one {known} {b} {y} d r h kn jt jb e1 e2 =
       record {
         says =
@@ -93,12 +94,10 @@ module _ {s : List ℕ} {at k : ℕ} {x : FoundSequence} {a : Fault} {skip : Boo
                   firsts_as (◌or◌ (◌or◌ A (InTexts q)) (InTable q)) (InSequence k q) (to q u) (of q u)
                   (firsts_or (◌or◌ A (InTexts q)) (InTable q) (firsts_or A (InTexts q) (jn.says q.number z.number) (jt.says q z.declared z.moltype z.division kw) e1) tb.fault e2);
               skipped = u;
-              counted = λ clean. record { features_are = tb.features; judged_are = tb.judged; unjudged_are = tb.unjudged };
+              counted = λ clean. tb.counts;
               next = z.next;
             };
-        features_below = jb.features_below;
-        judged_below = jb.judged_below;
-        unjudged_below = jb.unjudged_below;
+        below = jb.below;
       }
     where
       to : (q : Sequence ℕ) → ¬ Skipped q → (n p : ℕ) → ◌or◌ (◌or◌ (Bad 15 q.number.place (Number k q.number.read)) (InTexts q)) (InTable q) n p → InSequence k q n p

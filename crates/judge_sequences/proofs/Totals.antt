@@ -16,11 +16,12 @@ use Rattle.read_steps.specs.Follow.{Not, closing}
 use Rattle.walk_steps.specs.Stands.{Over, TellsChild}
 use Rattle.walk_items.proofs.Sequences.{sequence_leads}
 use Rattle.value_words.specs.Reading.{Tells}
-use Rattle.judge_faults.specs.Sets.{Firsts, Some}
+use Rattle.judge_faults.specs.Sets.{Firsts, InSome}
 use Rattle.judge_faults.proofs.Faults.{some_none, some_more, nth_front, nth_last}
 use Rattle.judge_faults.proofs.Seen.{Seen, seen_none, seen_next, seen_stuck, seen_all, count_has, count_lacks}
-use Rattle.judge_features.specs.Featured.{JudgedIn, UnjudgedIn}
-use Rattle.judge_sequences.specs.Sequences.{nothing_yet, Plus, one_if, Adds, CountedIn, IsOne, JudgesSequence, every, CountedAll, Totalled, JudgesSequences}
+use Rattle.judge_features.specs.Featured.{CountedIn, JudgedIn, UnjudgedIn}
+use Rattle.judge_features.specs.declared.FeatureCounts.{FeatureCounts}
+use Rattle.judge_sequences.specs.Sequences.{nothing_yet, Plus, one_if, Adds, IsOne, JudgesSequence, every, CountedAll, Totalled, JudgesSequences}
 use Rattle.judge_sequences.specs.declared.One.{One}
 use Rattle.judge_sequences.specs.declared.Total.{Total}
 
@@ -39,15 +40,15 @@ every_more : (l : List (Sequence ℕ)) (q : Sequence ℕ) → every (l ++ (q ∷
 every_more [] q = append-nil (own q)
 every_more (x ∷ l) q = ap (λ (k : List (Sequence ℕ × Feature ℕ)). own x ++ k) (every_more l q) ∙ sym (append_assoc (own x) (every l) (own q))
 
-all_more : (l : List (Sequence ℕ)) (q : Sequence ℕ) {f j u f' j' u' f'' j'' u'' : ℕ} → CountedAll l f j u → CountedIn q f' j' u' → f'' ≡ f + f' → j'' ≡ j + j' → u'' ≡ u + u'
+all_more : (l : List (Sequence ℕ)) (q : Sequence ℕ) {f j u f'' j'' u'' : ℕ} {x : FeatureCounts} → CountedAll l f j u → CountedIn q (features_of q) x → f'' ≡ f + x.features → j'' ≡ j + x.judged → u'' ≡ u + x.unjudged
     → CountedAll (l ++ (q ∷ [])) f'' j'' u''
-all_more l q {f} {j} {u} {f'} {j'} {u'} {f''} {j''} {u''} c d ef ej eu =
+all_more l q {f} {j} {u} {f''} {j''} {u''} {x} c d ef ej eu =
     let P = Sequence ℕ × Feature ℕ in
     let pair : Feature ℕ → P = λ g. (q, g) in
-    let oj : Count JudgedCds (own q) j' = count_map pair (JudgedIn q) JudgedCds (λ g h. h) (λ g h. h) d.judged_are in
-    let ou : Count UnjudgedCds (own q) u' = count_map pair (UnjudgedIn q) UnjudgedCds (λ g h. h) (λ g h. h) d.unjudged_are in
+    let oj : Count JudgedCds (own q) x.judged = count_map pair (JudgedIn q) JudgedCds (λ g h. h) (λ g h. h) d.judged in
+    let ou : Count UnjudgedCds (own q) x.unjudged = count_map pair (UnjudgedIn q) UnjudgedCds (λ g h. h) (λ g h. h) d.unjudged in
     record {
-      features_are = omega (arith, ef, c.features_are, d.features_are, length-append (every l) (own q), length-map pair (features_of q), ap length (every_more l q));
+      features_are = omega (arith, ef, c.features_are, d.features, length-append (every l) (own q), length-map pair (features_of q), ap length (every_more l q));
       judged_are = subst (λ (k : List P). Count JudgedCds k j'') (sym (every_more l q)) (subst (Count JudgedCds (every l ++ own q)) (sym ej) (count_append c.judged_are oj));
       unjudged_are = subst (λ (k : List P). Count UnjudgedCds k u'') (sym (every_more l q)) (subst (Count UnjudgedCds (every l ++ own q)) (sym eu) (count_append c.unjudged_are ou));
     }
@@ -76,14 +77,14 @@ one_below true = omega arith
 one_below false = omega arith
 
 -- what is broken in a beginning is broken in the whole
-some_front : (l : List (Sequence ℕ)) (q : Sequence ℕ) (n p : ℕ) → Some InSequence l n p → Some InSequence (l ++ (q ∷ [])) n p
+some_front : (l : List (Sequence ℕ)) (q : Sequence ℕ) (n p : ℕ) → InSome InSequence l n p → InSome InSequence (l ++ (q ∷ [])) n p
 some_front l q n p x = (x.0, x.1, (x.2.0, x.2.1, nth_front l (q ∷ []) x.2.0 x.1 x.2.2), x.3)
 
-some_last : (l : List (Sequence ℕ)) (q : Sequence ℕ) (n p : ℕ) → InSequence (suc (length l)) q n p → Some InSequence (l ++ (q ∷ [])) n p
+some_last : (l : List (Sequence ℕ)) (q : Sequence ℕ) (n p : ℕ) → InSequence (suc (length l)) q n p → InSome InSequence (l ++ (q ∷ [])) n p
 some_last l q n p x = (suc (length l), q, (length l, refl, nth_last l q), x)
 
-pub total_more : (l : List (Sequence ℕ)) (q : Sequence ℕ) {e k : ℕ} {a r : Total} {x : One} → Adds a x r → k ≡ a.total + 1 → IsOne k q e x → Totalled l a
-    → a.total ≤ limit → x.features ≤ limit → x.judged ≤ limit → x.unjudged ≤ limit → Totalled (l ++ (q ∷ [])) r
+pub total_more : (l : List (Sequence ℕ)) (q : Sequence ℕ) {e k : ℕ} {a r : Total} {x : One} → Adds a x r → k ≡ a.figures.total + 1 → IsOne k q e x → Totalled l a
+    → a.figures.total ≤ limit → x.counts.features ≤ limit → x.counts.judged ≤ limit → x.counts.unjudged ≤ limit → Totalled (l ++ (q ∷ [])) r
 total_more l q {k = k} {a} {r} {x} ad ek y t bt bf bj bu =
     let et = ad.total.is (omega (arith, bt)) in
     let es = ad.skipped.is (omega (arith, bt, t.skipped_below, one_below x.skipped)) in
@@ -111,7 +112,7 @@ total_more l q {k = k} {a} {r} {x} ad ek y t bt bf bj bu =
 -- what has been seen of the sequences is added up
 pub record Adding (s : List ℕ) (first at : ℕ) (a : Total) : Type 0 where
   pub seen : length s ≤ limit → Seen (child sequence) closing s first at (λ (l : List (Sequence ℕ)). Totalled l a)
-  pub below : length s ≤ limit → a.total ≤ at
+  pub below : length s ≤ limit → a.figures.total ≤ at
 
 pub adding_none : {s : List ℕ} {first : ℕ} {a : Total} → a ≡ nothing_yet → Adding s first first a
 adding_none {s} {first} e =
@@ -125,7 +126,7 @@ judged_over j short = record { is = λ q e d fol. (j.says q e short d fol).next 
 
 module _ {s : List ℕ} {first at k : ℕ} {a : Total} {x : One} {t : Bool} (h : t ≡ true) (here : TellsChild s at t) (w : Adding s first at a)
     (j : JudgesSequence s at k x) where
-  pub adding_more : {r : Total} → at < length s → at < x.next → Plus a.total 1 k → Adds a x r → Adding s first x.next r
+  pub adding_more : {r : Total} → at < length s → at < x.next → Plus a.figures.total 1 k → Adds a x r → Adding s first x.next r
   adding_more {r} inside onward pk ad =
       record {
         seen =
@@ -134,8 +135,8 @@ module _ {s : List ℕ} {first at k : ℕ} {a : Total} {x : One} {t : Bool} (h :
             let ek = pk.is (omega (arith, bt, inside, short)) in
             seen_next (bytes "SequenceData") (child sequence) sequence_leads closing (record { clash = refl; sharps = refl })
             (λ (l : List (Sequence ℕ)). Totalled l a) (λ (l : List (Sequence ℕ)). Totalled l r) h (here.tells (bytes "SequenceData") refl) (w.seen short) (judged_over j short)
-            (λ done q e d fol y. total_more done q ad ek (j.says q e short d fol) y (omega (arith, bt, inside, short)) (omega (arith, j.features_below, short)) (omega (arith, j.judged_below, short))
-            (omega (arith, j.unjudged_below, short)));
+            (λ done q e d fol y. total_more done q ad ek (j.says q e short d fol) y (omega (arith, bt, inside, short)) (omega (arith, j.below.features, short)) (omega (arith, j.below.judged, short))
+            (omega (arith, j.below.unjudged, short)));
         below = λ short. omega (arith, onward, w.below short, ad.total.is (omega (arith, w.below short, inside, short)));
       }
 

@@ -8,13 +8,12 @@ use mathlib.Core.List.{List}
 use Rattle.paper.specs.Lists.{Count}
 use Rattle.paper.specs.Tree.{Sequence, Feature, Qualifier, qualifiers_of}
 use Rattle.paper.specs.Rules.{L, Named, organism_name, mol_type_name, Whole, InSource, rule_22, rule_23}
-use Rattle.judge_faults.specs.declared.Fault.{Fault}
 use Rattle.paper.proofs.Lists.{count_once}
 use Rattle.judge_faults.proofs.Parts.{◌or◌}
 use Rattle.read_steps.specs.Parts.{ShowsBytes}
 use Rattle.value_words.specs.Reading.{Tells, OfRead}
 use Rattle.walk_steps.specs.declared.Range.{Range}
-use Rattle.judge_faults.specs.Sets.{Earlier, Firsts, Bad, Faults, unless_of}
+use Rattle.judge_faults.specs.Sets.{Fault, Earlier, Firsts, Bad, Faults, unless_of}
 use Rattle.judge_faults.specs.declared.Known.{Known}
 use Rattle.judge_faults.proofs.Counters.{capped_one, one_capped}
 use Rattle.judge_faults.proofs.Faults.{firsts_or, firsts_as, firsts_unless}

@@ -2,11 +2,10 @@
 use Rattle.std.specs.Prelude.{ℕ, ◌≡◌, Bool, List}
 use Rattle.paper.specs.Tree.{Sequence, Feature, qualifiers_of}
 use Rattle.paper.specs.Rules.{InSource}
-use Rattle.judge_faults.specs.declared.Fault.{Fault}
 use Rattle.walk_steps.specs.Stands.{IsPart}
 use Rattle.walk_steps.specs.declared.Range.{Range}
 use Rattle.value_words.specs.Reading.{Tells}
-use Rattle.judge_faults.specs.Sets.{Firsts}
+use Rattle.judge_faults.specs.Sets.{Fault, Firsts}
 use Rattle.judge_faults.specs.Known.{Knows}
 use Rattle.judge_faults.specs.declared.Known.{Known}
 use Rattle.judge_qualifiers.specs.Qualifiers.{IsNoted}

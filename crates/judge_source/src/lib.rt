@@ -5,24 +5,20 @@ ghost use Rattle.judge_source.specs.Sources.{TellsOnce, JudgesSource};
 
 use judge_faults::{Fault, Known};
 use judge_qualifiers::Noted;
-use walk_steps::Range;
+use walk_items::FoundFeature;
 
 fn is_once(organisms: usize, moltypes: usize) -> bool
     ensures { TellsOnce organisms moltypes result }
 {
-    if organisms == 1 {
-        if moltypes == 1 {
-            return true;
-        }
-    }
-    false
+    organisms == 1 && moltypes == 1
 }
 
-// The first fault of the source. `key` is the place of the feature's key, `noted` what its qualifiers say.
-pub fn judge_source(s: &[u8], key: usize, location: Range, noted: Noted, known: Known) -> Fault
-    ensures { JudgesSource s.now key location noted known result }
+// The first fault of the source. `noted` is what its qualifiers say.
+pub fn judge_source(s: &[u8], feature: &FoundFeature, noted: Noted, known: Known) -> Fault
+    ensures { JudgesSource s.now feature.now.key.from feature.now.location noted known result }
 {
-    let a = judge_faults::unless(is_once(noted.organisms, noted.moltypes), 22, key);
+    let FoundFeature { key, location, .. } = *feature;
+    let a = judge_faults::unless(is_once(noted.organisms, noted.moltypes), 22, key.from);
     let whole = value_words::is_whole(
         read_steps::bytes_of(s, location.from, location.to),
         known.top as usize,

@@ -7,7 +7,6 @@ use Rattle.paper.specs.Rules.{Kind, is_symbol}
 use Rattle.read_steps.specs.Parts.{ShowsBytes}
 use Rattle.value_words.specs.Reading.{Moltypes}
 use Rattle.value_words.specs.declared.Molecule as code
-use Rattle.value_words.specs.declared.Molecule.TheVariants as kind
 use Rattle.value_residues.specs.Residues.{Characters, Symbols, symbol_class}
 use Rattle.value_residues.proofs.Residues.{cut_there}
 use Rattle.walk_steps.specs.Stands.{IsPart}
@@ -35,9 +34,6 @@ scans_by k {r = r} e only h =
       says = λ v z j o. subst (λ (i : Kind). r ≡ length (raw (leading (is_symbol i) v))) (sym (only j o)) (h.says k e v z);
       rest = λ v z. cut_there k v z (h.says k e v z);
     }
-
-pub scans_other : {w : List ℕ} → Scans w kind.Other 0
-scans_other = record { within = omega arith; says = λ v z j o. absurd o; rest = λ v z. (v, z, omega arith) }
 
 pub knows : {s wm wr : List ℕ} {moltype residues : Range} {c : code.Molecule} {n size top foreign : ℕ} → ShowsBytes s moltype.from moltype.to wm → Moltypes wm c
     → ShowsBytes s residues.from residues.to wr → Scans wr c n → LengthOf wr n size → Sized size top → foreign ≡ (residues.from + n) % 18446744073709551616

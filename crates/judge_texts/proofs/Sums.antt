@@ -5,25 +5,23 @@ use Rattle.paper.specs.Lists.{Count}
 use Rattle.paper.specs.Tree.{Sequence}
 use Rattle.paper.specs.Values.{Number}
 use Rattle.paper.specs.Rules.{L, Kind, dna, rna, aa, IsKind, is_symbol, undefined, fewest, InResidues, InTexts, rule_16, rule_17, residues, rule_18, rule_19, rule_20}
-use Rattle.judge_faults.specs.declared.Fault.{Fault}
-use Rattle.judge_faults.specs.declared.Fault.TheVariants.{Clean}
 use Rattle.paper.proofs.Lists.{count_once}
 use Rattle.judge_faults.proofs.Parts.{◌or◌}
 use Rattle.read_steps.specs.Parts.{ShowsBytes}
-use Rattle.value_words.specs.Reading.{Tells, OfRead, KindIs, Names}
+use Rattle.value_words.specs.Reading.{Tells, OfRead, KindIs, Names, is_known}
 use Rattle.value_words.specs.declared.Molecule as code
 use Rattle.value_words.specs.declared.Molecule.TheVariants as kind
 use Rattle.value_words.proofs.Read.{tells_word}
 use Rattle.value_residues.specs.Residues.{HasDefined}
 use Rattle.walk_steps.specs.declared.Range.{Range}
-use Rattle.judge_faults.specs.Sets.{Earlier, Faults, Firsts, Bad, unless_of}
+use Rattle.judge_faults.specs.Sets.{Fault, Earlier, Faults, Firsts, Bad, unless_of}
 use Rattle.judge_faults.specs.declared.Known.{Known}
 use Rattle.judge_faults.proofs.Bytes.{part_shows}
-use Rattle.judge_faults.proofs.Faults.{firsts_or, firsts_as, firsts_none, firsts_unless}
+use Rattle.judge_faults.proofs.Faults.{firsts_or, firsts_as, firsts_unless}
 use Rattle.judge_faults.proofs.Moltypes.{kind_once}
 use Rattle.judge_faults.proofs.Symbols.{symbols_told}
 use Rattle.judge_faults.proofs.Values.{text_fault}
-use Rattle.judge_texts.specs.Texts.{JudgesNumber, TellsSkipped, JudgesSymbols, JudgesResidues, JudgesTexts, names_one}
+use Rattle.judge_texts.specs.Texts.{JudgesNumber, TellsSkipped, JudgesSymbols, JudgesResidues, JudgesTexts}
 
 -- ---- rules 18 and 19
 
@@ -78,13 +76,6 @@ pub residues_of_lem : (k : Kind) {s w : List ℕ} {known : Known} {c : code.Mole
 residues_of_lem k {s} z u f named h j =
     record { says = λ q kn. j.says s q kn (part_shows kn.residues h) k (named q.moltype.read (subst (KindIs q.moltype.read) z kn.kind)) u f }
 
-pub residues_other : {s : List ℕ} {known : Known} → known.kind ≡ kind.Other → JudgesResidues s known Clean
-residues_other e = record { says = λ q kn. firsts_none (InResidues q) (none_of q (subst (KindIs q.moltype.read) e kn.kind)) }
-  where
-    none_of : (q : Sequence ℕ) → ((k : Kind) → ¬ Names q.moltype.read k) → (m a : ℕ) → ¬ InResidues q m a
-    none_of q h m a (rule_18 k i n) = h k i
-    none_of q h m a (rule_19 k i n c l) = h k i
-
 -- ---- the others
 
 pub number_judged : {s w : List ℕ} {number : Range} {k : ℕ} {ok : Bool} {r : Fault} → ShowsBytes s number.from number.to w → OfRead w (Number k) ok
@@ -95,14 +86,14 @@ pub skipped_told : {s w : List ℕ} {residues : Range} (r : Bool) → ShowsBytes
 skipped_told r h t = record { says = λ q i. (tells_word (bytes "000") refl r t).says q.residues.read (part_shows i h) }
 
 -- whether a moltype names a kind
-named_one : (v : List ℕ) (c : code.Molecule) → KindIs v c → Tells (names_one c) ((k : Kind) × Names v k)
+named_one : (v : List ℕ) (c : code.Molecule) → KindIs v c → Tells (is_known c) ((k : Kind) × Names v k)
 named_one v kind.Dna h = (dna, h)
 named_one v kind.Rna h = (rna, h)
 named_one v kind.Aa h = (aa, h)
 named_one v kind.Other h = λ x. h x.0 x.1
 
 pub texts_judged : {s wb wd : List ℕ} {declared moltype division : Range} {known : Known} {one right : Bool} (pat : Bool) {a b c d r : Fault} (e f : Fault)
-    → one ≡ names_one known.kind
+    → one ≡ is_known known.kind
     → ShowsBytes s division.from division.to wb → Tells pat (wb ≡ bytes "PAT")
     → ShowsBytes s declared.from declared.to wd → OfRead wd (Number known.top) right
     → a ≡ unless_of one 16 moltype.from → b ≡ unless_of pat 17 division.from

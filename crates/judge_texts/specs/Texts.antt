@@ -1,18 +1,16 @@
 -- What is promised of the judgement of a sequence's texts.
-use Rattle.std.specs.Prelude.{◌≡◌, ℕ, ◌+◌, ◌≤◌, Bool, true, false, List, [], length, drop}
+use Rattle.std.specs.Prelude.{◌≡◌, ℕ, ◌+◌, ◌≤◌, Bool, List, [], length, drop}
 use Rattle.paper.specs.Bytes.{raw, leading}
 use Rattle.paper.specs.Tree.{Text, Sequence}
 use Rattle.paper.specs.Values.{Number}
 use Rattle.paper.specs.Rules.{Skipped, IsKind, is_symbol, undefined, fewest, InResidues, InTexts, Empty}
 use Rattle.paper.specs.Rules as Rules
 use Rattle.paper.specs.Answers.{limit}
-use Rattle.judge_faults.specs.declared.Fault.{Fault}
 use Rattle.value_words.specs.Reading.{Tells}
 use Rattle.value_words.specs.declared.Molecule.{Molecule}
-use Rattle.value_words.specs.declared.Molecule.TheVariants.{Dna, Rna, Aa, Other}
 use Rattle.walk_steps.specs.Stands.{IsPart, is_there}
 use Rattle.walk_steps.specs.declared.Range.{Range}
-use Rattle.judge_faults.specs.Sets.{Firsts, Bad}
+use Rattle.judge_faults.specs.Sets.{Fault, Firsts, Bad}
 use Rattle.judge_faults.specs.Known.{Knows, CodeOf}
 use Rattle.judge_faults.specs.declared.Known.{Known}
 
@@ -50,12 +48,6 @@ pub record TellsEmpty (declared moltype division : Range) (ids table : Bool) (r 
       → ids ≡ is_there q.other_ids → table ≡ is_there q.table → Tells r (Empty q)
 
 -- ---- rules 16 to 20
-
-abbrev pub names_one : Molecule → Bool
-names_one Dna = true
-names_one Rna = true
-names_one Aa = true
-names_one Other = false
 
 -- rules 18 and 19, by what the kind asks
 pub record JudgesSymbols (w : List ℕ) (known : Known) (none few : ℕ) (r : Fault) : Type 0 where

@@ -2,22 +2,20 @@
 // judgement of its features. Relies on the walk, the values, the residues and what the judge's parts share.
 #![tactic(auto)]
 
-ghost use Rattle.std.specs.Prelude.{◌≡◌, ◌≤◌, length};
+ghost use Rattle.std.specs.Prelude.{◌≤◌, length, is_some};
 ghost use Rattle.value_residues.specs.Residues.{SymbolTable};
-ghost use Rattle.judge_texts.specs.Texts.{Sized, LengthOf, Scans, KnowsOf, JudgesNumber, TellsSkipped, TellsEmpty, TellsBlank, JudgesSymbols, JudgesResidues, JudgesTexts, names_one};
+ghost use Rattle.judge_texts.specs.Texts.{Sized, LengthOf, Scans, KnowsOf, JudgesNumber, TellsSkipped, TellsEmpty, TellsBlank, JudgesSymbols, JudgesResidues, JudgesTexts};
 
 use judge_faults::{Fault, Known};
 use value_words::Molecule;
+use walk_items::FoundSequence;
 use walk_steps::Range;
 
 // A number of residues, as far as 32 bits hold it: more than a listing has.
 fn size_of(n: usize) -> u32
     ensures { Sized n result }
 {
-    if n <= 4_294_967_295 {
-        return n as u32;
-    }
-    0
+    u32::try_from(n).unwrap_or(0)
 }
 
 // How many bytes stand before the first residue that is no symbol of the kind. Of no kind nothing is a symbol.
@@ -26,8 +24,7 @@ fn before_foreign(w: &[u8], kind: Molecule, t: &[u8; 256]) -> usize
     ensures { Scans w.now kind result }
 {
     match kind {
-        Molecule::Dna => value_residues::symbols(w, 1, t),
-        Molecule::Rna => value_residues::symbols(w, 1, t),
+        Molecule::Dna | Molecule::Rna => value_residues::symbols(w, 1, t),
         Molecule::Aa => value_residues::symbols(w, 2, t),
         Molecule::Other => 0,
     }
@@ -78,28 +75,18 @@ pub fn is_skipped(s: &[u8], residues: Range) -> bool
 fn is_blank(p: Range) -> bool
     ensures { TellsBlank p result }
 {
-    if p.from == p.to {
-        return true;
-    }
-    false
+    p.from == p.to
 }
 
-// What rule 29 asks of a skipped sequence. `ids` and `table` say whether those are there.
-pub fn is_empty(declared: Range, moltype: Range, division: Range, ids: bool, table: bool) -> bool
-    ensures { TellsEmpty declared moltype division ids table result }
+// What rule 29 asks of a skipped sequence.
+pub fn is_empty(found: &FoundSequence) -> bool
+    ensures { TellsEmpty found.now.declared found.now.moltype found.now.division found.now.ids (is_some found.now.table) result }
 {
-    if ids {
-        return false;
-    }
-    if table {
-        return false;
-    }
-    if is_blank(declared) {
-        if is_blank(moltype) {
-            return is_blank(division);
-        }
-    }
-    false
+    !found.ids
+        && found.table.is_none()
+        && is_blank(found.declared)
+        && is_blank(found.moltype)
+        && is_blank(found.division)
 }
 
 // Rules 18 and 19 for one kind.
@@ -120,41 +107,28 @@ fn judge_residues(s: &[u8], known: Known) -> Fault
     let kind = known.kind;
     let w = read_steps::bytes_of(s, known.residues.from, known.residues.to);
     match kind {
-        Molecule::Dna => judge_symbols(w, known, b'n', 10),
-        Molecule::Rna => judge_symbols(w, known, b'n', 10),
+        Molecule::Dna | Molecule::Rna => judge_symbols(w, known, b'n', 10),
         Molecule::Aa => judge_symbols(w, known, b'X', 4),
-        Molecule::Other => Fault::Clean,
-    }
-}
-
-fn is_known(kind: Molecule) -> bool
-    ensures { result ≡ names_one kind }
-{
-    match kind {
-        Molecule::Dna => true,
-        Molecule::Rna => true,
-        Molecule::Aa => true,
-        Molecule::Other => false,
+        Molecule::Other => None,
     }
 }
 
 // Rules 16 to 20.
-pub fn judge_texts(
-    s: &[u8],
-    declared: Range,
-    moltype: Range,
-    division: Range,
-    known: Known,
-) -> Fault
-    ensures { JudgesTexts s.now declared moltype division known result }
+pub fn judge_texts(s: &[u8], found: &FoundSequence, known: Known) -> Fault
+    ensures { JudgesTexts s.now found.now.declared found.now.moltype found.now.division known result }
 {
-    let kind = known.kind;
+    let FoundSequence {
+        declared,
+        moltype,
+        division,
+        ..
+    } = *found;
     let pat = value_words::same(read_steps::bytes_of(s, division.from, division.to), b"PAT");
     let right = value_words::is_number(
         read_steps::bytes_of(s, declared.from, declared.to),
         known.top as usize,
     );
-    let named = is_known(kind);
+    let named = known.kind.is_known();
     let a = judge_faults::unless(named, 16, moltype.from);
     let b = judge_faults::unless(pat, 17, division.from);
     let c = judge_residues(s, known);

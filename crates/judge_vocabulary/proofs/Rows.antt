@@ -14,19 +14,18 @@ use Rattle.paper.specs.Rules.{Kind, dna, rna, aa, IsKind, upper_in, CountsAs, Ro
 use Rattle.paper.proofs.Lists.{number_in}
 use Rattle.paper.proofs.Once.{kind_once}
 use Rattle.paper.proofs.Words.{row_once}
-use Rattle.value_words.specs.Reading.{Tells}
+use Rattle.value_words.specs.Reading.{Tells, is_known}
 use Rattle.value_words.specs.declared.Molecule.{Molecule}
 use Rattle.value_words.specs.declared.Molecule.TheVariants as kind
 use Rattle.value_vocabulary.specs.Tables.{standing_in, standing_of, Few, needs_at}
 use Rattle.value_vocabulary.proofs.InRow.{standing_none, standing_some, first_stands, stands_first, second_stands, stands_second}
-use Rattle.judge_faults.specs.Sets.{Faults, Firsts, Some, Earlier, unless_of}
-use Rattle.judge_faults.specs.declared.Fault.{Fault}
-use Rattle.judge_faults.specs.declared.Fault.TheVariants.{Clean, At}
+use Rattle.std.specs.Prelude.{None}
+use Rattle.judge_faults.specs.Sets.{Fault, fault_at, Faults, Firsts, InSome, Earlier, unless_of}
 use Rattle.judge_faults.proofs.Parts.{◌or◌}
 use Rattle.judge_faults.proofs.Faults.{firsts_or, firsts_as, firsts_none}
 use Rattle.judge_qualifiers.specs.Qualifiers.{Foreign, HasStanding, WordedBy}
 use Rattle.judge_qualifiers.specs.declared.Worded.{Worded}
-use Rattle.judge_vocabulary.specs.Words.{HasAll, JudgesRow, is_kind, JudgesWords}
+use Rattle.judge_vocabulary.specs.Words.{HasAll, JudgesRow, JudgesWords}
 
 -- ---- required names
 
@@ -89,7 +88,7 @@ module _ (k : Kind) (q : Sequence ℕ) (f : Feature ℕ) (kind : IsKind k q) whe
   same_kind j i r o = subst (λ (j : Kind). RowOf j f.key.read r) (kind_once q j k i kind) o
 
   -- rule 40 is broken, and the two others aren't judged
-  pub unknown_first : {key : ℕ} → key ≡ f.key.place → ((r : Row) → ¬ RowOf k f.key.read r) → Firsts (InVocabulary q f) (At 40 key)
+  pub unknown_first : {key : ℕ} → key ≡ f.key.place → ((r : Row) → ¬ RowOf k f.key.read r) → Firsts (InVocabulary q f) (fault_at 40 key)
   unknown_first {key} e u =
       record { is = record { broken = subst (InVocabulary q f 40) (sym e) (rule_40 k kind u); least = least } }
     where
@@ -107,13 +106,13 @@ module _ (k : Kind) (q : Sequence ℕ) (f : Feature ℕ) (kind : IsKind k q) whe
     abbrev pub Lack : Type 0
     Lack = Lacks k (qualifiers_of f) r.required
 
-    to : (n p : ℕ) → ◌or◌ (Some (Foreign st) (qualifiers_of f)) (Missing f.key.place Lack) n p → InVocabulary q f n p
+    to : (n p : ℕ) → ◌or◌ (InSome (Foreign st) (qualifiers_of f)) (Missing f.key.place Lack) n p → InVocabulary q f n p
     to n p (inl (i, y, m, (a, b, z))) =
         subst₂ (InVocabulary q f) (sym a) (sym b)
         (rule_41 k kind r row y (number_in (qualifiers_of f) i y m) (λ w c g. standing_none r (counted (upper_in k) y.name.read) z (subst (Allows r) (sym c) g)))
     to n p (inr (a, b, (w, m, h))) = subst₂ (InVocabulary q f) (sym a) (sym b) (rule_42 k kind r row w m h)
 
-    of : (n p : ℕ) → InVocabulary q f n p → ◌or◌ (Some (Foreign st) (qualifiers_of f)) (Missing f.key.place Lack) n p
+    of : (n p : ℕ) → InVocabulary q f n p → ◌or◌ (InSome (Foreign st) (qualifiers_of f)) (Missing f.key.place Lack) n p
     of n p (rule_40 j i h) = absurd (h r (subst (λ (j : Kind). RowOf j f.key.read r) (kind_once q k j kind i) row))
     of n p (rule_41 j i x o y m h) = inl (suc m.0, y, (m.0, refl, m.1), (refl, refl, by (ℕ_discrete (st y.name.read) 0)))
       where
@@ -131,8 +130,8 @@ module _ (k : Kind) (q : Sequence ℕ) (f : Feature ℕ) (kind : IsKind k q) whe
         → WordedBy st words (qualifiers_of f) → HasAll needs words.first words.second met → a ≡ unless_of met 42 key → Earlier words.foreign a b
         → Firsts (InVocabulary q f) b
     known_first {words} {met = met} e few n w all u h =
-        firsts_as (◌or◌ (Some (Foreign st) (qualifiers_of f)) (Missing f.key.place Lack)) (InVocabulary q f) to of
-        (firsts_or (Some (Foreign st) (qualifiers_of f)) (Missing f.key.place Lack) w.foreign (missing_first met told e u) h)
+        firsts_as (◌or◌ (InSome (Foreign st) (qualifiers_of f)) (Missing f.key.place Lack)) (InVocabulary q f) to of
+        (firsts_or (InSome (Foreign st) (qualifiers_of f)) (Missing f.key.place Lack) w.foreign (missing_first met told e u) h)
       where
         optional : List ℕ → ℕ
         optional v = cond (is_one_of r.optional v) 1 0
@@ -149,7 +148,7 @@ module _ (k : Kind) (q : Sequence ℕ) (f : Feature ℕ) (kind : IsKind k q) whe
 -- ---- the calls
 
 module _ {t : List ℕ} {key row : ℕ} {words : Worded} where
-  pub row_unknown : row ≡ 0 → JudgesRow t key row words (At 40 key)
+  pub row_unknown : row ≡ 0 → JudgesRow t key row words (fault_at 40 key)
   row_unknown z = record { says = λ k q f i a. unknown_first k q f i a.at ((a.rows k i).unknown z) }
 
   pub row_known : {met : Bool} {a b : Fault} → ¬ (row ≡ 0) → HasAll (needs_at t row) words.first words.second met → a ≡ unless_of met 42 key
@@ -162,31 +161,16 @@ module _ {t : List ℕ} {key row : ℕ} {words : Worded} where
             known_first k q f i x.0 x.1 a.at x.2.few x.2.needs (a.worded (st k q f i x.0 x.1) x.2.stands) all u h;
       }
 
-module _ {needs : ℕ} {b : Bool} where
-  pub all_none : {a : Bool} → needs ≡ 0 → HasAll needs a b true
-  all_none e = record { says = ((λ h. absurd (omega (arith, e, h))), (λ h. absurd (omega (arith, e, h)))) }
-
-  pub all_one : (a : Bool) → needs ≡ 1 → HasAll needs a b a
-  all_one true e = record { says = ((λ h. refl), (λ h. absurd (omega (arith, e, h)))) }
-  all_one false e = record { says = λ x. true≢false (sym (x.0 (omega (arith, e)))) }
-
-  pub all_lacks : {a : Bool} → ¬ (needs ≡ 0) → a ≡ false → HasAll needs a b false
-  all_lacks n e = record { says = λ x. true≢false (sym (x.0 (omega (arith, n))) ∙ e) }
-
-pub all_two : {needs : ℕ} {a : Bool} (b : Bool) → ¬ (needs ≡ 0) → ¬ (needs ≡ 1) → a ≡ true → HasAll needs a b b
-all_two true n m e = record { says = ((λ h. e), (λ h. refl)) }
-all_two false n m e = record { says = λ x. true≢false (sym (x.1 (omega (arith, n, m)))) }
-
 -- of the kind that the code names
 module _ {t : List ℕ} {key row : ℕ} {words : Worded} {r : Fault} where
-  pub of_kind : (c : Molecule) → is_kind c ≡ true → JudgesRow t key row words r → JudgesWords t key c row words r
+  pub of_kind : (c : Molecule) → is_known c ≡ true → JudgesRow t key row words r → JudgesWords t key c row words r
   of_kind kind.Dna e j = record { says = λ q f i a. j.says dna q f i a }
   of_kind kind.Rna e j = record { says = λ q f i a. j.says rna q f i a }
   of_kind kind.Aa e j = record { says = λ q f i a. j.says aa q f i a }
   of_kind kind.Other e j = absurd (true≢false (sym e))
 
 -- where rule 16 is broken nothing is judged
-pub of_none : {t : List ℕ} {key row : ℕ} {words : Worded} (c : Molecule) → is_kind c ≡ false → JudgesWords t key c row words Clean
+pub of_none : {t : List ℕ} {key row : ℕ} {words : Worded} (c : Molecule) → is_known c ≡ false → JudgesWords t key c row words None
 of_none kind.Dna e = absurd (true≢false e)
 of_none kind.Rna e = absurd (true≢false e)
 of_none kind.Aa e = absurd (true≢false e)

@@ -1,13 +1,11 @@
 -- What is promised of the judgement of a feature's words.
-use Rattle.std.specs.Prelude.{ℕ, ◌≤◌, ◌≡◌, Bool, true, false, List}
+use Rattle.std.specs.Prelude.{ℕ, ◌≤◌, ◌≡◌, Bool, true, List}
 use Rattle.paper.specs.Tree.{Sequence, Feature, qualifiers_of}
 use Rattle.paper.specs.Rules.{Kind, IsKind, InVocabulary}
 use Rattle.value_words.specs.Reading.{Tells, KindIs}
 use Rattle.value_words.specs.declared.Molecule.{Molecule}
-use Rattle.value_words.specs.declared.Molecule.TheVariants as kind
 use Rattle.value_vocabulary.specs.Lookups.{RowIs}
-use Rattle.judge_faults.specs.Sets.{Firsts}
-use Rattle.judge_faults.specs.declared.Fault.{Fault}
+use Rattle.judge_faults.specs.Sets.{Fault, Firsts}
 use Rattle.judge_qualifiers.specs.Qualifiers.{StandsBy, WordedBy}
 use Rattle.judge_qualifiers.specs.declared.Worded.{Worded}
 
@@ -22,13 +20,6 @@ pub record AskedWords (t : List ℕ) (key row : ℕ) (words : Worded) (q : Seque
 
 pub record JudgesRow (t : List ℕ) (key row : ℕ) (words : Worded) (r : Fault) : Type 0 where
   pub says : (k : Kind) (q : Sequence ℕ) (f : Feature ℕ) → IsKind k q → AskedWords t key row words q f → Firsts (InVocabulary q f) r
-
--- a kind of the code is one of the paper's
-abbrev pub is_kind : Molecule → Bool
-is_kind kind.Dna = true
-is_kind kind.Rna = true
-is_kind kind.Aa = true
-is_kind kind.Other = false
 
 pub record JudgesWords (t : List ℕ) (key : ℕ) (kind : Molecule) (row : ℕ) (words : Worded) (r : Fault) : Type 0 where
   pub says : (q : Sequence ℕ) (f : Feature ℕ) → KindIs q.moltype.read kind → AskedWords t key row words q f → Firsts (InVocabulary q f) r

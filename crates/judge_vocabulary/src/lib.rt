@@ -1,27 +1,22 @@
 // The words of a feature: rules 40 to 42. Relies on the row of its key in the vocabulary and on what is noted of its qualifiers.
 #![tactic(auto)]
 
-ghost use Rattle.std.specs.Prelude.{◌≡◌};
-ghost use Rattle.judge_vocabulary.specs.Words.{HasAll, JudgesRow, is_kind, JudgesWords};
+ghost use Rattle.judge_vocabulary.specs.Words.{HasAll, JudgesRow, JudgesWords};
 
 use judge_faults::Fault;
 use judge_qualifiers::Worded;
+use paper::Refused;
 use value_words::Molecule;
 
 // Whether the names that a row requires, none, one or two, were met.
 fn has_all(needs: usize, first: bool, second: bool) -> bool
     ensures { HasAll needs first second result }
 {
-    if needs == 0 {
-        return true;
+    match needs {
+        0 => true,
+        1 => first,
+        _ => first && second,
     }
-    if needs == 1 {
-        return first;
-    }
-    if first {
-        return second;
-    }
-    false
 }
 
 // Of a key of DNA, RNA or AA: `key` is its place, `row` that of its row, 0 where it is unknown.
@@ -29,30 +24,14 @@ fn judge_row(key: usize, row: usize, words: Worded, vocabulary: &[u8; 3492]) -> 
     ensures { JudgesRow vocabulary.now key row words result }
 {
     if row == 0 {
-        return Fault::At {
+        return Some(Refused {
             rule: 40,
             place: key,
-        };
+        });
     }
-    let Worded {
-        foreign,
-        first,
-        second,
-    } = words;
-    let met = has_all(value_vocabulary::needs(row, vocabulary), first, second);
-    judge_faults::earlier(foreign, judge_faults::unless(met, 42, key))
-}
-
-// Whether rule 16 holds.
-fn is_kind(kind: Molecule) -> bool
-    ensures { result ≡ is_kind kind }
-{
-    match kind {
-        Molecule::Dna => true,
-        Molecule::Rna => true,
-        Molecule::Aa => true,
-        Molecule::Other => false,
-    }
+    let needs = value_vocabulary::needs(row, vocabulary);
+    let met = has_all(needs, words.first, words.second);
+    judge_faults::earlier(words.foreign, judge_faults::unless(met, 42, key))
 }
 
 // The first fault of the words. Where rule 16 is broken they aren't judged.
@@ -65,8 +44,8 @@ pub fn judge_words(
 ) -> Fault
     ensures { JudgesWords vocabulary.now key kind row words result }
 {
-    if is_kind(kind) {
+    if kind.is_known() {
         return judge_row(key, row, words, vocabulary);
     }
-    Fault::Clean
+    None
 }

@@ -3,7 +3,7 @@ use Prim.Native.Nat.{ℕ, ◌+◌, ◌≤◌, ◌<◌}
 use native.Mathlib.Nat.{add-zero}
 use native.Mathlib.Omega.{arith}
 use mathlib.Core.Path.{◌≡◌, refl, sym, ap, ◌∙◌, subst}
-use mathlib.Core.Bool.{Bool, true, false, true≢false}
+use mathlib.Core.Bool.{true, false, true≢false}
 use mathlib.Core.List.{List, [], ◌∷◌, ◌++◌, append_assoc, append-nil}
 use lib.ListN.{length, drop, get_or, length-drop, drop_of_length-le}
 use lib.Seq.{drop-drop, get_or-drop}
@@ -11,7 +11,9 @@ use lib.Dec.{eqb}
 use borrow.Author.Tests.{eq-eqb, ne_eqb}
 use Rattle.paper.specs.Bytes.{spell, raw}
 use Rattle.paper.proofs.Texts.{unspell, unspell_spell, spell_cases, spell_some}
-use Rattle.lent_room.specs.Room.{Lays, LaysRead}
+use Rattle.std.specs.Prelude.{Ok, Err}
+use Rattle.lent_room.specs.Room.{Laid, Lays, LaysRead}
+use Rattle.lent_room.specs.declared.Stopped.{Stopped}
 use Rattle.lent_room.specs.Spelled.{FirstCharacter}
 use Rattle.lent_room.specs.declared.Pass.{Pass}
 use Rattle.lent_room.proofs.Passes.{lays_none, lays_next, lays_off, lays_kept}
@@ -90,7 +92,7 @@ record Laying (given : List ℕ) (at : ℕ) (text room : List ℕ) (p : Pass) (i
   others : List ℕ
   all : v ≡ done ++ others
   left : drop i text ≡ raw others
-  laid : Lays given at done room p true end now
+  laid : Lays given at done room p (Ok end) now
 
 -- the loop's invariant
 pub record Reading (given : List ℕ) (at : ℕ) (text room : List ℕ) (p : Pass) (i end : ℕ) (now : List ℕ) : Type 0 where
@@ -101,14 +103,14 @@ pub reading_start : {given text room : List ℕ} {at : ℕ} (p : Pass) → Readi
 reading_start p = record { kept = refl; laying = λ v e. record { done = []; others = v; all = refl; left = e; laid = lays_none p } }
 
 module _ {given text room now : List ℕ} {at i end : ℕ} {p : Pass} (f : Reading given at text room p i end now) where
-  pub reading_end : length text ≤ i → LaysRead given at text room p true end now
+  pub reading_end : length text ≤ i → LaysRead given at text room p (Ok end) now
   reading_end h = record { kept = f.kept; says = λ v e. go v (f.laying v e) }
     where
-      go : (v : List ℕ) → Laying given at text room p i end now v → Lays given at v room p true end now
+      go : (v : List ℕ) → Laying given at text room p i end now v → Lays given at v room p (Ok end) now
       go v z = by_others z.others refl
         where
-          by_others : (o : List ℕ) → z.others ≡ o → Lays given at v room p true end now
-          by_others [] e = subst (λ (w : List ℕ). Lays given at w room p true end now) (sym (z.all ∙ ap (◌++◌ z.done) e ∙ append-nil z.done)) z.laid
+          by_others : (o : List ℕ) → z.others ≡ o → Lays given at v room p (Ok end) now
+          by_others [] e = subst (λ (w : List ℕ). Lays given at w room p (Ok end) now) (sym (z.all ∙ ap (◌++◌ z.done) e ∙ append-nil z.done)) z.laid
           by_others (c ∷ o) e = absurd (spell_some c (raw o) (sym (ap raw e) ∙ sym z.left ∙ drop_of_length-le text {i = i} h))
 
   module _ {b next : ℕ} (h : i < length text) (c : FirstCharacter text i b next) where
@@ -121,34 +123,27 @@ module _ {given text room now : List ℕ} {at i end : ℕ} {p : Pass} (f : Readi
         go (a ∷ o) e = let q = c.says a (raw o) (z.left ∙ ap raw e) in (o, e ∙ ap (λ (k : ℕ). k ∷ o) (sym q.0), q.1)
 
     -- whichever text it is
-    more : {k : ℕ} {on : Bool} {after : List ℕ} → Lays given end (b ∷ []) now p on k after → (v : List ℕ) (z : Laying given at text room p i end now v)
-        → Lays given at (z.done ++ (b ∷ [])) room p on k after
-    more l v z = lays_next z.laid refl l
+    more : {r : Laid} {after : List ℕ} → Lays given end (b ∷ []) now p r after → (v : List ℕ) (z : Laying given at text room p i end now v)
+        → Lays given at (z.done ++ (b ∷ [])) room p r after
+    more l v z = lays_next z.laid l
 
     behind : (v : List ℕ) (z : Laying given at text room p i end now v) → v ≡ z.done ++ (b ∷ []) ++ (step v z).0
     behind v z = z.all ∙ ap (◌++◌ z.done) (step v z).1 ∙ sym (append_assoc z.done (b ∷ []) (step v z).0)
 
-    module _ {on : Bool} {k : ℕ} {after : List ℕ} (l : Lays given end (b ∷ []) now p on k after) where
-      pub reading_off : on ≡ false → LaysRead given at text room p on k after
-      reading_off o =
-          record {
-            kept = lays_kept l ∙ f.kept;
-            says = λ v e.
-                let z = f.laying v e in
-                subst (λ (w : List ℕ). Lays given at w room p on k after) (sym (behind v z)) (lays_off (step v z).0 (more l v z) o);
-          }
+    pub reading_off : {e : Stopped} {after : List ℕ} → Lays given end (b ∷ []) now p (Err e) after → LaysRead given at text room p (Err e) after
+    reading_off {e} {after} l =
+        record {
+          kept = lays_kept l ∙ f.kept;
+          says = λ v q.
+              let z = f.laying v q in
+              subst (λ (w : List ℕ). Lays given at w room p (Err e) after) (sym (behind v z)) (lays_off (step v z).0 (more l v z));
+        }
 
-      pub reading_on : on ≡ true → Reading given at text room p next k after
-      reading_on o =
-          record {
-            kept = lays_kept l ∙ f.kept;
-            laying = λ v e.
-                let z = f.laying v e in
-                record {
-                  done = z.done ++ (b ∷ []);
-                  others = (step v z).0;
-                  all = behind v z;
-                  left = (step v z).2;
-                  laid = subst (λ (t : Bool). Lays given at (z.done ++ (b ∷ [])) room p t k after) o (more l v z);
-                };
-          }
+    pub reading_on : {k : ℕ} {after : List ℕ} → Lays given end (b ∷ []) now p (Ok k) after → Reading given at text room p next k after
+    reading_on l =
+        record {
+          kept = lays_kept l ∙ f.kept;
+          laying = λ v e.
+              let z = f.laying v e in
+              record { done = z.done ++ (b ∷ []); others = (step v z).0; all = behind v z; left = (step v z).2; laid = more l v z };
+        }

@@ -3,17 +3,14 @@ use Prim.Native.Nat.{ℕ, suc, ◌+◌, ◌≤◌, ◌<◌}
 use native.Mathlib.Numerals.{add-one}
 use native.Mathlib.Omega.{arith}
 use mathlib.Core.Path.{◌≡◌, refl, sym, ap, ◌∙◌, subst}
-use mathlib.Core.Bool.{true, false}
 use mathlib.Core.List.{List, [], ◌∷◌, ◌++◌}
 use lib.ListN.{length, take, drop, set, get_or, take-append-drop, drop_of_length-le}
 use lib.Seq.{sets, take_all, take-suc, drop-cons, drop-drop, length-take-le}
 use borrow.Author.Tests.{ne_eqb, eq-eqb}
 use Rattle.paper.specs.Index.{agree}
-use Rattle.lent_room.specs.Room.{InRoom, fits, Agrees, same, differs}
+use Rattle.std.specs.Prelude.{Ok}
+use Rattle.lent_room.specs.Room.{stopped, Agrees, same, differs}
 use Rattle.lent_room.proofs.Laws.{sets_append, agree_on}
-
-pub fits_none : {size at room : ℕ} → size ≡ 0 → InRoom size at room true at
-fits_none {size} {at} {room} e = subst (InRoom size at room true) (omega (arith, e)) (fits (omega (arith, e)))
 
 -- one byte more of the text
 pub sets_more : (text room : List ℕ) (at i : ℕ) → i < length text → set (sets room at (take i text)) (at + i) (get_or text i 0) ≡ sets room at (take (i + 1) text)
@@ -22,10 +19,10 @@ sets_more text room at i h =
     let m : take (i + 1) text ≡ take i text ++ (get_or text i 0 ∷ []) = rw (add-one i) (take-suc text i 0 h) in
     rw m (ap (λ (k : ℕ). set (sets room at (take i text)) (at + k) (get_or text i 0)) (sym l) ∙ sets_append (take i text) (get_or text i 0 ∷ []) room at)
 
-pub agrees_all : (x given : List ℕ) (at : ℕ) {i k : ℕ} → i ≡ length x → agree (take i x) (drop at given) ≡ i → k ≡ at + i → Agrees x at given true k
+pub agrees_all : (x given : List ℕ) (at : ℕ) {i k : ℕ} → i ≡ length x → agree (take i x) (drop at given) ≡ i → k ≡ at + i → Agrees x at given (Ok k)
 agrees_all x given at {i} e f q =
     let g : agree x (drop at given) ≡ length x = ap (λ (z : List ℕ). agree z (drop at given)) (sym (take_all i x (omega (arith, e)))) ∙ f ∙ e in
-    subst (Agrees x at given true) (omega (arith, e, q)) (same g)
+    subst (λ (e : ℕ). Agrees x at given (Ok e)) (omega (arith, e, q)) (same g)
 
 module _ (x given : List ℕ) (at i : ℕ) (h : i < length x) (e : agree (take i x) (drop at given) ≡ i) where
   passed : length (take i x) ≡ i
@@ -42,10 +39,10 @@ module _ (x given : List ℕ) (at i : ℕ) (h : i < length x) (e : agree (take i
   all_of = ap (λ (z : List ℕ). agree z (drop at given)) (sym (take-append-drop i x) ∙ ap (λ (z : List ℕ). take i x ++ z) (drop-cons x i 0 h))
       ∙ onward (get_or x i 0 ∷ drop (suc i) x)
 
-  stops : {k : ℕ} → k ≡ at + i → agree x (drop at given) ≡ i → Agrees x at given false k
-  stops q z = subst (Agrees x at given false) (omega (arith, q, z)) (differs (omega (arith, z, h)))
+  stops : {k : ℕ} → k ≡ at + i → agree x (drop at given) ≡ i → Agrees x at given (stopped k)
+  stops q z = subst (λ (e : ℕ). Agrees x at given (stopped e)) (omega (arith, q, z)) (differs (omega (arith, z, h)))
 
-  pub agrees_end : {k : ℕ} → k ≡ at + i → length given ≤ k → Agrees x at given false k
+  pub agrees_end : {k : ℕ} → k ≡ at + i → length given ≤ k → Agrees x at given (stopped k)
   agrees_end q l =
       stops q
       (all_of ∙ ap (λ (z : List ℕ). i + agree (get_or x i 0 ∷ drop (suc i) x) z) (drop_of_length-le given {i = at + i} (omega (arith, l, q))) ∙ omega arith)
@@ -54,7 +51,7 @@ module _ (x given : List ℕ) (at i : ℕ) (h : i < length x) (e : agree (take i
     here : drop (at + i) given ≡ get_or given k 0 ∷ drop (suc k) given
     here = ap (λ (j : ℕ). drop j given) (sym q) ∙ drop-cons given k 0 l
 
-    pub agrees_other : ¬ (get_or given k 0 ≡ get_or x i 0) → Agrees x at given false k
+    pub agrees_other : ¬ (get_or given k 0 ≡ get_or x i 0) → Agrees x at given (stopped k)
     agrees_other n =
         stops q
         (all_of ∙ ap (λ (z : List ℕ). i + agree (get_or x i 0 ∷ drop (suc i) x) z) here ∙ rw (ne_eqb (get_or x i 0) (get_or given k 0) (λ f. n (sym f))) (omega arith))

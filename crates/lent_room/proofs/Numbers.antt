@@ -1,14 +1,15 @@
 -- Numbers laid one behind another.
 use Prim.Native.Nat.{ℕ, suc, ◌+◌, ◌≤◌, ◌<◌}
 use native.Mathlib.Numerals.{add-one}
-use mathlib.Core.Path.{◌≡◌, refl, sym, ap, ◌∙◌, subst}
-use mathlib.Core.Bool.{Bool, true, false}
+use mathlib.Core.Path.{◌≡◌, sym, ap, ◌∙◌}
 use mathlib.Core.List.{List, [], ◌∷◌, ◌++◌, append-nil, append_assoc}
 use lib.ListN.{length, take, drop, get_or, take-append-drop}
 use lib.Seq.{take_all, take-suc, drop-cons}
 use Rattle.paper.specs.Index.{little_end, in_bytes}
 use Rattle.paper.proofs.Lists.{gather_append}
+use Rattle.std.specs.Prelude.{Ok, Err}
 use Rattle.lent_room.specs.Room.{Lays}
+use Rattle.lent_room.specs.declared.Stopped.{Stopped}
 use Rattle.lent_room.specs.declared.Pass.{Pass}
 use Rattle.lent_room.proofs.Passes.{lays_as, lays_next, lays_off}
 
@@ -29,10 +30,9 @@ module _ (l : List ℕ) (i : ℕ) where
         ∙ sym (gather_append little_end (take i l) (get_or l i 0 ∷ drop (suc i) l))
         ∙ ap in_bytes (ap (◌++◌ (take i l)) (sym (drop-cons l i 0 h)) ∙ take-append-drop i l)
 
-    module _ {given room now after : List ℕ} {at m end : ℕ} {p : Pass} {on : Bool} (was : Lays given at (in_bytes (take i l)) room p true m now)
-        (one : Lays given m (little_end (get_or l i 0)) now p on end after) where
-      pub numbers_on : on ≡ true → Lays given at (in_bytes (take (i + 1) l)) room p true end after
-      numbers_on o = subst (λ (t : Bool). Lays given at (in_bytes (take (i + 1) l)) room p t end after) o (lays_as (lays_next was refl one) one_number)
+    module _ {given room now after : List ℕ} {at m : ℕ} {p : Pass} (was : Lays given at (in_bytes (take i l)) room p (Ok m) now) where
+      pub numbers_on : {end : ℕ} → Lays given m (little_end (get_or l i 0)) now p (Ok end) after → Lays given at (in_bytes (take (i + 1) l)) room p (Ok end) after
+      numbers_on one = lays_as (lays_next was one) one_number
 
-      pub numbers_off : on ≡ false → Lays given at (in_bytes l) room p on end after
-      numbers_off o = lays_as (lays_off (in_bytes (drop (suc i) l)) (lays_next was refl one) o) rest_numbers
+      pub numbers_off : {e : Stopped} → Lays given m (little_end (get_or l i 0)) now p (Err e) after → Lays given at (in_bytes l) room p (Err e) after
+      numbers_off one = lays_as (lays_off (in_bytes (drop (suc i) l)) (lays_next was one)) rest_numbers

@@ -10,7 +10,7 @@ ghost use Rattle.paper.specs.Index.{little_end, in_bytes};
 ghost use Rattle.lent_room.specs.Room.{InRoom, Agrees, Lays, LaysMore, LaysRead};
 ghost use Rattle.lent_room.specs.Spelled.{FirstCharacter};
 
-// What a pass over content does with it.
+// What a pass over content does with it. No closure stands in its place, since `Lays` says of each of the three what it does.
 #[derive(Clone, Copy)]
 pub enum Pass {
     // It asks whether the room holds it, and writes nothing.
@@ -21,13 +21,14 @@ pub enum Pass {
     Compare,
 }
 
-// Whether the pass goes on, and from where. If not, where it stopped: at the room's end, or at the first place where the given bytes
-// aren't the content.
+// Where a pass stopped: at the room's end, or at the first place where the given bytes aren't the content.
 #[derive(Clone, Copy)]
-pub struct Laid {
-    pub on: bool,
+pub struct Stopped {
     pub at: usize,
 }
+
+// The place from which the pass goes on, or where it stopped.
+pub type Laid = Result<usize, Stopped>;
 
 // A character as read, and the place behind it.
 #[derive(Clone, Copy)]
@@ -36,29 +37,14 @@ struct Character {
     next: usize,
 }
 
-// Whether the room has `size` bytes from `at` on.
+// Whether the room has `size` bytes from `at` on. No bytes are in any room, wherever they are.
 fn fit(size: usize, at: usize, room: usize) -> Laid
-    ensures { InRoom size at room result.on result.at }
+    ensures { InRoom size at room result }
 {
-    if size == 0 {
-        return Laid { on: true, at };
+    if room.saturating_sub(at) < size {
+        return Err(Stopped { at: room });
     }
-    if room < at {
-        return Laid {
-            on: false,
-            at: room,
-        };
-    }
-    if room - at < size {
-        return Laid {
-            on: false,
-            at: room,
-        };
-    }
-    Laid {
-        on: true,
-        at: at + size,
-    }
+    Ok(at + size)
 }
 
 // The text in the room from `at` on.
@@ -66,90 +52,69 @@ fn put(text: &[u8], at: usize, room: &mut [u8])
     requires { length text.now ≤ length room.old - at }
     ensures { room.new ≡ sets room.old at text.now }
 {
-    let mut i: usize = 0;
-    while i < text.len() {
-        room[at + i] = text[i];
-        i += 1;
+    let n = text.len();
+    // Nothing may be put anywhere, behind the room's end too.
+    if 0 < n {
+        room[at..at + n].copy_from_slice(text);
     }
 }
 
 // Whether the given bytes go on with the text from `at` on, and how far.
 fn compare(text: &[u8], at: usize, given: &[u8]) -> Laid
-    ensures { Agrees text.now at given.now result.on result.at }
+    ensures { Agrees text.now at given.now result }
 {
-    let mut i: usize = 0;
     let mut k = at;
-    while i < text.len() {
-        if given.len() <= k {
-            return Laid { on: false, at: k };
+    for &b in text {
+        if given.len() <= k || given[k] != b {
+            return Err(Stopped { at: k });
         }
-        if given[k] != text[i] {
-            return Laid { on: false, at: k };
-        }
-        i += 1;
         k += 1;
     }
-    Laid { on: true, at: k }
+    Ok(k)
 }
 
 // Bytes.
 pub fn lay_bytes(pass: Pass, text: &[u8], at: usize, given: &[u8], room: &mut [u8]) -> Laid
-    ensures { Lays given.now at text.now room.old pass result.on result.at room.new }
+    ensures { Lays given.now at text.now room.old pass result room.new }
 {
     match pass {
         Pass::Compare => compare(text, at, given),
         Pass::Measure => fit(text.len(), at, room.len()),
         Pass::Write => {
-            let r = fit(text.len(), at, room.len());
-            if r.on {
-                put(text, at, room);
-            }
-            r
+            let end = fit(text.len(), at, room.len())?;
+            put(text, at, room);
+            Ok(end)
         }
     }
 }
 
 // A 32-bit number, its lowest byte first.
 pub fn lay_u32(pass: Pass, n: u32, at: usize, given: &[u8], room: &mut [u8]) -> Laid
-    ensures { Lays given.now at (little_end n) room.old pass result.on result.at room.new }
+    ensures { Lays given.now at (little_end n) room.old pass result room.new }
 {
-    let bytes = [
-        (n % 256) as u8,
-        (n / 256 % 256) as u8,
-        (n / 65_536 % 256) as u8,
-        (n / 16_777_216) as u8,
-    ];
-    lay_bytes(pass, &bytes, at, given, room)
+    lay_bytes(pass, &n.to_le_bytes(), at, given, room)
 }
 
 // Numbers of 32 bits, one behind another.
 pub fn lay_numbers(pass: Pass, numbers: &[u32], at: usize, given: &[u8], room: &mut [u8]) -> Laid
-    ensures { Lays given.now at (in_bytes numbers.now) room.old pass result.on result.at room.new }
+    ensures { Lays given.now at (in_bytes numbers.now) room.old pass result room.new }
 {
-    let mut i: usize = 0;
     let mut end = at;
-    while i < numbers.len() {
-        let r = lay_u32(pass, numbers[i], end, given, room);
-        if !r.on {
-            return r;
-        }
-        i += 1;
-        end = r.at;
+    for &n in numbers {
+        end = lay_u32(pass, n, end, given, room)?;
     }
-    Laid { on: true, at: end }
+    Ok(end)
 }
 
 // The same behind what was laid, if that pass goes on.
 pub fn lay_more(pass: Pass, was: Laid, numbers: &[u32], given: &[u8], room: &mut [u8]) -> Laid
     ensures { LaysMore given.now (in_bytes numbers.now) pass was result room.old room.new }
 {
-    if was.on {
-        return lay_numbers(pass, numbers, was.at, given, room);
-    }
-    was
+    lay_numbers(pass, numbers, was?, given, room)
 }
 
-// The digits of a number at the end of a table of 20: where they start.
+// The digits of a number at the end of a table of 20: where they start. There is no heap. The loop is over what is left of the
+// number, and not over places.
 fn digits(n: usize, table: &mut [u8]) -> usize
     requires { length table.old ≡ 20 }
     ensures { (result ≤ 20) × (take (20 - result) (drop result table.new) ≡ decimal n) }
@@ -168,14 +133,15 @@ fn digits(n: usize, table: &mut [u8]) -> usize
 
 // A number in decimal digits.
 pub fn lay_decimal(pass: Pass, n: usize, at: usize, given: &[u8], room: &mut [u8]) -> Laid
-    ensures { Lays given.now at (decimal n) room.old pass result.on result.at room.new }
+    ensures { Lays given.now at (decimal n) room.old pass result room.new }
 {
     let mut table = [0u8; 20];
     let k = digits(n, &mut table);
     lay_bytes(pass, &table[k..], at, given, room)
 }
 
-// The character that is written from `at` on.
+// The character that is written from `at` on. No `match` of the second byte: it was tried, and its last arm has no fact that the byte is
+// none of the others, which the proof needs.
 fn first(text: &[u8], at: usize) -> Character
     requires { at < length text.now }
     ensures { FirstCharacter text.now at result.byte result.next }
@@ -218,21 +184,16 @@ fn first(text: &[u8], at: usize) -> Character
     }
 }
 
-// A text as read: each entity as the character it stands for.
+// A text as read: each entity as the character it stands for. The loop goes on by characters, of one to six bytes, so there is no `for`.
 pub fn lay_read(pass: Pass, text: &[u8], at: usize, given: &[u8], room: &mut [u8]) -> Laid
-    ensures { LaysRead given.now at text.now room.old pass result.on result.at room.new }
+    ensures { LaysRead given.now at text.now room.old pass result room.new }
 {
     let mut i: usize = 0;
     let mut end = at;
     while i < text.len() {
         let c = first(text, i);
-        let one = [c.byte];
-        let r = lay_bytes(pass, &one, end, given, room);
-        if !r.on {
-            return r;
-        }
+        end = lay_bytes(pass, &[c.byte], end, given, room)?;
         i = c.next;
-        end = r.at;
     }
-    Laid { on: true, at: end }
+    Ok(end)
 }

@@ -9,6 +9,7 @@ use mathlib.Core.List.{List, [], ◌∷◌, ◌++◌}
 use lib.ListN.{length, get_or, drop}
 use lib.Dec.{leb}
 use borrow.Author.Tests.{ne_eqb, leb-true, le-leb}
+use Rattle.std.specs.Prelude.{None, Some}
 use Rattle.paper.specs.Bytes.{spell, raw}
 use Rattle.paper.proofs.Decimal.{push, digit_is}
 use Rattle.paper.proofs.Locate.Model.{Got, more, num}
@@ -17,7 +18,6 @@ use Rattle.read_bytes.specs.Words.{There}
 use Rattle.read_bytes.proofs.Words.{is_there_lem}
 use Rattle.location_judge.specs.Places.{RestIs, Stretch}
 use Rattle.location_judge.specs.Readings.{Reads, kept, Numbers}
-use Rattle.location_judge.specs.declared.pieces.Num.TheVariants.{No, At}
 use Rattle.location_judge.proofs.Stand.{at_end, suffix, begun, stretch_text, stretch_join, After}
 
 -- b is one of lo to hi
@@ -60,7 +60,7 @@ module _ (s : List ℕ) (i d : ℕ) (h : i < length s) (e : d ≡ get_or s i 0) 
   none_read : (lo hi : ℕ) → code "0" ≤ lo → hi ≤ code "9" → (lo ≤ d → d ≤ hi → ⊥) → (c : ℕ) (z : List ℕ) → RestIs s i (c ∷ z) → Among lo hi c ≡ false
   none_read lo hi p q n c z st = outside lo hi c (λ j k. let a = same_byte c z st (omega arith) (omega arith) in n (omega arith) (omega arith))
 
-  pub no_number : (code "1" ≤ d → d ≤ code "9" → ⊥) → Numbers s i No
+  pub no_number : (code "1" ≤ d → d ≤ code "9" → ⊥) → Numbers s i None
   no_number n = record { within = tt; says = says }
     where
       says : (w : List ℕ) → RestIs s i w → num w ≡ none
@@ -71,7 +71,7 @@ module _ (s : List ℕ) (i d : ℕ) (h : i < length s) (e : d ≡ get_or s i 0) 
   no_digit n [] st = tt
   no_digit n (c ∷ z) st = none_read (code "0") (code "9") (omega arith) (omega arith) n c z st
 
-pub number_past : (s : List ℕ) (at : ℕ) → length s ≤ at → Numbers s at No
+pub number_past : (s : List ℕ) (at : ℕ) → length s ≤ at → Numbers s at None
 number_past s at h = record { within = tt; says = λ w st. ap num (at_end w st h) }
 
 -- behind the digits so far, of which v is kept, more of them may stand at i
@@ -112,7 +112,7 @@ module _ (s : List ℕ) (at : ℕ) where
           let n : more g.0 (d ∷ t.0) ≡ more (push g.0 d) t.0 = rw (digit_is d p q) in
           (push g.0 d, t.0, g.2 ∙ ap {B = Got ℕ} some (ap (more g.0) t.1 ∙ n), t.2, omega arith)
 
-  counted_stops : (i v : ℕ) → Counted s at i v → ((w : List ℕ) → RestIs s i w → NoDigit w) → Numbers s at (At i v)
+  counted_stops : (i v : ℕ) → Counted s at i v → ((w : List ℕ) → RestIs s i w → NoDigit w) → Numbers s at (Some (record { end = i; value = v }))
   counted_stops i v c n = record { within = (c.passed, c.least); says = says }
     where
       says : (w : List ℕ) → RestIs s at w → Reads s (λ (x : ℕ). v ≡ kept x) (num w) i
@@ -120,8 +120,8 @@ module _ (s : List ℕ) (at : ℕ) where
           let g = c.going w st in
           record { value = g.0; rest = g.1; is = g.2 ∙ ap {B = Got ℕ} some (more_stops g.0 g.1 (n g.1 g.3)); stands = g.3; holds = g.4 }
 
-  pub counted_end : (i v : ℕ) → Counted s at i v → length s ≤ i → Numbers s at (At i v)
-  counted_end i v c h = counted_stops i v c (λ w st. rw (at_end w st h) tt)
+  pub counted_end : (v : ℕ) → Counted s at (length s) v → Numbers s at (Some (record { end = length s; value = v }))
+  counted_end v c = counted_stops (length s) v c (λ w st. rw (at_end w st (omega arith)) tt)
 
-  pub counted_byte : (i v d : ℕ) → Counted s at i v → i < length s → d ≡ get_or s i 0 → (code "0" ≤ d → d ≤ code "9" → ⊥) → Numbers s at (At i v)
+  pub counted_byte : (i v d : ℕ) → Counted s at i v → i < length s → d ≡ get_or s i 0 → (code "0" ≤ d → d ≤ code "9" → ⊥) → Numbers s at (Some (record { end = i; value = v }))
   counted_byte i v d c h e n = counted_stops i v c (no_digit s i d h e n)

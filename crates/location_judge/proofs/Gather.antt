@@ -8,6 +8,7 @@ use mathlib.Core.List.{List, [], ◌∷◌, ◌++◌, append_assoc}
 use lib.ListN.{length, length-append}
 use lib.Dec.{eqb}
 use borrow.Author.Tests.{le-leb, lt-leb}
+use Rattle.std.specs.Prelude.{None, Some}
 use Rattle.paper.specs.Bytes.{bytes, raw}
 use Rattle.paper.specs.Locations.{is_odd, is_wrong, Member, Operator, Location, one, many, any, operator_number}
 use Rattle.paper.proofs.Locate.Model.{Got, then, member_of, step, members, gathered, gather, read}
@@ -16,10 +17,10 @@ use Rattle.paper.proofs.Locate.Reads.{read_sound, read_nil, read_ends, allowed_m
 use Rattle.read_bytes.specs.Words.{There}
 use Rattle.location_judge.specs.Places.{RestIs, Stretch}
 use Rattle.location_judge.specs.Judging.{AreFacts}
-use Rattle.location_judge.specs.Readings.{Reads, OutSays, Outs, number_of, Lists, with_member}
+use Rattle.location_judge.specs.Readings.{Reads, OutSays, Outs, operator_of, number_of, Lists, with_member}
 use Rattle.location_judge.specs.declared.judging.Facts.{Facts}
-use Rattle.location_judge.specs.declared.judging.Out.TheVariants as out-is
-use Rattle.location_judge.specs.declared.operators.Listed.TheVariants as list-is
+use Rattle.location_judge.specs.declared.judging.Located.{Located}
+use Rattle.location_judge.specs.declared.operators.Opening.{Opening}
 use Rattle.location_judge.proofs.Stand.{begun, not_begun, stretch_text, stretch_join}
 use Rattle.location_judge.proofs.Words.{step_else}
 use Rattle.location_judge.proofs.Levels.{operator_number_lem}
@@ -45,12 +46,11 @@ with_member_lem {L} o ms m {f} {g} h k =
     }
 
 -- the facts of no member yet
-abbrev pub no_facts : ℕ → Facts
-no_facts operator = record { wrong = false; complemented = false; unjudged = eqb operator 2 }
+abbrev pub no_facts : Operator → Facts
+no_facts o = record { wrong = false; complemented = false; unjudged = eqb (number_of o) 2 }
 
-no_facts_lem : {L op : ℕ} (o : Operator) → op ≡ number_of o → AreFacts L (many false o []) (no_facts op)
-no_facts_lem o e =
-    record { wrong = refl; complemented = refl; unjudged = ap (λ (n : ℕ). eqb n 2) e ∙ sym (or-false (eqb (number_of o) 2)) }
+no_facts_lem : {L : ℕ} (o : Operator) → AreFacts L (many false o []) (no_facts o)
+no_facts_lem o = record { wrong = refl; complemented = refl; unjudged = sym (or-false (eqb (number_of o) 2)) }
 
 -- ---- the members so far
 
@@ -90,20 +90,20 @@ record Past (s : List ℕ) (L d : ℕ) (c : Bool) (o : Operator) (w : List ℕ) 
   is : members (read d c false) (length w) w ≡ prepend going.ms (step (members (read d c false) fuel) (one m) rest)
 
 -- the loop's invariant: i is where a member is to be read
-pub record Run (s : List ℕ) (L d : ℕ) (c : Bool) (at from op i : ℕ) (f : Facts) : Type 0 where
-  passed : Stretch s at i
-  going : (o : Operator) → op ≡ number_of o → (w : List ℕ) → RestIs s from w → Going s L d c o w from i f
+pub record Run (s : List ℕ) (L d : ℕ) (c : Bool) (at from : ℕ) (o : Operator) (i : ℕ) (f : Facts) : Type 0 where
+  pub passed : Stretch s at i
+  going : (w : List ℕ) → RestIs s from w → Going s L d c o w from i f
 
 empty : (w : List ℕ) → length w ≤ 0 → w ≡ []
 empty [] h = refl
 empty (b ∷ w) h = absurd (omega arith)
 
 module _ {s : List ℕ} {L d : ℕ} {c : Bool} where
-  pub run_start : {at op from : ℕ} → Lists s at (list-is.At op from) → Run s L d c at from op from (no_facts op)
-  run_start {at} {op} {from} h =
+  pub run_start : {at : ℕ} {x : Opening} → let o = operator_of x.operator in Lists s at (Some x) → Run s L d c at x.first o x.first (no_facts o)
+  run_start {at} {x} h =
       record {
         passed = h.within.1;
-        going = λ o e w st.
+        going = λ w st.
             record {
               ms = [];
               few = omega arith;
@@ -112,16 +112,16 @@ module _ {s : List ℕ} {L d : ℕ} {c : Bool} where
               rest = w;
               stands = st;
               enough = omega arith;
-              facts = no_facts_lem o e;
+              facts = no_facts_lem (operator_of x.operator);
               is = prepend_nil (members (read d c false) (length w) w);
             };
       }
 
-  module _ {at from op i : ℕ} {f : Facts} (run : Run s L d c at from op i f) where
-    pub run_bad : Outs s i L (read d c false) out-is.Bad
-        → (o : Operator) → op ≡ number_of o → (w : List ℕ) → RestIs s from w → gather (read d c false) o w ≡ none
-    run_bad h o e w st =
-        let k = run.going o e w st in
+  module _ {at from i : ℕ} {o : Operator} {f : Facts} (run : Run s L d c at from o i f) where
+    pub run_bad : Outs s i L (read d c false) None
+        → (w : List ℕ) → RestIs s from w → gather (read d c false) o w ≡ none
+    run_bad h w st =
+        let k = run.going w st in
         let n : members (read d c false) k.fuel k.rest ≡ none = go k.rest k.fuel (h.says k.rest k.stands) in
         ap (λ (g : Got (List Member)). then g (gathered o)) (k.is ∙ ap (prepend k.ms) n)
       where
@@ -129,15 +129,15 @@ module _ {s : List ℕ} {L d : ℕ} {c : Bool} where
         go z zero q = refl
         go z (suc n) q = rw q
 
-    module _ {n : ℕ} {g : Facts} (h : Outs s i L (read d c false) (out-is.Read n g)) where
-      past : (o : Operator) → op ≡ number_of o → (w : List ℕ) → RestIs s from w → Past s L d c o w from i n f g
-      past o e w st =
-          let k = run.going o e w st in
+    module _ {x : Located} (h : Outs s i L (read d c false) (Some x)) where
+      past : (w : List ℕ) → RestIs s from w → Past s L d c o w from i x.end f x.facts
+      past w st =
+          let k = run.going w st in
           let m = h.says k.rest k.stands in
           go k.fuel k m refl
         where
-          go : (fuel : ℕ) (k : Going s L d c o w from i f) (m : Reads s (λ (t : Location). AreFacts L t g) (read d c false k.rest) n) → k.fuel ≡ fuel
-              → Past s L d c o w from i n f g
+          go : (fuel : ℕ) (k : Going s L d c o w from i f) (m : Reads s (λ (t : Location). AreFacts L t x.facts) (read d c false k.rest) x.end) → k.fuel ≡ fuel
+              → Past s L d c o w from i x.end f x.facts
           go zero k m q =
               let z = empty k.rest (omega (arith, k.enough)) in
               absurd (none-ne-some (m.value, m.rest) (sym (read_nil d c false) ∙ sym (ap (read d c false) z) ∙ m.is))
@@ -145,7 +145,7 @@ module _ {s : List ℕ} {L d : ℕ} {c : Bool} where
               let single = allowed_member c m.value ((read_sound d c false k.rest).holds m.value m.rest m.is).0 in
               let last = member_of m.value in
               let next : members (read d c false) (suc fuel) k.rest ≡ step (members (read d c false) fuel) (one last) m.rest
-              = ap (λ (x : Got Location). then x (step (members (read d c false) fuel))) m.is
+              = ap (λ (y : Got Location). then y (step (members (read d c false) fuel))) m.is
               ∙ ap (λ (t : Location). step (members (read d c false) fuel) t m.rest) single in
               record {
                 going = k;
@@ -154,21 +154,21 @@ module _ {s : List ℕ} {L d : ℕ} {c : Bool} where
                 rest = m.rest;
                 stands = m.stands;
                 enough = omega (arith, k.enough, ends_length (read_ends d c false k.rest m.rest m.value m.is));
-                facts = with_member_lem o k.ms last k.facts (subst (λ (t : Location). AreFacts L t g) single m.holds);
-                is = k.is ∙ ap (λ (x : ℕ). prepend k.ms (members (read d c false) x k.rest)) q ∙ ap (prepend k.ms) next;
+                facts = with_member_lem o k.ms last k.facts (subst (λ (t : Location). AreFacts L t x.facts) single m.holds);
+                is = k.is ∙ ap (λ (y : ℕ). prepend k.ms (members (read d c false) y k.rest)) q ∙ ap (prepend k.ms) next;
               }
 
       -- the members so far, this one and what stands behind it
-      pub passed_by : (u : List ℕ) {t : Bool} → There (raw u) s n t → t ≡ true → Stretch s at (n + length (raw u))
-      passed_by u x e = stretch_join run.passed (stretch_join h.within (stretch_text u x e))
+      pub passed_by : (u : List ℕ) {t : Bool} → There (raw u) s x.end t → t ≡ true → Stretch s at (x.end + length (raw u))
+      passed_by u word e = stretch_join run.passed (stretch_join h.within (stretch_text u word e))
 
-      module _ {t : Bool} (bracket : There (raw (bytes ")")) s n t) where
+      module _ {t : Bool} (bracket : There (raw (bytes ")")) s x.end t) where
         -- the list ends, behind one member more than those before i
-        closed : t ≡ true → (o : Operator) → op ≡ number_of o → (w : List ℕ) → RestIs s from w
-            → (k : Going s L d c o w from i f) × (ms : List Member) × (length ms ≡ length k.ms + 1) × (z : List ℕ) × RestIs s (n + 1) z
-            × AreFacts L (many false o ms) (with_member f g) × (gather (read d c false) o w ≡ gathered o ms z)
-        closed b o e w st =
-            let p = past o e w st in
+        closed : t ≡ true → (w : List ℕ) → RestIs s from w
+            → (k : Going s L d c o w from i f) × (ms : List Member) × (length ms ≡ length k.ms + 1) × (z : List ℕ) × RestIs s (x.end + 1) z
+            × AreFacts L (many false o ms) (with_member f x.facts) × (gather (read d c false) o w ≡ gathered o ms z)
+        closed b w st =
+            let p = past w st in
             let k = p.going in
             let q = begun (bytes ")") bracket p.stands b in (
               k,
@@ -177,38 +177,38 @@ module _ {s : List ℕ} {L d : ℕ} {c : Bool} where
               q.0,
               q.2,
               p.facts,
-              ap (λ (x : Got (List Member)). then x (gathered o))
+              ap (λ (y : Got (List Member)). then y (gathered o))
                   (p.is ∙ ap (λ (z : List ℕ). prepend k.ms (step (members (read d c false) p.fuel) (one p.m) z)) q.1),
             )
 
-        pub run_one : t ≡ true → i ≤ from → (o : Operator) → op ≡ number_of o → (w : List ℕ) → RestIs s from w → gather (read d c false) o w ≡ none
-        run_one b l o e w st =
-            let (k, ms, n, _, _, _, q) = closed b o e w st in
+        pub run_one : t ≡ true → i ≤ from → (w : List ℕ) → RestIs s from w → gather (read d c false) o w ≡ none
+        run_one b l w st =
+            let (k, ms, n, _, _, _, q) = closed b w st in
             q ∙ rw (lt-leb 2 (length ms) (omega (arith, k.few)))
 
-        pub run_closed : t ≡ true → ¬ (i ≡ from) → (o : Operator) → op ≡ number_of o → (w : List ℕ) → RestIs s from w
-            → OutSays s L (gather (read d c false) o w) (out-is.Read (n + 1) (with_member f g))
-        run_closed b l o e w st =
-            let (k, ms, n, z, there, facts, q) = closed b o e w st in
+        pub run_closed : t ≡ true → ¬ (i ≡ from) → (w : List ℕ) → RestIs s from w
+            → OutSays s L (gather (read d c false) o w) (Some (record { end = x.end + 1; facts = with_member f x.facts }))
+        run_closed b l w st =
+            let (k, ms, n, z, there, facts, q) = closed b w st in
             let two = le-leb 2 (length ms) (omega (arith, k.later (omega (arith, k.few)))) in
             record { value = many false o ms; rest = z; is = q ∙ rw two; stands = there; holds = facts }
 
-        module _ {u : Bool} (comma : There (raw (bytes ",")) s n u) where
+        module _ {u : Bool} (comma : There (raw (bytes ",")) s x.end u) where
           pub run_other : t ≡ false → u ≡ false
-              → (o : Operator) → op ≡ number_of o → (w : List ℕ) → RestIs s from w → gather (read d c false) o w ≡ none
-          run_other a b o e w st =
-              let p = past o e w st in
-              ap (λ (x : Got (List Member)). then x (gathered o))
+              → (w : List ℕ) → RestIs s from w → gather (read d c false) o w ≡ none
+          run_other a b w st =
+              let p = past w st in
+              ap (λ (y : Got (List Member)). then y (gathered o))
               (p.is ∙ ap (prepend p.going.ms)
               (step_else (members (read d c false) p.fuel) (one p.m) p.rest
               (not_begun (bytes ")") bracket p.stands a) (not_begun (bytes ",") comma p.stands b)))
 
-          pub run_next : u ≡ true → Run s L d c at from op (n + 1) (with_member f g)
+          pub run_next : u ≡ true → Run s L d c at from o (x.end + 1) (with_member f x.facts)
           run_next b =
               record {
                 passed = passed_by (bytes ",") comma b;
-                going = λ o e w st.
-                    let p = past o e w st in
+                going = λ w st.
+                    let p = past w st in
                     let ms = p.going.ms in
                     let n = length-append ms (p.m ∷ []) in
                     let q = begun (bytes ",") comma p.stands b in

@@ -6,37 +6,25 @@ use mathlib.Core.Bool.{Bool, true, false, ◌||◌, cond, or-false}
 use mathlib.Core.Option.{none}
 use mathlib.Core.List.{List}
 use lib.Dec.{ltb}
+use Rattle.std.specs.Prelude.{Option, None, Some}
 use Rattle.paper.specs.Bytes.{bytes, raw}
 use Rattle.paper.specs.Locations.{Piece, is_segment, is_odd, is_wrong, Member, Operator, join, order, operator_name, Location, one, many, operator_number}
 use Rattle.paper.proofs.Locate.Model.{Got, then, uncomplemented, turn, leaf, close, gather, within, read}
 use Rattle.read_bytes.specs.Words.{There}
 use Rattle.location_judge.specs.Places.{RestIs, Stretch}
 use Rattle.location_judge.specs.Judging.{AreFacts}
-use Rattle.location_judge.specs.Readings.{Keeps, Pieces, wrong_of, out_within, OutSays, Outs, number_of, Lists}
+use Rattle.location_judge.specs.Readings.{Keeps, Pieces, wrong_of, out_within, OutSays, Outs, operator_of, number_of, Lists}
 use Rattle.location_judge.specs.declared.pieces.Reach.{Reach}
 use Rattle.location_judge.specs.declared.pieces.FoundPiece.{FoundPiece}
-use Rattle.location_judge.specs.declared.pieces.FoundPiece.TheVariants as found_is
 use Rattle.location_judge.specs.declared.judging.Facts.{Facts}
-use Rattle.location_judge.specs.declared.judging.Out.{Out}
-use Rattle.location_judge.specs.declared.judging.Out.TheVariants as out-is
-use Rattle.location_judge.specs.declared.operators.Listed.{Listed}
-use Rattle.location_judge.specs.declared.operators.Listed.TheVariants as list-is
+use Rattle.location_judge.specs.declared.judging.Located.{Located}
+use Rattle.location_judge.specs.declared.operators.Operator.TheVariants.{Join, Order}
+use Rattle.location_judge.specs.declared.operators.Opening.{Opening}
 use Rattle.location_judge.proofs.Stand.{Lacks, begun, not_begun, stretch_text, stretch_join}
 use Rattle.location_judge.proofs.Rule25.{keeps_segment, keeps_wrong}
 use Rattle.location_judge.proofs.Words.{within_else, within_list, close_else}
 
--- ---- what a test told of an answer
-
-pub pieces_are : {s : List ℕ} {at : ℕ} {c : Bool} {r q : FoundPiece} → Pieces s at c r → r ≡ q → Pieces s at c q
-pieces_are {s} {at} {c} h e = subst (Pieces s at c) e h
-
-pub lists_are : {s : List ℕ} {at : ℕ} {r q : Listed} → Lists s at r → r ≡ q → Lists s at q
-lists_are {s} {at} h e = subst (Lists s at) e h
-
-pub outs_are : {s : List ℕ} {at top : ℕ} {g : List ℕ → Got Location} {r q : Out} → Outs s at top g r → r ≡ q → Outs s at top g q
-outs_are {s} {at} {top} {g} h e = subst (Outs s at top g) e h
-
-pub out_by : (s : List ℕ) (top : ℕ) {g k : Got Location} (r : Out) → g ≡ k → OutSays s top k r → OutSays s top g r
+pub out_by : (s : List ℕ) (top : ℕ) {g k : Got Location} (r : Option Located) → g ≡ k → OutSays s top k r → OutSays s top g r
 out_by s top r e = subst (λ (x : Got Location). OutSays s top x r) (sym e)
 
 -- ---- a segment or site
@@ -54,12 +42,12 @@ leaf_facts_lem {L} {p = p} h k e =
     }
 
 module _ {s : List ℕ} {at top : ℕ} (far : Bool) where
-  pub leaf_bad : Pieces s at false found_is.No → Outs s at top (leaf far) out-is.Bad
+  pub leaf_bad : Pieces s at false None → Outs s at top (leaf far) None
   leaf_bad h = record { within = tt; says = λ w st. rw (h.says w st) }
 
-  module _ {n : ℕ} {a : Reach} {odd : Bool} (h : Pieces s at false (found_is.At n a odd)) where
-    pub leaf_read : {wrong : Bool} → top < 4294967296 → wrong ≡ wrong_of top a.first a.last a.marks → (far || ltb a.marks 8) ≡ true
-        → Outs s at top (leaf far) (out-is.Read n (leaf_facts wrong odd))
+  module _ {x : FoundPiece} (h : Pieces s at false (Some x)) where
+    pub leaf_read : {wrong : Bool} → top < 4294967296 → wrong ≡ wrong_of top x.reach.first x.reach.last x.reach.marks → (far || ltb x.reach.marks 8) ≡ true
+        → Outs s at top (leaf far) (Some (record { end = x.end; facts = leaf_facts wrong x.odd }))
     leaf_read l e t =
         record {
           within = h.within.0;
@@ -69,7 +57,7 @@ module _ {s : List ℕ} {at top : ℕ} (far : Bool) where
               record { value = one (uncomplemented m.value); rest = m.rest; is = rw (m.is, q); stands = m.stands; holds = leaf_facts_lem l m.holds e };
         }
 
-    pub leaf_site : (far || ltb a.marks 8) ≡ false → Outs s at top (leaf far) out-is.Bad
+    pub leaf_site : (far || ltb x.reach.marks 8) ≡ false → Outs s at top (leaf far) None
     leaf_site t =
         record {
           within = tt;
@@ -82,22 +70,22 @@ module _ {s : List ℕ} {at top : ℕ} (far : Bool) where
 -- ---- an operator's word
 
 module _ {s : List ℕ} {at : ℕ} {t : Bool} (is_join : There (raw (bytes "join(")) s at t) where
-  pub list_join : t ≡ true → Lists s at (list-is.At 1 (at + 5))
+  pub list_join : t ≡ true → Lists s at (Some (record { operator = Join; first = at + 5 }))
   list_join e =
       record {
         within = (omega arith, stretch_text (bytes "join(") is_join e);
-        says = λ w st. let p = begun (bytes "join(") is_join st e in (join, refl, p.0, p.1, p.2);
+        says = λ w st. let p = begun (bytes "join(") is_join st e in p;
       }
 
   module _ (e : t ≡ false) {u : Bool} (is-order : There (raw (bytes "order(")) s at u) where
-    pub list_order : u ≡ true → Lists s at (list-is.At 2 (at + 6))
+    pub list_order : u ≡ true → Lists s at (Some (record { operator = Order; first = at + 6 }))
     list_order f =
         record {
           within = (omega arith, stretch_text (bytes "order(") is-order f);
-          says = λ w st. let p = begun (bytes "order(") is-order st f in (order, refl, p.0, p.1, p.2);
+          says = λ w st. let p = begun (bytes "order(") is-order st f in p;
         }
 
-    pub list_no : u ≡ false → Lists s at list-is.No
+    pub list_no : u ≡ false → Lists s at None
     list_no f = record { within = tt; says = λ w st. lacks w st }
       where
         lacks : (w : List ℕ) → RestIs s at w → (o : Operator) → Lacks (bytes (operator_name o)) w
@@ -123,91 +111,94 @@ turned_facts_lem (one m) h = record { wrong = h.wrong; complemented = refl; unju
 turned_facts_lem (many c join ms) h = record { wrong = h.wrong; complemented = refl; unjudged = h.unjudged }
 turned_facts_lem (many c order ms) h = record { wrong = h.wrong; complemented = refl; unjudged = h.unjudged }
 
-module _ {s : List ℕ} {at top : ℕ} (c l : Bool) (fc fl : List ℕ → Got Location) {t : Bool} (word : There (raw (bytes "complement(")) s at t) (e : t ≡ true) where
-  pub comp_not : c ≡ false → Outs s at top (within fc fl c l) out-is.Bad
-  comp_not k =
-      record {
-        within = tt;
-        says = λ w st.
-            let p = begun (bytes "complement(") word st e in
-            ap (within fc fl c l) p.1 ∙ ap (λ (b : Bool). cond b (then (fc p.0) close) none) k;
-      }
-
-  -- what is read inside, and `)`
-  comp_by : c ≡ true → (r : Out) → out_within s at r → ((z : List ℕ) → RestIs s (at + 11) z → OutSays s top (then (fc z) close) r)
-      → Outs s at top (within fc fl c l) r
-  comp_by k r i f =
-      record {
-        within = i;
-        says = λ w st.
-            let p = begun (bytes "complement(") word st e in
-            out_by s top r (ap (within fc fl c l) p.1 ∙ ap (λ (b : Bool). cond b (then (fc p.0) close) none) k) (f p.0 p.2);
-      }
-
-  pub comp_bad : c ≡ true → Outs s (at + 11) top fc out-is.Bad → Outs s at top (within fc fl c l) out-is.Bad
-  comp_bad k h = comp_by k out-is.Bad tt (λ z st. ap (λ (g : Got Location). then g close) (h.says z st))
-
-  module _ (k : c ≡ true) {n : ℕ} {f : Facts} (h : Outs s (at + 11) top fc (out-is.Read n f)) {u : Bool} (bracket : There (raw (bytes ")")) s n u) where
-    pub comp_open : u ≡ false → Outs s at top (within fc fl c l) out-is.Bad
-    comp_open b =
-        comp_by k out-is.Bad tt
-        (λ z st.
-        let m = h.says z st in
-        ap (λ (g : Got Location). then g close) m.is ∙ close_else m.value m.rest (not_begun (bytes ")") bracket m.stands b))
-
-    pub comp_good : u ≡ true → Outs s at top (within fc fl c l) (out-is.Read (n + 1) (turned_facts f))
-    comp_good b =
-        comp_by k (out-is.Read (n + 1) (turned_facts f)) (complement_stretch word e h.within bracket b)
-        (λ z st.
-        let m = h.says z st in
-        let p = begun (bytes ")") bracket m.stands b in
-        record {
-          value = turn m.value;
-          rest = p.0;
-          is = ap (λ (g : Got Location). then g close) m.is ∙ ap (close m.value) p.1;
-          stands = p.2;
-          holds = turned_facts_lem m.value m.holds;
-        })
-
--- ---- no word, and a list
-
-module _ {s : List ℕ} {at top : ℕ} (c l : Bool) (fc fl : List ℕ → Got Location) {t : Bool} (word : There (raw (bytes "complement(")) s at t) (e : t ≡ false) where
-  pub level_leaf : Lists s at list-is.No → {r : Out} → Outs s at top (leaf l) r → Outs s at top (within fc fl c l) r
-  level_leaf h {r} k =
-      record {
-        within = k.within;
-        says = λ w st. out_by s top r (within_else fc fl c l w (not_begun (bytes "complement(") word st e) (h.says w st)) (k.says w st);
-      }
-
-module _ {s : List ℕ} {at top : ℕ} (c l : Bool) (fc fl : List ℕ → Got Location) {op from : ℕ} (h : Lists s at (list-is.At op from)) where
-  pub list_by : l ≡ true → (r : Out) → out_within s at r
-      → ((o : Operator) → op ≡ number_of o → (z : List ℕ) → RestIs s from z → OutSays s top (gather fl o z) r) → Outs s at top (within fc fl c l) r
-  list_by k r i f =
-      record {
-        within = i;
-        says = λ w st.
-            let p = h.says w st in
-            out_by s top r
-            (ap (within fc fl c l) p.3 ∙ within_list fc fl c l p.0 p.2 ∙ ap (λ (b : Bool). cond b (gather fl p.0 p.2) none) k)
-            (f p.0 p.1 p.2 p.4);
-      }
-
-  pub list_not : l ≡ false → Outs s at top (within fc fl c l) out-is.Bad
-  list_not k =
-      record {
-        within = tt;
-        says = λ w st.
-            let p = h.says w st in
-            ap (within fc fl c l) p.3 ∙ within_list fc fl c l p.0 p.2 ∙ ap (λ (b : Bool). cond b (gather fl p.0 p.2) none) k;
-      }
-
 -- ---- a level
 
-pub no_depth : {s : List ℕ} {at top depth : ℕ} (c l : Bool) {r : Out} → depth ≡ 0 → Outs s at top (leaf l) r → Outs s at top (read depth c l) r
+pub no_depth : {s : List ℕ} {at top depth : ℕ} (c l : Bool) {r : Option Located} → depth ≡ 0 → Outs s at top (leaf l) r → Outs s at top (read depth c l) r
 no_depth {s} {at} {top} {depth} c l {r} e h = subst (λ (d : ℕ). Outs s at top (read d c l) r) (sym e) h
 
-pub deep : {s : List ℕ} {at top : ℕ} (depth : ℕ) (c l : Bool) {r : Out} → (depth ≡ 0 → ⊥)
-    → Outs s at top (within (read (depth - 1) false l) (read (depth - 1) c false) c l) r → Outs s at top (read depth c l) r
-deep {s} {at} {top} depth c l {r} n h =
-    let e : depth ≡ suc (depth - 1) = omega arith in
-    subst (λ (d : ℕ). Outs s at top (read d c l) r) (sym e) h
+-- behind a word, what the model reads there
+module _ {s : List ℕ} {at : ℕ} (depth : ℕ) (c l : Bool) where
+  turns : {t : Bool} → There (raw (bytes "complement(")) s at t → t ≡ true → {w : List ℕ} → RestIs s at w → {b : Bool} → c ≡ b
+      → (z : List ℕ) × RestIs s (at + 11) z
+      × (within (read (depth - 1) false l) (read (depth - 1) c false) c l w ≡ cond b (then (read (depth - 1) false l z) close) none)
+  turns word e st k =
+      let p = begun (bytes "complement(") word st e in (
+        p.0,
+        p.2,
+        ap (within (read (depth - 1) false l) (read (depth - 1) c false) c l) p.1
+            ∙ ap (λ (b : Bool). cond b (then (read (depth - 1) false l p.0) close) none) k,
+      )
+
+  lists : {x : Opening} → Lists s at (Some x) → {w : List ℕ} → RestIs s at w → {b : Bool} → l ≡ b
+      → (z : List ℕ) × RestIs s x.first z
+      × (within (read (depth - 1) false l) (read (depth - 1) c false) c l w ≡ cond b (gather (read (depth - 1) c false) (operator_of x.operator) z) none)
+  lists {x} h {w} st k =
+      let p = h.says w st in
+      let o = operator_of x.operator in (
+        p.0,
+        p.2,
+        ap (within (read (depth - 1) false l) (read (depth - 1) c false) c l) p.1
+            ∙ within_list (read (depth - 1) false l) (read (depth - 1) c false) c l o p.0
+            ∙ ap (λ (b : Bool). cond b (gather (read (depth - 1) c false) o p.0) none) k,
+      )
+
+-- a level that is not the last
+module _ {s : List ℕ} {at top : ℕ} (depth : ℕ) (c l : Bool) (n : depth ≡ 0 → ⊥) where
+  deep : {r : Option Located} → Outs s at top (within (read (depth - 1) false l) (read (depth - 1) c false) c l) r → Outs s at top (read depth c l) r
+  deep {r} h = let e : depth ≡ suc (depth - 1) = omega arith in subst (λ (d : ℕ). Outs s at top (read d c l) r) (sym e) h
+
+  module _ {t : Bool} (word : There (raw (bytes "complement(")) s at t) (e : t ≡ true) where
+    pub comp_not : c ≡ false → Outs s at top (read depth c l) None
+    comp_not k = deep (record { within = tt; says = λ w st. (turns depth c l word e st k).2 })
+
+    -- what is read inside, and `)`
+    comp_by : c ≡ true → (r : Option Located) → out_within s at r
+        → ((z : List ℕ) → RestIs s (at + 11) z → OutSays s top (then (read (depth - 1) false l z) close) r) → Outs s at top (read depth c l) r
+    comp_by k r i f = deep (record { within = i; says = λ w st. let p = turns depth c l word e st k in out_by s top r p.2 (f p.0 p.1) })
+
+    pub comp_bad : c ≡ true → Outs s (at + 11) top (read (depth - 1) false l) None → Outs s at top (read depth c l) None
+    comp_bad k h = comp_by k None tt (λ z st. ap (λ (g : Got Location). then g close) (h.says z st))
+
+    module _ (k : c ≡ true) {x : Located} (h : Outs s (at + 11) top (read (depth - 1) false l) (Some x)) {u : Bool} (bracket : There (raw (bytes ")")) s x.end u) where
+      pub comp_open : u ≡ false → Outs s at top (read depth c l) None
+      comp_open b =
+          comp_by k None tt
+          (λ z st.
+          let m = h.says z st in
+          ap (λ (g : Got Location). then g close) m.is ∙ close_else m.value m.rest (not_begun (bytes ")") bracket m.stands b))
+
+      pub comp_good : u ≡ true → Outs s at top (read depth c l) (Some (record { end = x.end + 1; facts = turned_facts x.facts }))
+      comp_good b =
+          comp_by k (Some (record { end = x.end + 1; facts = turned_facts x.facts })) (complement_stretch word e h.within bracket b)
+          (λ z st.
+          let m = h.says z st in
+          let p = begun (bytes ")") bracket m.stands b in
+          record {
+            value = turn m.value;
+            rest = p.0;
+            is = ap (λ (g : Got Location). then g close) m.is ∙ ap (close m.value) p.1;
+            stands = p.2;
+            holds = turned_facts_lem m.value m.holds;
+          })
+
+  -- no word
+  pub level_leaf : {t : Bool} → There (raw (bytes "complement(")) s at t → t ≡ false → Lists s at None
+      → {r : Option Located} → Outs s at top (leaf l) r → Outs s at top (read depth c l) r
+  level_leaf word e h {r} k =
+      deep
+      (record {
+        within = k.within;
+        says = λ w st.
+            out_by s top r
+            (within_else (read (depth - 1) false l) (read (depth - 1) c false) c l w (not_begun (bytes "complement(") word st e) (h.says w st))
+            (k.says w st);
+      })
+
+  module _ {x : Opening} (h : Lists s at (Some x)) where
+    pub list_by : l ≡ true → (r : Option Located) → out_within s at r
+        → ((z : List ℕ) → RestIs s x.first z → OutSays s top (gather (read (depth - 1) c false) (operator_of x.operator) z) r)
+        → Outs s at top (read depth c l) r
+    list_by k r i f = deep (record { within = i; says = λ w st. let p = lists depth c l h st k in out_by s top r p.2 (f p.0 p.1) })
+
+    pub list_not : l ≡ false → Outs s at top (read depth c l) None
+    list_not k = deep (record { within = tt; says = λ w st. (lists depth c l h st k).2 })

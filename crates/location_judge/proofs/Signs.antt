@@ -5,6 +5,7 @@ use Prim.Native.String.{String}
 use native.Mathlib.Omega.{arith}
 use mathlib.Core.Path.{◌≡◌, refl, sym, ap, ◌∙◌, subst}
 use mathlib.Core.Bool.{Bool, true, false, ◌&&◌, ◌||◌, not, cond, or-false, or_assoc}
+use mathlib.Core.Logic.{◌⊎◌, inl, inr}
 use mathlib.Core.List.{List, [], ◌∷◌, ◌++◌, append-nil, append_assoc}
 use lib.ListN.{length, get_or, drop, drop_of_length-le}
 use lib.Dec.{eqb}
@@ -165,11 +166,7 @@ module _ {s : List ℕ} {i : ℕ} {a d : Bool} (p : Scanned s i a d) where
     pub site_stands : get_or s i 0 ≡ code "^" → LeavesRegion s true
     site_stands e = decided (here (code "^") e)
 
-    pub scanned_comma : {l x y : Bool} → get_or s i 0 ≡ code "," → l ≡ is_lone a d → l ≡ false → x ≡ false → y ≡ false → Scanned s (i + 1) x y
-    scanned_comma e k q f g = record { left = rw (f, g) (rw (sym k ∙ q) at (here (code ",") e)) }
-
-    pub scanned_other : {x y : Bool} → let b = get_or s i 0 in ¬ (b ≡ code "d") → ¬ (b ≡ code "^") → ¬ (b ≡ code ",")
-        → x ≡ (eqb b (code "&") || a) → y ≡ (eqb b (code ".") || d) → Scanned s (i + 1) x y
-    scanned_other u v w f g =
-        let no = ne_eqb (get_or s i 0) in
-        record { left = rw (f, g) (rw (no (code "d") u, no (code "^") v, no (code ",") w) at (here (get_or s i 0) refl)) }
+    -- where an order or a site stands
+    pub either_stands : let b = get_or s i 0 in (b ≡ code "d") ⊎ ((b ≡ code "d" → ⊥) × (b ≡ code "^")) → LeavesRegion s true
+    either_stands (inl e) = decided (here (code "d") e)
+    either_stands (inr e) = site_stands e.1

@@ -6,6 +6,7 @@ use mathlib.Core.Bool.{true}
 use mathlib.Core.Option.{none, some, none-ne-some}
 use mathlib.Core.List.{List, [], ◌∷◌, ◌++◌, append-nil}
 use lib.ListN.{length, length-drop, drop_of_length-le}
+use Rattle.std.specs.Prelude.{Option, None, Some}
 use Rattle.paper.specs.Bytes.{raw}
 use Rattle.paper.specs.Locations.{Location, Locates}
 use Rattle.paper.proofs.Texts.{raw_once}
@@ -15,9 +16,7 @@ use Rattle.location_judge.specs.Places.{RestIs}
 use Rattle.location_judge.specs.Judging.{AreFacts, JudgedText, Spells, Judges}
 use Rattle.location_judge.specs.Readings.{Outs}
 use Rattle.location_judge.specs.declared.judging.Facts.{Facts}
-use Rattle.location_judge.specs.declared.judging.Out.TheVariants as out-is
-use Rattle.location_judge.specs.declared.judging.Judgement.{Judgement}
-use Rattle.location_judge.specs.declared.judging.Judgement.TheVariants.{Bad, Is}
+use Rattle.location_judge.specs.declared.judging.Located.{Located}
 use Rattle.location_judge.proofs.Stand.{at_end}
 
 -- a whole text stands at the start
@@ -29,18 +28,18 @@ unlocated : {s : List ℕ} → ((w : List ℕ) → RestIs s 0 w → locate w ≡
 unlocated h t x = none-ne-some t (sym (h x.text (whole x.written)) ∙ locate_complete x.text t x.located)
 
 module _ {s : List ℕ} {top : ℕ} where
-  pub judge_bad : Outs s 0 top (read 2 true true) out-is.Bad → Judges s top Bad
+  pub judge_bad : Outs s 0 top (read 2 true true) None → Judges s top None
   judge_bad h = unlocated (λ w st. ap wholly (h.says w st))
 
-  module _ {n : ℕ} {f : Facts} (h : Outs s 0 top (read 2 true true) (out-is.Read n f)) where
-    pub judge_left : n < length s → Judges s top Bad
+  module _ {x : Located} (h : Outs s 0 top (read 2 true true) (Some x)) where
+    pub judge_left : x.end < length s → Judges s top None
     judge_left l = unlocated (λ w st. let m = h.says w st in go w m.value m.rest m.stands m.is)
       where
-        go : (w : List ℕ) (t : Location) (z : List ℕ) → RestIs s n z → read 2 true true w ≡ some (t, z) → locate w ≡ none
-        go w t [] st q = absurd (omega (arith, ap length st.is, length-drop n s))
+        go : (w : List ℕ) (t : Location) (z : List ℕ) → RestIs s x.end z → read 2 true true w ≡ some (t, z) → locate w ≡ none
+        go w t [] st q = absurd (omega (arith, ap length st.is, length-drop x.end s))
         go w t (b ∷ z) st q = ap wholly q
 
-    pub judge_is : length s ≤ n → Judges s top (Is f)
+    pub judge_is : length s ≤ x.end → Judges s top (Some x.facts)
     judge_is l =
         let w = h.within.text in
         let e : s ≡ raw w = h.within.is ∙ ap (λ (z : List ℕ). raw w ++ z) (drop_of_length-le s l) ∙ append-nil (raw w) in
@@ -57,9 +56,9 @@ spells_once : {s : List ℕ} {t u : Location} → Spells s t → Spells s u → 
 spells_once {t = t} {u} x y = locates_once t u x.located (read_as y x.text x.written)
 
 -- the verdict on the text as read
-pub judged_by : {s : List ℕ} (L : ℕ) (r : Judgement) → Judges s L r → (w : List ℕ) → s ≡ raw w → JudgedText L w r
-judged_by L Bad j w e = λ t x. j t (record { text = w; written = e; located = x })
-judged_by L (Is f) j w e = (j.0, read_as j.1 w e, j.2)
+pub judged_by : {s : List ℕ} (L : ℕ) (r : Option Facts) → Judges s L r → (w : List ℕ) → s ≡ raw w → JudgedText L w r
+judged_by L None j w e = λ t x. j t (record { text = w; written = e; located = x })
+judged_by L (Some f) j w e = (j.0, read_as j.1 w e, j.2)
 
 -- ---- two verdicts that are allowed are equal
 
@@ -72,9 +71,9 @@ facts_once h k =
       unjudged = (h.unjudged ∙ sym k.unjudged) i;
     }
 
-pub judges_once : (s : List ℕ) (L : ℕ) (r q : Judgement) → Judges s L r → Judges s L q → r ≡ q
-judges_once s L Bad Bad h k = refl
-judges_once s L Bad (Is g) h k = absurd (h k.0 k.1)
-judges_once s L (Is f) Bad h k = absurd (k h.0 h.1)
-judges_once s L (Is f) (Is g) h k =
-    ap Is (facts_once h.2 (subst (λ (t : Location). AreFacts L t g) (spells_once k.1 h.1) k.2))
+pub judges_once : (s : List ℕ) (L : ℕ) (r q : Option Facts) → Judges s L r → Judges s L q → r ≡ q
+judges_once s L None None h k = refl
+judges_once s L None (Some g) h k = absurd (h k.0 k.1)
+judges_once s L (Some f) None h k = absurd (k h.0 h.1)
+judges_once s L (Some f) (Some g) h k =
+    ap Some (facts_once h.2 (subst (λ (t : Location). AreFacts L t g) (spells_once k.1 h.1) k.2))

@@ -5,11 +5,17 @@ ghost use Rattle.location_judge.specs.Readings.{Lists};
 
 use read_bytes::begins;
 
-// The operator that stands at a place, by its number (1 join, 2 order), and the place of its first member.
 #[derive(Clone, Copy)]
-pub enum Listed {
-    No,
-    At(u32, usize),
+pub enum Operator {
+    Join,
+    Order,
+}
+
+// An operator that stands at a place, and the place of its first member.
+#[derive(Clone, Copy)]
+pub struct Opening {
+    pub operator: Operator,
+    pub first: usize,
 }
 
 // Whether a complement stands at a place.
@@ -20,14 +26,20 @@ pub fn complement_at(s: &[u8], at: usize) -> bool
 }
 
 // Whether a join or an order stands at a place.
-pub fn list_at(s: &[u8], at: usize) -> Listed
+pub fn list_at(s: &[u8], at: usize) -> Option<Opening>
     ensures { Lists s.now at result }
 {
     if begins(s, at, b"join(") {
-        return Listed::At(1, at + 5);
+        return Some(Opening {
+            operator: Operator::Join,
+            first: at + 5,
+        });
     }
     if begins(s, at, b"order(") {
-        return Listed::At(2, at + 6);
+        return Some(Opening {
+            operator: Operator::Order,
+            first: at + 6,
+        });
     }
-    Listed::No
+    None
 }

@@ -1,14 +1,14 @@
 -- How many `,` a location is written with: none in a segment or site, and one less than it has spans in all. So they are counted, unread.
-use Prim.Native.Nat.{ℕ, ◌+◌, ◌-◌, ◌≤◌, ◌<◌}
+use Prim.Native.Nat.{ℕ, ◌+◌, ◌-◌, ◌≤◌}
 use Prim.Native.Char.{code}
 use Prim.Native.String.{String}
 use native.Mathlib.Omega.{arith}
 use mathlib.Core.Path.{◌≡◌, refl, ap, ◌∙◌, subst}
 use mathlib.Core.Bool.{Bool, true, false}
 use mathlib.Core.List.{List, [], ◌∷◌, ◌++◌, map}
-use lib.ListN.{length, length-map, length-reverse, get_or, drop, drop_of_length-le}
+use lib.ListN.{length, length-map, length-reverse, drop, drop_of_length-le}
 use lib.Dec.{eqb}
-use borrow.Author.Tests.{ne_eqb, eq-eqb}
+use borrow.Author.Tests.{ne_eqb}
 use Rattle.paper.specs.Bytes.{bytes, raw, all}
 use Rattle.paper.specs.Form.{Form, lit, ◌·◌, given}
 use Rattle.paper.specs.Values.{is_digit}
@@ -17,7 +17,6 @@ use Rattle.paper.specs.Locations.{number, sign, piece_text, complement, member_t
 use Rattle.paper.proofs.Texts.{raw_append}
 use Rattle.paper.proofs.Decimal.{digit_bounds}
 use Rattle.read_bytes.specs.Numbers.{flag}
-use Rattle.location_judge.proofs.Stand.{suffix}
 use Rattle.location_judge.proofs.Digits.{plain_digit}
 use Rattle.location_spans.specs.Room.{CountsSpans}
 
@@ -122,16 +121,6 @@ pub record Counting (s : List ℕ) (i n : ℕ) : Type 0 where
   pub left : n + commas (drop i s) ≡ commas s + 1
 
 module _ {s : List ℕ} {i n : ℕ} (p : Counting s i n) where
-  module _ (h : i < length s) where
-    here : (t : Bool) → eqb (get_or s i 0) (code ",") ≡ t → n + (flag t + commas (drop (i + 1) s)) ≡ commas s + 1
-    here t e = rw (suffix s i (get_or s i 0) h refl, e) at p.left
-
-    pub counting_comma : {m : ℕ} → get_or s i 0 ≡ code "," → m ≡ n + 1 → Counting s (i + 1) m
-    counting_comma e q = record { few = omega (arith, p.few, q); left = omega (arith, here true (eq-eqb (get_or s i 0) (code ",") e), q) }
-
-    pub counting_other : {m : ℕ} → ¬ (get_or s i 0 ≡ code ",") → m ≡ n → Counting s (i + 1) m
-    counting_other e q = record { few = omega (arith, p.few, q); left = omega (arith, here false (ne_eqb (get_or s i 0) (code ",") e), q) }
-
   pub counting_all : length s ≤ i → CountsSpans s n
   counting_all h t x =
       omega (

@@ -8,17 +8,19 @@ use lib.ListN.{length, set, length-append, length-set}
 use lib.Seq.{sets}
 use lib.Dec.{ltb}
 use borrow.Author.Tests.{lt-ltb, le-ltb}
-use Rattle.paper.specs.Locations.{Location, Span, spans, operator_number}
+use Rattle.std.specs.Prelude.{Option, None, Some}
+use Rattle.paper.specs.Locations.{Location, one, many, join, order, Span, spans, operator_number}
 use Rattle.paper.specs.Answers.{triples, front}
+use Rattle.location_judge.specs.Readings.{operator_code}
 use Rattle.lent_room.proofs.Laws.{sets_append, sets_front}
 use Rattle.location_spans.specs.Walking.{Left, Steps, Starts, span_is}
 use Rattle.location_spans.specs.Room.{CountsSpans, PutsSpans, AnswerSays, Answers}
-use Rattle.location_spans.specs.declared.walking.Triple.{Triple as Given}
 use Rattle.location_spans.specs.declared.walking.Walk.{Walk}
 use Rattle.location_spans.specs.declared.walking.Started.{Started}
-use Rattle.location_spans.specs.declared.walking.Next.TheVariants as next
-use Rattle.location_spans.specs.declared.room.Answer.{Answer}
-use Rattle.location_spans.specs.declared.room.Answer.TheVariants as answer
+use Rattle.location_spans.specs.declared.walking.NextSpan.{NextSpan}
+use Rattle.location_judge.specs.declared.operators.Operator.{Operator}
+use Rattle.location_judge.specs.declared.operators.Operator.TheVariants.{Join, Order}
+use Rattle.location_spans.specs.declared.room.WrittenSpans.{WrittenSpans}
 
 triples_size : (l : List Span) → length (triples l) ≡ length l * 3
 triples_size [] = refl
@@ -65,7 +67,7 @@ module _ {s : List ℕ} {L : ℕ} {from : Walk} {count : ℕ} {before : List ℕ
       }
 
   module _ {after : List ℕ} {w : Walk} {k : ℕ} (y : Laying s L from count before after w k) where
-    pub laying_done : k < count → Steps s L w next.Done → PutsSpans s L from count before after
+    pub laying_done : k < count → Steps s L w None → PutsSpans s L from count before after
     laying_done h f l x e =
         let z = y.laid l x e in
         absurd (omega (arith, ap length z.all, length-append z.done z.others, ap length (f.yields z.others z.left), z.many))
@@ -80,9 +82,9 @@ module _ {s : List ℕ} {L : ℕ} {from : Walk} {count : ℕ} {before : List ℕ
             ∙ sets_front (triples l) before (omega (arith, triples_size l, e, y.room))
         go z (a ∷ r) q = absurd (omega (arith, ap length q, length-append z.done (a ∷ r), z.many))
 
-    pub laying_next : (x : Given) (v : Walk) → k < count → Steps s L w (next.Is x v)
-        → Laying s L from count before (set (set (set after (k * 3) x.first) (k * 3 + 1) x.last) (k * 3 + 2) x.marks) v (k + 1)
-    laying_next x v h f =
+    pub laying_next : {n : NextSpan} → k < count → Steps s L w (Some n) → let x = n.span in
+        Laying s L from count before (set (set (set after (k * 3) x.first) (k * 3 + 1) x.last) (k * 3 + 2) x.marks) n.left (k + 1)
+    laying_next {n} h f =
         record {
           within = omega arith;
           room = y.room;
@@ -92,23 +94,23 @@ module _ {s : List ℕ} {L : ℕ} {from : Walk} {count : ℕ} {before : List ℕ
               let m = z.many in
               let u = f.yields z.others z.left in
               record {
-                done = z.done ++ (span_is x ∷ []);
+                done = z.done ++ (span_is n.span ∷ []);
                 others = u.0;
-                all = z.all ∙ ap (λ (r : List Span). z.done ++ r) u.1 ∙ sym (append_assoc z.done (span_is x ∷ []) u.0);
-                many = omega (arith, length-append z.done (span_is x ∷ []), m);
+                all = z.all ∙ ap (λ (r : List Span). z.done ++ r) u.1 ∙ sym (append_assoc z.done (span_is n.span ∷ []) u.0);
+                many = omega (arith, length-append z.done (span_is n.span ∷ []), m);
                 left = u.2;
-                holds = rw (z.holds, ← m) (sets_span z.done (span_is x) before);
+                holds = rw (z.holds, ← m) (sets_span z.done (span_is n.span) before);
               };
         }
 
 -- ---- the answers
 
 module _ {s : List ℕ} {L n : ℕ} (h : CountsSpans s n) (out : List ℕ) where
-  pub spans_short : length out / 3 < n → Answers s L out answer.Short out
+  pub spans_short : length out / 3 < n → Answers s L out None out
   spans_short l = record { says = λ t x right. (refl, omega (arith, h t x, triples_size (spans t))) }
 
   pub spans_are : {r : Started} {after : List ℕ} → n ≤ length out / 3 → Starts s r → PutsSpans s L r.walk n out after
-      → Answers s L out (answer.Are r.operator n) after
+      → Answers s L out (Some (record { operator = r.operator; count = n })) after
   spans_are l st p =
       record {
         says = λ t x right.
@@ -117,13 +119,30 @@ module _ {s : List ℕ} {L n : ℕ} (h : CountsSpans s n) (out : List ℕ) where
 
 -- ---- two answers that are allowed are equal
 
-module _ (t : Location) (out : List ℕ) where
-  abbrev answer_of : Answer × List ℕ
-  answer_of =
-      cond (ltb (length out) (length (triples (spans t)))) (answer.Short, out)
-      (answer.Are (operator_number t) (length (spans t)), front (triples (spans t)) out)
+abbrev operator_from : Location → Option Operator
+operator_from (one m) = None
+operator_from (many c join l) = Some Join
+operator_from (many c order l) = Some Order
 
-  pub is_answer : (r : Answer) (after : List ℕ) → AnswerSays t out r after → ◌≡◌ {A = Answer × List ℕ} (r, after) answer_of
-  is_answer answer.Short after h = (λ i. (answer.Short, h.0 i)) ∙ sym (rw (lt-ltb (length out) (length (triples (spans t))) h.1))
-  is_answer (answer.Are operator count) after h =
-      (λ i. (answer.Are (h.0 i) (h.1 i), h.3 i)) ∙ sym (rw (le-ltb (length out) (length (triples (spans t))) h.2))
+code_is : (o : Option Operator) (t : Location) → operator_code o ≡ operator_number t → o ≡ operator_from t
+code_is None (one m) e = refl
+code_is (Some Join) (many c join l) e = refl
+code_is (Some Order) (many c order l) e = refl
+code_is None (many c join l) e = absurd (omega (arith, e))
+code_is None (many c order l) e = absurd (omega (arith, e))
+code_is (Some Join) (one m) e = absurd (omega (arith, e))
+code_is (Some Join) (many c order l) e = absurd (omega (arith, e))
+code_is (Some Order) (one m) e = absurd (omega (arith, e))
+code_is (Some Order) (many c join l) e = absurd (omega (arith, e))
+
+module _ (t : Location) (out : List ℕ) where
+  abbrev answer_of : Option WrittenSpans × List ℕ
+  answer_of =
+      cond (ltb (length out) (length (triples (spans t)))) (None, out)
+      (Some (record { operator = operator_from t; count = length (spans t) }), front (triples (spans t)) out)
+
+  pub is_answer : (r : Option WrittenSpans) (after : List ℕ) → AnswerSays t out r after → ◌≡◌ {A = Option WrittenSpans × List ℕ} (r, after) answer_of
+  is_answer None after h = (λ i. (None, h.0 i)) ∙ sym (rw (lt-ltb (length out) (length (triples (spans t))) h.1))
+  is_answer (Some x) after h =
+      let o = code_is x.operator t h.0 in
+      (λ i. (Some (record { operator = o i; count = h.1 i }), h.3 i)) ∙ sym (rw (le-ltb (length out) (length (triples (spans t))) h.2))

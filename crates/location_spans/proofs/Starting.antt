@@ -9,6 +9,7 @@ use mathlib.Core.Logic.{inl, inr}
 use mathlib.Core.List.{List, [], ◌∷◌, ◌++◌, map, reverse_aux}
 use lib.ListN.{length, get_or, drop, length-drop}
 use lib.Seq.{get_or-drop}
+use Rattle.std.specs.Prelude.{None, Some}
 use Rattle.paper.specs.Bytes.{bytes, raw}
 use Rattle.paper.specs.Locations.{Piece, is_wrong, Member, Operator, join, order, operator_name, Location, one, many}
 use Rattle.paper.specs.Locations.{any, breaks25, Span, span_of, member_span, spans, operator_number}
@@ -17,10 +18,10 @@ use Rattle.paper.proofs.Locate.Pieces.{Follow, Low, piece_low}
 use Rattle.read_bytes.specs.Words.{There}
 use Rattle.location_judge.specs.Places.{RestIs}
 use Rattle.location_judge.specs.Judging.{Spells}
-use Rattle.location_judge.specs.Readings.{number_of, Lists}
+use Rattle.location_judge.specs.Readings.{operator_of, number_of, operator_code, Lists}
 use Rattle.location_spans.specs.Walking.{Written, Ahead, Behind, Left, Starts}
 use Rattle.location_spans.specs.Walking as walking
-use Rattle.location_judge.specs.declared.operators.Listed.TheVariants as list-is
+use Rattle.location_judge.specs.declared.operators.Opening.{Opening}
 use Rattle.location_spans.specs.declared.walking.Walk.TheVariants as walk
 use Rattle.location_spans.specs.declared.walking.Started.{Started}
 use Rattle.location_judge.proofs.Stand.{begun, not_begun, behind_text}
@@ -126,7 +127,7 @@ low_list l order z e = low_letter l e (omega arith)
 
 -- r is the start of the location t
 record StartIs (s : List ℕ) (t : Location) (r : Started) : Type 0 where
-  operator : r.operator ≡ operator_number t
+  operator : operator_code r.operator ≡ operator_number t
   walk : (L : ℕ) → breaks25 L t ≡ false → Left s L r.walk (spans t)
 
 starts : {s : List ℕ} {r : Started} → ((w : List ℕ) (t : Location) → RestIs s 0 w → location_rest t w [] → StartIs s t r) → Starts s r
@@ -144,62 +145,62 @@ module _ {s : List ℕ} {t : Bool} (word : There (raw (bytes "complement(")) s 0
     no_list : {w : List ℕ} (z : List ℕ) (o : Operator) → RestIs s 0 w → w ≡ bytes (operator_name o) ++ z → ⊥
     no_list z o st e = let b = begun (bytes "complement(") word st a in complement_list o b.0 z (sym b.1 ∙ e)
 
-    pub start_turned : Lists s 11 list-is.No → Starts s (record { operator = 0; walk = walk.Ahead 0 })
+    pub start_turned : Lists s 11 None → Starts s (record { operator = None; walk = walk.Ahead 0 })
     start_turned h = starts go
       where
-        go : (w : List ℕ) (t : Location) → RestIs s 0 w → location_rest t w [] → StartIs s t (record { operator = 0; walk = walk.Ahead 0 })
+        go : (w : List ℕ) (t : Location) → RestIs s 0 w → location_rest t w [] → StartIs s t (record { operator = None; walk = walk.Ahead 0 })
         go w (one m) st y = record { operator = refl; walk = λ L q. one_ahead L m st y q }
         go w (many true o ms) st y = let i = y.2.1 in absurd (h.says y.0 (within st y.1) o i.0 i.1)
         go w (many false o ms) st y = absurd (no_list y.0 o st y.1)
 
-    pub start_back : {op from : ℕ} → Lists s 11 (list-is.At op from) → Starts s (record { operator = op; walk = walk.Behind from (length s - 2) })
-    start_back {op} {from} h = starts go
+    pub start_back : {x : Opening} → Lists s 11 (Some x) → Starts s (record { operator = Some x.operator; walk = walk.Behind x.first (length s - 2) })
+    start_back {x} h = starts go
       where
         single : {w : List ℕ} → RestIs s 0 w → (c : Bool) (p : Piece) → complement_rest c (piece_rest p) w [] → ⊥
-        single st true p y = let k = h.says y.0 (within st y.1) in low_list (piece_low p y.0 y.2.0 y.2.1) k.0 k.2 k.3
+        single st true p y = let k = h.says y.0 (within st y.1) in low_list (piece_low p y.0 y.2.0 y.2.1) (operator_of x.operator) k.0 k.1
         single {w} st false p y = low_letter (piece_low p w [] y) (begun (bytes "complement(") word st a).1 (omega arith)
 
-        go : (w : List ℕ) (t : Location) → RestIs s 0 w → location_rest t w [] → StartIs s t (record { operator = op; walk = walk.Behind from (length s - 2) })
+        go : (w : List ℕ) (t : Location) → RestIs s 0 w → location_rest t w [] → StartIs s t (record { operator = Some x.operator; walk = walk.Behind x.first (length s - 2) })
         go w (one m) st y = absurd (single st m.complemented m.piece y)
         go w (many false o ms) st y = absurd (no_list y.0 o st y.1)
         go w (many true o ms) st y =
             let i = y.2.1 in
             let k = h.says y.0 (within st y.1) in
-            let (e, v) = same_list k.0 o k.2 i.0 (sym k.3 ∙ i.1) in
+            let (e, v) = same_list (operator_of x.operator) o k.0 i.0 (sym k.1 ∙ i.1) in
             let d = i.2.2 ∙ ap (λ (z : List ℕ). code ")" ∷ z) y.2.2 in
             let u = subst (list_rest (fitting_rest true) ms i.0) d i.2.1.1 in
             record {
-              operator = k.1 ∙ ap number_of e ∙ sym (operator_number_lem true o ms);
+              operator = ap number_of e ∙ sym (operator_number_lem true o ms);
               walk = λ L q.
-                  let b = list_back L ms i.0 (bytes ")") (subst (RestIs s from) v k.4) u q in
+                  let b = list_back L ms i.0 (bytes ")") (subst (RestIs s x.first) v k.2) u q in
                   let n : b.0 ≡ length s - 2 = omega (arith, b.1.inside, ap length b.1.is, length-drop b.0 s) in
-                  subst (λ (j : ℕ). Behind s L from j (spans (many true o ms))) n b.2;
+                  subst (λ (j : ℕ). Behind s L x.first j (spans (many true o ms))) n b.2;
             }
 
   module _ (a : t ≡ false) where
-    pub start_plain : Lists s 0 list-is.No → Starts s (record { operator = 0; walk = walk.Ahead 0 })
+    pub start_plain : Lists s 0 None → Starts s (record { operator = None; walk = walk.Ahead 0 })
     start_plain h = starts go
       where
-        go : (w : List ℕ) (t : Location) → RestIs s 0 w → location_rest t w [] → StartIs s t (record { operator = 0; walk = walk.Ahead 0 })
+        go : (w : List ℕ) (t : Location) → RestIs s 0 w → location_rest t w [] → StartIs s t (record { operator = None; walk = walk.Ahead 0 })
         go w (one m) st y = record { operator = refl; walk = λ L q. one_ahead L m st y q }
         go w (many true o ms) st y = absurd (not_begun (bytes "complement(") word st a y.0 y.1)
         go w (many false o ms) st y = absurd (h.says w st o y.0 y.1)
 
-    pub start_list : {op from : ℕ} → Lists s 0 (list-is.At op from) → Starts s (record { operator = op; walk = walk.Ahead from })
-    start_list {op} {from} h = starts go
+    pub start_list : {x : Opening} → Lists s 0 (Some x) → Starts s (record { operator = Some x.operator; walk = walk.Ahead x.first })
+    start_list {x} h = starts go
       where
         single : {w : List ℕ} → RestIs s 0 w → (c : Bool) (p : Piece) → complement_rest c (piece_rest p) w [] → ⊥
         single st true p y = not_begun (bytes "complement(") word st a y.0 y.1
-        single {w} st false p y = let k = h.says w st in low_list (piece_low p w [] y) k.0 k.2 k.3
+        single {w} st false p y = let k = h.says w st in low_list (piece_low p w [] y) (operator_of x.operator) k.0 k.1
 
-        go : (w : List ℕ) (t : Location) → RestIs s 0 w → location_rest t w [] → StartIs s t (record { operator = op; walk = walk.Ahead from })
+        go : (w : List ℕ) (t : Location) → RestIs s 0 w → location_rest t w [] → StartIs s t (record { operator = Some x.operator; walk = walk.Ahead x.first })
         go w (one m) st y = absurd (single st m.complemented m.piece y)
         go w (many true o ms) st y = absurd (not_begun (bytes "complement(") word st a y.0 y.1)
         go w (many false o ms) st y =
             let k = h.says w st in
-            let (e, v) = same_list k.0 o k.2 y.0 (sym k.3 ∙ y.1) in
+            let (e, v) = same_list (operator_of x.operator) o k.0 y.0 (sym k.1 ∙ y.1) in
             let u = subst (list_rest (fitting_rest false) ms y.0) y.2.2 y.2.1.1 in
             record {
-              operator = k.1 ∙ ap number_of e ∙ sym (operator_number_lem false o ms);
-              walk = λ L q. list_ahead L ms y.0 [] (subst (RestIs s from) v k.4) u q;
+              operator = ap number_of e ∙ sym (operator_number_lem false o ms);
+              walk = λ L q. list_ahead L ms y.0 [] (subst (RestIs s x.first) v k.2) u q;
             }

@@ -10,6 +10,7 @@ use mathlib.Core.List.{List, [], ◌∷◌, ◌++◌, cons≢nil}
 use lib.ListN.{length, get_or, drop, length-drop}
 use lib.Dec.{ltb}
 use borrow.Author.Tests.{ltb-false}
+use Rattle.std.specs.Prelude.{Option, None, Some}
 use Rattle.paper.specs.Bytes.{bytes, raw}
 use Rattle.paper.specs.Locations.{Piece, piece_text, complement, is_wrong, first_of, last_of, span_of}
 use Rattle.paper.specs.Locations as paper
@@ -23,11 +24,9 @@ use Rattle.location_spans.specs.Walking as walking
 use Rattle.location_spans.specs.Members.{Gives, MemberSays, Members, LastStart}
 use Rattle.location_judge.specs.declared.pieces.Reach.{Reach}
 use Rattle.location_judge.specs.declared.pieces.FoundPiece.{FoundPiece}
-use Rattle.location_judge.specs.declared.pieces.FoundPiece.TheVariants as found_is
 use Rattle.location_spans.specs.declared.walking.Walk.{Walk}
 use Rattle.location_spans.specs.declared.walking.Walk.TheVariants as walk
-use Rattle.location_spans.specs.declared.walking.Next.{Next}
-use Rattle.location_spans.specs.declared.walking.Next.TheVariants as next
+use Rattle.location_spans.specs.declared.walking.NextSpan.{NextSpan}
 use Rattle.location_judge.proofs.Stand.{begun, not_begun, room}
 use Rattle.location_judge.proofs.Rule25.{keeps_wrong}
 use Rattle.location_judge.proofs.Levels.{complement_stretch}
@@ -36,16 +35,16 @@ use Rattle.location_spans.proofs.Commas.{written_order, start_first, start_more}
 -- ---- members
 
 -- a segment or site that is written is read
-reads_piece : {s : List ℕ} {at : ℕ} {c : Bool} (r : FoundPiece) → Pieces s at c r → (p : Piece) (v z : List ℕ) → piece_rest p v z → RestIs s at v → Follow z
+reads_piece : {s : List ℕ} {at : ℕ} {c : Bool} (r : Option FoundPiece) → Pieces s at c r → (p : Piece) (v z : List ℕ) → piece_rest p v z → RestIs s at v → Follow z
     → MemberSays s c p z r
-reads_piece found_is.No h p v z x st f = none-ne-some (p, z) (sym (h.says v st) ∙ piece_complete p v z x f)
-reads_piece {s} {c = c} (found_is.At n a odd) h p v z x st f =
+reads_piece None h p v z x st f = none-ne-some (p, z) (sym (h.says v st) ∙ piece_complete p v z x f)
+reads_piece {s} {c = c} (Some y) h p v z x st f =
     let m = h.says v st in
     let q : ◌≡◌ {A = Piece × List ℕ} (m.value, m.rest) (p, z)
     = some-injective (m.value, m.rest) (p, z) (sym m.is ∙ piece_complete p v z x f) in
     let same = ap (λ (y : Piece × List ℕ). y.0) q in
     let left = ap (λ (y : Piece × List ℕ). y.1) q in
-    (subst (λ (k : Piece). Keeps c k a odd) same m.holds, subst (RestIs s n) left m.stands)
+    (subst (λ (k : Piece). Keeps c k y.reach y.odd) same m.holds, subst (RestIs s y.end) left m.stands)
 
 rest_of : (c : Bool) (p : Piece) (u z : List ℕ) → complement c (piece_text p) 0 u → complement_rest c (piece_rest p) (u ++ z) z
 rest_of c p u z x = (same_complement c (same_piece p)).leaves 0 (u, refl, x)
@@ -55,7 +54,7 @@ pub low_letter : {w : List ℕ} → Low w → {a : ℕ} {v : List ℕ} → w ≡
 low_letter l e h = omega (arith, l.3, ap (λ (x : List ℕ). get_or x 0 0) (sym l.2 ∙ e))
 
 module _ {s : List ℕ} {at : ℕ} {t : Bool} (word : There (raw (bytes "complement(")) s at t) where
-  pub member_plain : t ≡ false → (r : FoundPiece) → Pieces s at false r → Members s at r
+  pub member_plain : t ≡ false → (r : Option FoundPiece) → Pieces s at false r → Members s at r
   member_plain e r h = record { within = h.within; says = says }
     where
       says : (c : Bool) (p : Piece) (u z : List ℕ) → complement c (piece_text p) 0 u → RestIs s at (u ++ z) → Follow z → MemberSays s c p z r
@@ -64,7 +63,7 @@ module _ {s : List ℕ} {at : ℕ} {t : Bool} (word : There (raw (bytes "complem
 
   module _ (e : t ≡ true) where
     -- what stands in the complement is read, and `)` is left
-    inside : (r : FoundPiece) → Pieces s (at + 11) true r → (c : Bool) (p : Piece) (u z : List ℕ) → complement c (piece_text p) 0 u → RestIs s at (u ++ z)
+    inside : (r : Option FoundPiece) → Pieces s (at + 11) true r → (c : Bool) (p : Piece) (u z : List ℕ) → complement c (piece_text p) 0 u → RestIs s at (u ++ z)
         → (c ≡ true) × MemberSays s true p (code ")" ∷ z) r
     inside r h false p u z x st =
         let b = begun (bytes "complement(") word st e in
@@ -77,33 +76,30 @@ module _ {s : List ℕ} {at : ℕ} {t : Bool} (word : There (raw (bytes "complem
         let k : piece_rest p y.0 (code ")" ∷ z) = subst (piece_rest p y.0) m.2 m.1 in
         (refl, reads_piece r h p y.0 (code ")" ∷ z) k (subst (RestIs s (at + 11)) q b.2) (inr refl))
 
-    pub member_no : Pieces s (at + 11) true found_is.No → Members s at found_is.No
-    member_no h = record { within = tt; says = λ c p u z x st f. (inside found_is.No h c p u z x st).1 }
+    pub member_no : Pieces s (at + 11) true None → Members s at None
+    member_no h = record { within = tt; says = λ c p u z x st f. (inside None h c p u z x st).1 }
 
-    module _ {n : ℕ} {a : Reach} {odd u : Bool} (h : Pieces s (at + 11) true (found_is.At n a odd)) (bracket : There (raw (bytes ")")) s n u) where
-      pub member_open : u ≡ false → Members s at found_is.No
+    module _ {y : FoundPiece} {u : Bool} (h : Pieces s (at + 11) true (Some y)) (bracket : There (raw (bytes ")")) s y.end u) where
+      pub member_open : u ≡ false → Members s at None
       member_open b =
           record {
             within = tt;
             says = λ c p v z x st f.
-                let m = inside (found_is.At n a odd) h c p v z x st in
+                let m = inside (Some y) h c p v z x st in
                 not_begun (bytes ")") bracket m.1.1 b z refl;
           }
 
-      pub member_closed : u ≡ true → Members s at (found_is.At (n + 1) a odd)
+      pub member_closed : u ≡ true → Members s at (Some (record { end = y.end + 1; reach = y.reach; odd = y.odd }))
       member_closed b =
           let i = h.within in
           record {
             within = (complement_stretch word e i.0 bracket b, i.1, i.2);
             says = λ c p v z x st f.
-                let m = inside (found_is.At n a odd) h c p v z x st in
-                let y = begun (bytes ")") bracket m.1.1 b in
-                let q : y.0 ≡ z = ap (drop 1) (sym y.1) in
-                (subst (λ (k : Bool). Keeps k p a odd) (sym m.0) m.1.0, subst (RestIs s (n + 1)) q y.2);
+                let m = inside (Some y) h c p v z x st in
+                let v = begun (bytes ")") bracket m.1.1 b in
+                let q : v.0 ≡ z = ap (drop 1) (sym v.1) in
+                (subst (λ (k : Bool). Keeps k p y.reach y.odd) (sym m.0) m.1.0, subst (RestIs s (y.end + 1)) q v.2);
           }
-
-pub members_are : {s : List ℕ} {at : ℕ} {r q : FoundPiece} → Members s at r → r ≡ q → Members s at q
-members_are {s} {at} h e = subst (Members s at) e h
 
 -- ---- a span is given
 
@@ -117,21 +113,21 @@ unwrong L x y m e = go (ltb L x) refl (ltb L y) refl
 
 module _ {L : ℕ} {a : Reach} {w : Walk} where
   yields_give : (s : List ℕ) (k : List paper.Span) {c odd : Bool} {p : Piece} → L < 4294967296 → Keeps c p a odd → is_wrong L p ≡ false
-      → (r : Next) → Gives L a w r → Left s L w k → Yields s L (span_of c p ∷ k) r
-  yields_give s k l h q next.Done g x = absurd (true≢false (sym g.says ∙ keeps_wrong L l h ∙ q))
-  yields_give s k {c} {odd} {p} l h q (next.Is y v) g x =
+      → (r : Option NextSpan) → Gives L a w r → Left s L w k → Yields s L (span_of c p ∷ k) r
+  yields_give s k l h q None g x = absurd (true≢false (sym g.says ∙ keeps_wrong L l h ∙ q))
+  yields_give s k {c} {odd} {p} l h q (Some y) g x =
       let m = g.says in
       let first : first_of p ≡ a.first = omega (arith, h.first, m.2) in
       let last : last_of p ≡ a.last = omega (arith, h.last, m.3) in
-      let same : span_of c p ≡ span_is y = (λ i. record { first = first i; last = last i; marks = sym h.marks i }) ∙ sym m.1 in
+      let same : span_of c p ≡ span_is y.span = (λ i. record { first = first i; last = last i; marks = sym h.marks i }) ∙ sym m.1 in
       (k, λ i. same i ∷ k, subst (λ (u : Walk). Left s L u k) (sym m.0) x)
 
-  within_give : (size : ℕ) (v : Walk) (r : Next) → 1 ≤ a.first → 1 ≤ a.last → steps_left size w < steps_left size v → Gives L a w r → step_within size L v r
-  within_give size v next.Done h k l g = tt
-  within_give size v (next.Is x u) h k l g =
+  within_give : (size : ℕ) (v : Walk) (r : Option NextSpan) → 1 ≤ a.first → 1 ≤ a.last → steps_left size w < steps_left size v → Gives L a w r → step_within size L v r
+  within_give size v None h k l g = tt
+  within_give size v (Some x) h k l g =
       let m = g.says in
-      let first : x.first ≡ a.first = ap (λ (y : paper.Span). y.first) m.1 in
-      let last : x.last ≡ a.last = ap (λ (y : paper.Span). y.last) m.1 in (
+      let first : x.span.first ≡ a.first = ap (λ (y : paper.Span). y.first) m.1 in
+      let last : x.span.last ≡ a.last = ap (λ (y : paper.Span). y.last) m.1 in (
         record {
           first_low = omega arith;
           first_high = omega (arith, m.2);
@@ -151,15 +147,15 @@ not_ended {z = []} h e = cons≢nil (sym e)
 not_ended {z = b ∷ z} h e = omega (arith, h, ap (λ (x : List ℕ). get_or x 0 0) e)
 
 module _ {s : List ℕ} {L at : ℕ} where
-  pub ahead_no : Members s at found_is.No → Steps s L (walk.Ahead at) next.Done
+  pub ahead_no : Members s at None → Steps s L (walk.Ahead at) None
   ahead_no h = record { within = tt; yields = λ l x. absurd (go x) }
     where
       go : {l : List paper.Span} → Ahead s L at l → ⊥
       go (walking.Ahead.last {c} {p} {z = z} w e) = h.says c p w.text z w.is w.from w.follow
       go (walking.Ahead.more {c} {p} {z = z} w x) = h.says c p w.text (code "," ∷ z) w.is w.from w.follow
 
-  module _ (fits : L < 4294967296) {n : ℕ} {a : Reach} {odd t : Bool} (h : Members s at (found_is.At n a odd)) (comma : There (raw (bytes ",")) s n t) where
-    pub ahead_next : t ≡ true → (r : Next) → Gives L a (walk.Ahead (n + 1)) r → Steps s L (walk.Ahead at) r
+  module _ (fits : L < 4294967296) {y : FoundPiece} {t : Bool} (h : Members s at (Some y)) (comma : There (raw (bytes ",")) s y.end t) where
+    pub ahead_next : t ≡ true → (r : Option NextSpan) → Gives L y.reach (walk.Ahead (y.end + 1)) r → Steps s L (walk.Ahead at) r
     ahead_next b r g =
         let i = h.within in
         record {
@@ -175,7 +171,7 @@ module _ {s : List ℕ} {L at : ℕ} where
             let m = h.says c p w.text (code "," ∷ z) w.is w.from w.follow in
             yields_give s l fits m.0 w.keeps r g (subst (λ (k : ℕ). Ahead s L (k + 1) l) (same_place w.to m.1) x)
 
-    pub ahead_last : t ≡ false → (r : Next) → Gives L a walk.Done r → Steps s L (walk.Ahead at) r
+    pub ahead_last : t ≡ false → (r : Option NextSpan) → Gives L y.reach walk.Done r → Steps s L (walk.Ahead at) r
     ahead_last b r g =
         let i = h.within in
         record { within = within_give (length s) (walk.Ahead at) r i.1 i.2 (omega (arith, i.0.onward, i.0.inside)) g; yields = λ l x. go x }
@@ -204,7 +200,7 @@ module _ {s : List ℕ} {L low at : ℕ} where
   behind_inside (walking.Behind.first w) = written_order w
   behind_inside (walking.Behind.more x h e w) = let o = written_order w in (omega (arith, o.0), o.1)
 
-  pub behind_outside : (low ≤ at → at ≤ length s → ⊥) → Steps s L (walk.Behind low at) next.Done
+  pub behind_outside : (low ≤ at → at ≤ length s → ⊥) → Steps s L (walk.Behind low at) None
   behind_outside h = record { within = tt; yields = λ l x. let b = behind_inside x in absurd (h b.0 b.1) }
 
   module _ {i : ℕ} (h : LastStart s low at i) where
@@ -224,36 +220,36 @@ module _ {s : List ℕ} {L low at : ℕ} where
           left = inr (omega arith, subst (λ (n : ℕ). Behind s L low n l) d x);
         }
 
-    said : (r : FoundPiece) → Pieces s i true r → {l : List paper.Span} (b : Back s L low at i l) → MemberSays s true b.piece b.rest r
+    said : (r : Option FoundPiece) → Pieces s i true r → {l : List paper.Span} (b : Back s L low at i l) → MemberSays s true b.piece b.rest r
     said r k b =
         let w = b.written in
         reads_piece r k b.piece (w.text ++ b.rest) b.rest (rest_of false b.piece w.text b.rest w.is) w.from w.follow
 
-    pub behind_no : Pieces s i true found_is.No → Steps s L (walk.Behind low at) next.Done
-    behind_no k = record { within = tt; yields = λ l x. absurd (said found_is.No k (back x)) }
+    pub behind_no : Pieces s i true None → Steps s L (walk.Behind low at) None
+    behind_no k = record { within = tt; yields = λ l x. absurd (said None k (back x)) }
 
-    module _ (fits : L < 4294967296) {n : ℕ} {a : Reach} {odd : Bool} (k : Pieces s i true (found_is.At n a odd)) where
+    module _ (fits : L < 4294967296) {y : FoundPiece} (k : Pieces s i true (Some y)) where
       -- v is left, if it is what is left of the spans
       behind_by : (v : Walk) → steps_left (length s) v < steps_left (length s) (walk.Behind low at)
-          → ((l : List paper.Span) (b : Back s L low at i l) → Left s L v b.others) → (r : Next) → Gives L a v r → Steps s L (walk.Behind low at) r
+          → ((l : List paper.Span) (b : Back s L low at i l) → Left s L v b.others) → (r : Option NextSpan) → Gives L y.reach v r → Steps s L (walk.Behind low at) r
       behind_by v less left r g =
           record {
             within = within_give (length s) (walk.Behind low at) r k.within.1 k.within.2 less g;
             yields = λ l x.
                 let b = back x in
-                let m = said (found_is.At n a odd) k b in
-                subst (λ (y : List paper.Span). Yields s L y r) (sym b.are)
+                let m = said (Some y) k b in
+                subst (λ (x : List paper.Span). Yields s L x r) (sym b.are)
                 (yields_give s b.others fits m.0 b.written.keeps r g (left l b));
           }
 
-      pub behind_last : i ≡ low → (r : Next) → Gives L a walk.Done r → Steps s L (walk.Behind low at) r
+      pub behind_last : i ≡ low → (r : Option NextSpan) → Gives L y.reach walk.Done r → Steps s L (walk.Behind low at) r
       behind_last e = behind_by walk.Done (omega (arith, h.before)) (λ l b. none_left b.left)
         where
           none_left : {l : List paper.Span} → ((i ≡ low) × (l ≡ [])) ⊎ ((low < i) × Behind s L low (i - 1) l) → l ≡ []
           none_left (inl q) = q.1
           none_left (inr q) = absurd (omega (arith, q.0))
 
-      pub behind_more : (i ≡ low → ⊥) → (r : Next) → Gives L a (walk.Behind low (i - 1)) r → Steps s L (walk.Behind low at) r
+      pub behind_more : (i ≡ low → ⊥) → (r : Option NextSpan) → Gives L y.reach (walk.Behind low (i - 1)) r → Steps s L (walk.Behind low at) r
       behind_more e = behind_by (walk.Behind low (i - 1)) (omega (arith, h.after, h.before)) (λ l b. some_left b.left)
         where
           some_left : {l : List paper.Span} → ((i ≡ low) × (l ≡ [])) ⊎ ((low < i) × Behind s L low (i - 1) l) → Behind s L low (i - 1) l
@@ -262,11 +258,8 @@ module _ {s : List ℕ} {L low at : ℕ} where
 
 -- ---- a step, by the kind of its walk
 
-pub step_done : {s : List ℕ} {L : ℕ} → Steps s L walk.Done next.Done
+pub step_done : {s : List ℕ} {L : ℕ} → Steps s L walk.Done None
 step_done = record { within = tt; yields = λ l x. x }
 
-pub step_by : {s : List ℕ} {L : ℕ} {w v : Walk} {r : Next} → w ≡ v → Steps s L v r → Steps s L w r
+pub step_by : {s : List ℕ} {L : ℕ} {w v : Walk} {r : Option NextSpan} → w ≡ v → Steps s L v r → Steps s L w r
 step_by {s} {L} {w} {v} {r} e = subst (λ (u : Walk). Steps s L u r) (sym e)
-
-pub steps_are : {s : List ℕ} {L : ℕ} {w : Walk} {r q : Next} → Steps s L w r → r ≡ q → Steps s L w q
-steps_are {s} {L} {w} h e = subst (Steps s L w) e h

@@ -1,5 +1,5 @@
 -- What is promised of the walk over the spans of a location: which spans are left of it.
-use Rattle.std.specs.Prelude.{ℕ, ◌+◌, ◌-◌, ◌≤◌, ◌<◌, ◌≡◌, Bool, true, false, List, [], ◌∷◌, ◌++◌, length, get_or}
+use Rattle.std.specs.Prelude.{ℕ, ◌+◌, ◌-◌, ◌≤◌, ◌<◌, ◌≡◌, Bool, true, false, List, [], ◌∷◌, ◌++◌, length, get_or, Option, None, Some}
 use Prim.Native.Char.{code}
 use Rattle.paper.specs.Locations.{Piece, piece_text, complement, Location, is_wrong, breaks25, span_of, spans, operator_number}
 use Rattle.paper.specs.Locations as paper
@@ -7,12 +7,12 @@ use Rattle.paper.proofs.Locate.Pieces.{Follow}
 use Rattle.paper.specs.Demands.{Inside}
 use Rattle.location_judge.specs.Places.{RestIs}
 use Rattle.location_judge.specs.Judging.{Spells}
+use Rattle.location_judge.specs.Readings.{operator_code}
 use Rattle.location_spans.specs.declared.walking.Triple.{Triple}
 use Rattle.location_spans.specs.declared.walking.Walk.{Walk}
 use Rattle.location_spans.specs.declared.walking.Walk.TheVariants as walk
 use Rattle.location_spans.specs.declared.walking.Started.{Started}
-use Rattle.location_spans.specs.declared.walking.Next.{Next}
-use Rattle.location_spans.specs.declared.walking.Next.TheVariants as next
+use Rattle.location_spans.specs.declared.walking.NextSpan.{NextSpan}
 
 abbrev pub span_is : Triple → paper.Span
 span_is x = record { first = x.first; last = x.last; marks = x.marks }
@@ -51,7 +51,7 @@ Left s L (walk.Behind low at) l = Behind s L low at l
 
 -- of whichever location the bytes are: its operator; and if it keeps rule 25, all its spans are left
 pub record Starts (s : List ℕ) (r : Started) : Type 0 where
-  pub operator : (t : Location) → Spells s t → r.operator ≡ operator_number t
+  pub operator : (t : Location) → Spells s t → operator_code r.operator ≡ operator_number t
   pub walk : (L : ℕ) (t : Location) → Spells s t → breaks25 L t ≡ false → Left s L r.walk (spans t)
 
 -- more steps than this a walk cannot take, whatever the bytes are
@@ -61,15 +61,15 @@ steps_left size (walk.Ahead at) = size + 1 - at
 steps_left size (walk.Behind low at) = at + 1 - low
 
 -- a span that is given lies in 1 to L, and the walk gets shorter, whatever the bytes are
-abbrev pub step_within : ℕ → ℕ → Walk → Next → Type 0
-step_within size L w next.Done = Unit {0}
-step_within size L w (next.Is x v) = Inside L (span_is x) × (steps_left size v < steps_left size w)
+abbrev pub step_within : ℕ → ℕ → Walk → Option NextSpan → Type 0
+step_within size L w None = Unit {0}
+step_within size L w (Some x) = Inside L (span_is x.span) × (steps_left size x.left < steps_left size w)
 
 -- the first of the spans l, and the others are left
-abbrev pub Yields : List ℕ → ℕ → List paper.Span → Next → Type 0
-Yields s L l next.Done = l ≡ []
-Yields s L l (next.Is x w) = (k : List paper.Span) × (l ≡ span_is x ∷ k) × Left s L w k
+abbrev pub Yields : List ℕ → ℕ → List paper.Span → Option NextSpan → Type 0
+Yields s L l None = l ≡ []
+Yields s L l (Some x) = (k : List paper.Span) × (l ≡ span_is x.span ∷ k) × Left s L x.left k
 
-pub record Steps (s : List ℕ) (L : ℕ) (w : Walk) (r : Next) : Type 0 where
+pub record Steps (s : List ℕ) (L : ℕ) (w : Walk) (r : Option NextSpan) : Type 0 where
   pub within : step_within (length s) L w r
   pub yields : (l : List paper.Span) → Left s L w l → Yields s L l r

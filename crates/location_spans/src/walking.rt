@@ -4,7 +4,7 @@ ghost use Rattle.location_spans.specs.Walking.{Starts, Steps};
 ghost use Rattle.location_spans.specs.Members.{Gives, Members, LastStart};
 ghost use Rattle.location_spans.specs.declared.walking.Walk.TheVariants as walk;
 
-use location_judge::operators::{Listed, complement_at, list_at};
+use location_judge::operators::{Operator, complement_at, list_at};
 use location_judge::pieces::{FoundPiece, Reach, is_wrong, piece};
 use read_bytes::begins;
 
@@ -16,7 +16,7 @@ pub struct Triple {
     pub marks: u32,
 }
 
-// Where the spans that are left stand: from a place on; or from the second place back to the first.
+// Where the spans that are left stand: from a place on; or from the second place back to the first. No closure: `Left` speaks of each.
 #[derive(Clone, Copy)]
 pub enum Walk {
     Done,
@@ -24,16 +24,17 @@ pub enum Walk {
     Behind(usize, usize),
 }
 
+// The next span of a walk, and what is left behind it.
 #[derive(Clone, Copy)]
-pub enum Next {
-    Done,
-    Is(Triple, Walk),
+pub struct NextSpan {
+    pub span: Triple,
+    pub left: Walk,
 }
 
-// What the words at the front of a location tell: its operator (0 none, 1 join, 2 order), and the walk over it.
+// What the words at the front of a location tell: its operator, and the walk over it.
 #[derive(Clone, Copy)]
 pub struct Started {
-    pub operator: u32,
+    pub operator: Option<Operator>,
     pub walk: Walk,
 }
 
@@ -42,90 +43,68 @@ pub fn start(s: &[u8]) -> Started
     ensures { Starts s.now result }
 {
     if complement_at(s, 0) {
-        match list_at(s, 11) {
-            Listed::No => {
-                return Started {
-                    operator: 0,
-                    walk: Walk::Ahead(0),
-                };
-            }
-            Listed::At(operator, from) => {
-                let end = s.len() - 2;
-                return Started {
-                    operator,
-                    walk: Walk::Behind(from, end),
-                };
-            }
+        if let Some(list) = list_at(s, 11) {
+            let end = s.len() - 2;
+            return Started {
+                operator: Some(list.operator),
+                walk: Walk::Behind(list.first, end),
+            };
         }
+    } else if let Some(list) = list_at(s, 0) {
+        return Started {
+            operator: Some(list.operator),
+            walk: Walk::Ahead(list.first),
+        };
     }
-    match list_at(s, 0) {
-        Listed::No => {
-            return Started {
-                operator: 0,
-                walk: Walk::Ahead(0),
-            };
-        }
-        Listed::At(operator, from) => {
-            return Started {
-                operator,
-                walk: Walk::Ahead(from),
-            };
-        }
+    Started {
+        operator: None,
+        walk: Walk::Ahead(0),
     }
 }
 
 // The span that is kept as a, and what is left behind it. A location that breaks rule 25 is not walked on.
-fn give(a: Reach, top: u32, w: Walk) -> Next
-    ensures { Gives top a w result }
+fn give(a: Reach, top: u32, left: Walk) -> Option<NextSpan>
+    ensures { Gives top a left result }
 {
     if is_wrong(a, top) {
-        return Next::Done;
+        return None;
     }
-    Next::Is(
-        Triple {
+    Some(NextSpan {
+        span: Triple {
             first: a.first as u32,
             last: a.last as u32,
             marks: a.marks,
         },
-        w,
-    )
+        left,
+    })
 }
 
 // A segment or site, or the complement of one.
-fn member(s: &[u8], at: usize) -> FoundPiece
+fn member(s: &[u8], at: usize) -> Option<FoundPiece>
     ensures { Members s.now at result }
 {
-    if complement_at(s, at) {
-        match piece(s, at + 11, true) {
-            FoundPiece::No => {
-                return FoundPiece::No;
-            }
-            FoundPiece::At(n, a, odd) => {
-                if begins(s, n, b")") {
-                    return FoundPiece::At(n + 1, a, odd);
-                }
-                return FoundPiece::No;
-            }
-        }
+    if !complement_at(s, at) {
+        return piece(s, at, false);
     }
-    piece(s, at, false)
+    let inner = piece(s, at + 11, true)?;
+    if !begins(s, inner.end, b")") {
+        return None;
+    }
+    Some(FoundPiece {
+        end: inner.end + 1,
+        ..inner
+    })
 }
 
 // The member at `at`, and the walk behind it.
-fn ahead(s: &[u8], at: usize, top: u32) -> Next
+fn ahead(s: &[u8], at: usize, top: u32) -> Option<NextSpan>
     ensures { Steps s.now top (walk.Ahead at) result }
 {
-    match member(s, at) {
-        FoundPiece::No => {
-            return Next::Done;
-        }
-        FoundPiece::At(n, a, _) => {
-            if begins(s, n, b",") {
-                return give(a, top, Walk::Ahead(n + 1));
-            }
-            return give(a, top, Walk::Done);
-        }
+    let found = member(s, at)?;
+    if begins(s, found.end, b",") {
+        return give(found.reach, top, Walk::Ahead(found.end + 1));
     }
+    give(found.reach, top, Walk::Done)
 }
 
 // Where the last stretch before `at` that has no `,` starts, from low on.
@@ -133,54 +112,36 @@ fn last_start(s: &[u8], low: usize, at: usize) -> usize
     requires { (low ≤ at) × (at ≤ length s.now) }
     ensures { LastStart s.now low at result }
 {
-    let mut i = at;
-    while low < i {
-        let j = i - 1;
-        if s[j] == b',' {
-            return i;
+    for i in (low..at).rev() {
+        if s[i] == b',' {
+            return i + 1;
         }
-        i = j;
     }
-    i
+    low
 }
 
 // The last member before `at`, and the walk back from there.
-fn behind(s: &[u8], low: usize, at: usize, top: u32) -> Next
+fn behind(s: &[u8], low: usize, at: usize, top: u32) -> Option<NextSpan>
     ensures { Steps s.now top (walk.Behind low at) result }
 {
-    if at < low {
-        return Next::Done;
-    }
-    if s.len() < at {
-        return Next::Done;
+    if at < low || s.len() < at {
+        return None;
     }
     let i = last_start(s, low, at);
-    match piece(s, i, true) {
-        FoundPiece::No => {
-            return Next::Done;
-        }
-        FoundPiece::At(_, a, _) => {
-            if i == low {
-                return give(a, top, Walk::Done);
-            }
-            return give(a, top, Walk::Behind(low, i - 1));
-        }
+    let found = piece(s, i, true)?;
+    if i == low {
+        return give(found.reach, top, Walk::Done);
     }
+    give(found.reach, top, Walk::Behind(low, i - 1))
 }
 
 // The next span of a walk, for a sequence of `top` residues.
-pub fn step(s: &[u8], w: Walk, top: u32) -> Next
+pub fn step(s: &[u8], w: Walk, top: u32) -> Option<NextSpan>
     ensures { Steps s.now top w result }
 {
     match w {
-        Walk::Done => {
-            return Next::Done;
-        }
-        Walk::Ahead(at) => {
-            return ahead(s, at, top);
-        }
-        Walk::Behind(low, at) => {
-            return behind(s, low, at, top);
-        }
+        Walk::Done => None,
+        Walk::Ahead(at) => ahead(s, at, top),
+        Walk::Behind(low, at) => behind(s, low, at, top),
     }
 }

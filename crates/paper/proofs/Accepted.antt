@@ -16,7 +16,7 @@ use Rattle.paper.specs.Values.{is_digit, is_upper, is_lower, Date}
 use Rattle.paper.specs.Locations.{range, Member, join, Location, one, many, Locates, leaves_unjudged}
 use Rattle.paper.specs.Rules.{dna, aa, is_symbol, undefined, Named, Coding, absent, Unjudged, excepted, other_code, located}
 use Rattle.paper.specs.Answers.{limit, Counts, CheckSays, accepted}
-use Rattle.paper.specs.declared.Verdict.TheVariants.{Accepted}
+use Rattle.std.specs.Prelude.{Ok}
 use Rattle.paper.proofs.Lists.{every, in_map}
 use Rattle.paper.proofs.Forms.{Evers, evs_maybe}
 use Rattle.paper.proofs.Texts.{apart}
@@ -323,5 +323,5 @@ counts =
     }
 
 -- this very text is accepted: three sequences, one of them skipped, three features, one judged CDS
-pub accepts : CheckSays listing (Accepted 3 1 3 1 0)
+pub accepts : CheckSays listing (Ok (record { total = 3; skipped = 1; features = 3; judged = 1; unjudged = 0 }))
 accepts = (tree, accepted short laid (λ n p b. keeps_all kept ((bare_exactly ◌+◌ tree n).0 (p, b))), counts)

@@ -48,7 +48,7 @@ module _ {w : List ℕ} where
 pub demand1 : Demand1
 demand1 =
     record {
-      check = λ w n p c. checked c;
+      check = λ w r c. checked c;
       sequence = λ w k n p d x c. sequence_ends c;
       feature = λ w k j n p x out after c. feature_ends c;
       qualifier = λ w k j i n p x y b c. qualifier_ends c;
@@ -117,7 +117,7 @@ demand2 =
           feature_parts;
       indexed_qualifier = λ w x k j i n p a v b. with_index_part (λ z. (none_inside w z.0, none_inside w z.2)) qualifier_parts;
       locations = λ w l c. accepted_inside c;
-      total = λ w t s f j u c. c.2.totals;
+      total = λ w a c. c.2.totals;
     }
 
 -- ---- request 6

@@ -16,10 +16,9 @@ use Rattle.paper.specs.Values.{Number}
 use Rattle.paper.specs.Locations.{Location, Locates, spans}
 use Rattle.paper.specs.Translation.{code1, codons_from, coding_text, drop_stop, has_stop_inside}
 use Rattle.paper.specs.Rules.{Skipped, Kind, dna, rna, aa, IsKind, kind_name, value_read, CodonStart, absent, stated, Codons, Broken, First}
-use Rattle.paper.specs.Answers.{Prints, page, part_of, is_present, value_part, triples, front, Outcome, refuse, give, Strays, Checked, too_long, strays, breaks, accepted, Counts, CheckSays, FindsSequence, FindsFeature, FindsQualifier, FindsLocation, Translates, FindsTranslation, FindsTranslations, Lines, Lent, Part, FeatureShown, shown_of, kind_number, SequenceSays, FeatureSays, QualifierSays, TranslationSays, TranslationsSays}
+use Rattle.paper.specs.Answers.{Verdict, Prints, page, part_of, is_present, value_part, triples, front, Outcome, refuse, give, Strays, Checked, too_long, strays, breaks, accepted, Counts, CheckSays, FindsSequence, FindsFeature, FindsQualifier, FindsLocation, Translates, FindsTranslation, FindsTranslations, Lines, Lent, Part, FeatureShown, shown_of, kind_number, SequenceSays, FeatureSays, QualifierSays, TranslationSays, TranslationsSays}
 use Rattle.paper.specs.Index.{index_of, agree, FindsIndex, IndexSays, ChecksIndex, IndexCheckSays, WithIndex, IndexedSequenceSays, IndexedFeatureSays, IndexedQualifierSays, IndexedTranslationSays, IndexedTranslationsSays}
-use Rattle.paper.specs.declared.Verdict.{Verdict}
-use Rattle.paper.specs.declared.Verdict.TheVariants.{Accepted, Refused}
+use Rattle.std.specs.Prelude.{Ok, Err}
 use Rattle.paper.proofs.Decimal.{number_once}
 use Rattle.paper.proofs.Firsts.{first_once}
 use Rattle.paper.proofs.Lists.{numbered_once, count_once}
@@ -171,17 +170,34 @@ module _ {w : List ℕ} (once : (l m : Listing ℕ) → LaidOut l w → LaidOut 
   checked_once (accepted {l = l} h d f) (accepted {l = r} k e g) = ap give (once l r d e)
 
   pub check_once : (a b : Verdict) → CheckSays w a → CheckSays w b → a ≡ b
-  check_once (Refused n p) (Refused m q) a b = let e = checked_once a b in let x : n ≡ m = cc in let y : p ≡ q = cc in λ i. Refused (x i) (y i)
-  check_once (Refused n p) (Accepted t s f j u) a b = absurd (not_both (checked_once a b.1))
-  check_once (Accepted t s f j u) (Refused n p) a b = absurd (not_both (checked_once b a.1))
-  check_once (Accepted t s f j u) (Accepted t' s' f' j' u') a b = counted (subst (λ (l : Listing ℕ). Counts l t' s' f' j' u') (same_given (checked_once b.1 a.1)) b.2)
+  check_once (Err r) (Err q) a b =
+      let e = checked_once a b in
+      let x : r.rule ≡ q.rule = cc in
+      let y : r.place ≡ q.place = cc in
+      λ i. Err (record { rule = x i; place = y i })
+  check_once (Err r) (Ok y) a b = absurd (not_both (checked_once a b.1))
+  check_once (Ok x) (Err r) a b = absurd (not_both (checked_once b a.1))
+  check_once (Ok x) (Ok y) a b =
+      counted
+      (subst
+      (λ (l : Listing ℕ). Counts l y.total y.skipped y.features y.judged y.unjudged)
+      (same_given (checked_once b.1 a.1))
+      b.2)
     where
-      counted : Counts a.0 t' s' f' j' u' → Accepted t s f j u ≡ Accepted t' s' f' j' u'
+      counted : Counts a.0 y.total y.skipped y.features y.judged y.unjudged → ◌≡◌ {A = Verdict} (Ok x) (Ok y)
       counted c =
           let k = a.2 in
-          let x = k.totals ∙ sym c.totals in
-          let y = k.featured ∙ sym c.featured in
-          λ i. Accepted (x i) (count_once k.skips c.skips i) (y i) (count_once k.judges c.judges i) (count_once k.unjudges c.unjudges i)
+          let t = k.totals ∙ sym c.totals in
+          let f = k.featured ∙ sym c.featured in
+          λ i.
+          Ok
+          (record {
+            total = t i;
+            skipped = count_once k.skips c.skips i;
+            features = f i;
+            judged = count_once k.judges c.judges i;
+            unjudged = count_once k.unjudges c.unjudges i;
+          })
 
   -- the program's page
   pub prints_once : {x y : List ℕ} → Prints w x → Prints w y → x ≡ y

@@ -19,7 +19,7 @@ use Rattle.paper.specs.Vocabulary.{Row, nucleotide_rows, nucleotide_names, amino
 use Rattle.paper.specs.Rules.{L, Skipped, Kind, dna, rna, aa, is_symbol, upper_in, value_read, vocabulary, InResidues, rule_18, rule_19}
 use Rattle.paper.specs.Answers.{limit, Checked, Counts, CheckSays, kind_number, page, Prints}
 use Rattle.paper.specs.Index.{in_bytes, body_of, contents_of, agree}
-use Rattle.paper.specs.declared.Verdict.TheVariants.{Accepted, Refused}
+use Rattle.std.specs.Prelude.{Ok, Err}
 use Rattle.paper.proofs.Accepted.{listing, tree, laid}
 use Rattle.paper.proofs.Locate.{locate_sound}
 use Rattle.paper.proofs.Texts.{front_empty}
@@ -74,8 +74,8 @@ total_has_skipped {P} l c d = c.totals ∙ go l.sequences c.skips d
     go (s ∷ l) (lacks a c) (lacks b d) = absurd (b a)
 
 -- the lines that the program prints
-pages : (page (Accepted 2 1 2 1 0) ≡ bytes "verdict accepted\ntotal 2\nskipped 1\nfeatures 2\njudged 1\nunjudged 0\n")
-    × (page (Refused 2 0) ≡ bytes "verdict refused\nrule 2\nplace 0\n")
+pages : (page (Ok (record { total = 2; skipped = 1; features = 2; judged = 1; unjudged = 0 })) ≡ bytes "verdict accepted\ntotal 2\nskipped 1\nfeatures 2\njudged 1\nunjudged 0\n")
+    × (page (Err (record { rule = 2; place = 0 })) ≡ bytes "verdict refused\nrule 2\nplace 0\n")
 pages = (refl, refl)
 
 -- a position of thirty digits is read as it stands, and breaks rule 25 in the longest listing
@@ -113,12 +113,12 @@ not_empty l h = omega (arith, ap length first)
         (no_front (first_line · blanks · doctype) blanks 0
         (no_front (first_line · blanks · doctype · blanks) (root l) 0 (no_front (first_line · blanks · doctype · blanks · root l) blanks 0 h.is))))
 
-empty_refused : CheckSays [] (Refused 2 0)
+empty_refused : CheckSays [] (Err (record { rule = 2; place = 0 }))
 empty_refused =
     Checked.strays {p = 0} (omega arith) (record { stray = not_empty; inside = omega arith; begins = (tree, listing, laid); longest = λ j h b. h })
 
 empty_printed : Prints [] (bytes "verdict refused\nrule 2\nplace 0\n")
-empty_printed = Prints.verdict (Refused 2 0) (omega arith) empty_refused
+empty_printed = Prints.verdict (Err (record { rule = 2; place = 0 })) (omega arith) empty_refused
 
 -- ---- the vocabulary of request 1 of document 02
 

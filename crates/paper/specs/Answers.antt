@@ -1,5 +1,5 @@
 -- What may be asked, and what each call answers: for any bytes, any numbers asked and any lent output, refusals in their order.
-use Rattle.std.specs.Prelude.{ℕ, ◌≤◌, ◌<◌, ◌≡◌, Bool, true, false, List, [], ◌∷◌, ◌++◌, map, length, take, drop}
+use Rattle.std.specs.Prelude.{ℕ, ◌≤◌, ◌<◌, ◌≡◌, Bool, true, false, Result, Ok, Err, List, [], ◌∷◌, ◌++◌, map, length, take, drop}
 use Rattle.std.proofs.Math.Option.{Option, none, some}
 use Rattle.paper.specs.Bytes.{bytes, raw}
 use Rattle.paper.specs.Lists.{Numbered, Count, gather}
@@ -9,8 +9,8 @@ use Rattle.paper.specs.Values.{decimal}
 use Rattle.paper.specs.Locations.{Location, Locates, Span, spans, operator_number}
 use Rattle.paper.specs.Translation.{drop_stop, has_stop_inside}
 use Rattle.paper.specs.Rules.{Skipped, Kind, dna, rna, aa, IsKind, Coding, Unjudged, Judged, Broken, First}
-use Rattle.paper.specs.declared.Verdict.{Verdict}
-use Rattle.paper.specs.declared.Verdict.TheVariants.{Accepted, Refused}
+use Rattle.paper.specs.declared.Figures.{Figures}
+use Rattle.paper.specs.declared.Refused.{Refused}
 
 -- "16,777,216 bytes is the longest listing."
 abbrev pub limit : ℕ
@@ -62,9 +62,12 @@ pub record Counts {P : Type 0} (l : Listing P) (total skipped features judged un
   pub unjudges : Count UnjudgedCds (every_feature l) unjudged
 
 -- "Check: accepted, with total, skipped, features, judged CDSs, unjudged CDSs; or rule and place."
+abbrev pub Verdict : Type 0
+Verdict = Result Figures Refused
+
 abbrev pub CheckSays : List ℕ → Verdict → Type 0
-CheckSays w (Accepted t s f j u) = (l : Listing ℕ) × Checked w (give l) × Counts l t s f j u
-CheckSays w (Refused n p) = Checked w (refuse n p)
+CheckSays w (Ok a) = (l : Listing ℕ) × Checked w (give l) × Counts l a.total a.skipped a.features a.judged a.unjudged
+CheckSays w (Err r) = Checked w (refuse r.rule r.place)
 
 -- the same in numbers: "a definition gives this paper's number and values for each of its cases"; a refusal has "counts .. 0"
 pub record CheckNumbers : Type 0 where
@@ -77,8 +80,8 @@ pub record CheckNumbers : Type 0 where
   pub unjudged : ℕ
 
 abbrev pub numbers_of : Verdict → CheckNumbers
-numbers_of (Accepted t s f j u) = record { number = 0; place = 0; total = t; skipped = s; features = f; judged = j; unjudged = u }
-numbers_of (Refused n p) = record { number = n; place = p; total = 0; skipped = 0; features = 0; judged = 0; unjudged = 0 }
+numbers_of (Ok a) = record { number = 0; place = 0; total = a.total; skipped = a.skipped; features = a.features; judged = a.judged; unjudged = a.unjudged }
+numbers_of (Err r) = record { number = r.rule; place = r.place; total = 0; skipped = 0; features = 0; judged = 0; unjudged = 0 }
 
 -- ---- "Refusals, first that applies: the check's own; 30 no such sequence; 31 skipped; 32 no such feature; 33 no such qualifier; .."
 
@@ -246,11 +249,12 @@ abbrev pub line : List ℕ → ℕ → List ℕ
 line word n = word ++ (bytes " " ++ (decimal n ++ bytes "\n"))
 
 abbrev pub page : Verdict → List ℕ
-page (Accepted t s f j u) =
+page (Ok a) =
     bytes "verdict accepted\n"
-    ++ (line (bytes "total") t
-    ++ (line (bytes "skipped") s ++ (line (bytes "features") f ++ (line (bytes "judged") j ++ line (bytes "unjudged") u))))
-page (Refused n p) = bytes "verdict refused\n" ++ (line (bytes "rule") n ++ line (bytes "place") p)
+    ++ (line (bytes "total") a.total
+    ++ (line (bytes "skipped") a.skipped
+    ++ (line (bytes "features") a.features ++ (line (bytes "judged") a.judged ++ line (bytes "unjudged") a.unjudged))))
+page (Err r) = bytes "verdict refused\n" ++ (line (bytes "rule") r.rule ++ line (bytes "place") r.place)
 
 -- what is printed for the bytes w: ".. More bytes give the one line `verdict too long for this program`."
 pub data Prints (w : List ℕ) : List ℕ → Type 0 where

@@ -2,17 +2,17 @@
 -- They speak of whatever answers the paper allows; that a call gives such an answer for every input is the call's own promise. Proofs:
 -- demands 1 and 2 and request 6 in paper/proofs/Demands.antt, request 7 in Lending.antt there, demand 3 in ask_check/proofs/Demands.antt,
 -- request 5 in ask_index/proofs/Request.antt.
-use Rattle.std.specs.Prelude.{ℕ, suc, ◌+◌, ◌*◌, ◌-◌, ◌/◌, ◌≤◌, ◌≡◌, Bool, ◌⊎◌, ◌↔◌, List, [], ◌∷◌, map, length, take}
+use Rattle.std.specs.Prelude.{ℕ, suc, ◌+◌, ◌*◌, ◌-◌, ◌/◌, ◌≤◌, ◌≡◌, Bool, ◌⊎◌, ◌↔◌, Ok, Err, List, [], ◌∷◌, map, length, take}
 use Rattle.paper.specs.Bytes.{raw}
 use Rattle.paper.specs.Lists.{◌∈◌}
 use Rattle.paper.specs.Tree.{Text, Feature, Sequence, Listing, Bare, texts_of, features_of}
 use Rattle.paper.specs.Layout.{LaidOut, Writes}
 use Rattle.paper.specs.Locations.{Location, Locates, Span, spans, operator_number, symbol_count}
 use Rattle.paper.specs.Rules.{L, Coding, Breaks}
-use Rattle.paper.specs.Answers.{limit, give, Checked, CheckSays, FindsSequence, FindsFeature, FindsLocation, Part, FeatureShown, shown, part_of, triples, front, SequenceSays, FeatureSays, QualifierSays, TranslationSays, TranslationsSays, NoSequence, NoFeature, NoQualifier, NothingWritten}
+use Rattle.paper.specs.Answers.{limit, give, Verdict, Checked, CheckSays, FindsSequence, FindsFeature, FindsLocation, Part, FeatureShown, shown, part_of, triples, front, SequenceSays, FeatureSays, QualifierSays, TranslationSays, TranslationsSays, NoSequence, NoFeature, NoQualifier, NothingWritten}
 use Rattle.paper.specs.Index.{body_of, index_of, IndexSays, IndexCheckSays, IndexedSequenceSays, IndexedFeatureSays, IndexedQualifierSays, IndexedTranslationSays, IndexedTranslationsSays}
-use Rattle.paper.specs.declared.Verdict.{Verdict}
-use Rattle.paper.specs.declared.Verdict.TheVariants.{Accepted, Refused}
+use Rattle.paper.specs.declared.Figures.{Figures}
+use Rattle.paper.specs.declared.Refused.{Refused}
 
 -- ---- demand 1
 
@@ -37,7 +37,7 @@ abbrev pub AnswerOrRefusal : (number place : ℕ) → Type 0 → Type 0
 AnswerOrRefusal number place nothing = ((number ≡ 0) × (place ≡ 0)) ⊎ (Refusal number place × nothing)
 
 pub record Demand1 : Type 0 where
-  pub check : (w : List ℕ) (n p : ℕ) → CheckSays w (Refused n p) → Refusal n p
+  pub check : (w : List ℕ) (r : Refused) → CheckSays w (Err r) → Refusal r.rule r.place
   pub sequence : (w : List ℕ) (k n p d : ℕ) (r : Part) → SequenceSays w k n p d r → AnswerOrRefusal n p (NoSequence d r)
   pub feature : (w : List ℕ) (k j n p : ℕ) (x : FeatureShown) (out after : List ℕ) → FeatureSays w k j out n p x after
       → AnswerOrRefusal n p (NoFeature x out after)
@@ -92,18 +92,14 @@ pub record Demand2 : Type 0 where
   pub locations : (w : List ℕ) (l : Listing ℕ) → Checked w (give l) → (s : Sequence ℕ) → s ∈ l.sequences → (f : Feature ℕ) → f ∈ features_of s
       → (t : Location) → Locates t f.location.read → (x : Span) → x ∈ spans t → Inside (L s) x
   -- ".. and the total counts skipped sequences too."
-  pub total : (w : List ℕ) (t s f j u : ℕ) (c : CheckSays w (Accepted t s f j u)) → t ≡ length c.0.sequences
+  pub total : (w : List ℕ) (a : Figures) (c : CheckSays w (Ok a)) → a.total ≡ length c.0.sequences
 
 -- ---- demand 3
 
 -- the verdict is that the listing is accepted
 pub record IsAccepted (r : Verdict) : Type 0 where
-  pub total : ℕ
-  pub skipped : ℕ
-  pub features : ℕ
-  pub judged : ℕ
-  pub unjudged : ℕ
-  pub is : r ≡ Accepted total skipped features judged unjudged
+  pub figures : Figures
+  pub is : r ≡ Ok figures
 
 -- "bytes, at most 16,777,216 of them", that "01's layout writes .. from some listing whose values break none of rules 10 to 29"; with 02's
 -- request 1 "demand 3 then reads rules 10 to 29 and 40 to 42"

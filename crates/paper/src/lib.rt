@@ -1,19 +1,23 @@
 // The paper: document 01 as definitions (specs/), and laws about them (proofs/). It relies on nothing but the kit's libraries.
-// No function stands here. An answer that is an enum is declared here, so that a definition gives its numbers.
+// No function stands here. What a check answers is declared here, so that a definition gives its numbers.
 #![tactic(auto)]
 
-// What a check answers.
+// The counts of a listing that is accepted.
 #[derive(Clone, Copy)]
-pub enum Verdict {
-    Accepted {
-        total: usize,
-        skipped: usize,
-        features: usize,
-        judged: usize,
-        unjudged: usize,
-    },
-    Refused {
-        rule: usize,
-        place: usize,
-    },
+pub struct Figures {
+    pub total: usize,
+    pub skipped: usize,
+    pub features: usize,
+    pub judged: usize,
+    pub unjudged: usize,
 }
+
+// The number of a broken rule, or of what else is refused, and its place.
+#[derive(Clone, Copy)]
+pub struct Refused {
+    pub rule: usize,
+    pub place: usize,
+}
+
+// What a check answers.
+pub type Verdict = Result<Figures, Refused>;

@@ -19,7 +19,7 @@ fn print(listing: &[u8], out: &mut [u8; 256]) -> usize
     program_page::put_page(ask_check::check(listing), out)
 }
 
-// One byte more than a listing may have is asked for, to see that there are more.
+// One byte more than a listing may have is asked for, to see that there are more. There is no heap, so the room is fixed.
 fn main() {
     let mut listing = [0u8; 65537];
     let n = io::read_full(STDIN_FILENO, &mut listing);

@@ -32,11 +32,9 @@ pub fn stops(r: &[u8], at: usize, turned: bool, marks: &[u8; 192], code: &[u8; 5
     ensures { result ≡ 0 → NoStop (code_of code.now) r.now turned at 192 }
 {
     let mut any: u8 = 0;
-    let mut j: usize = 0;
-    while j < 192 {
+    for j in 0..192 {
         let p = at + j;
         any = any | may_stop(r[p], r[p + 1], r[p + 2], turned, code) & marks[j];
-        j += 1;
     }
     any
 }
@@ -47,10 +45,8 @@ pub fn strange(r: &[u8], at: usize) -> u8
     ensures { result ≡ 0 → AllPlain r.now at 192 }
 {
     let mut any: u8 = 0;
-    let mut j: usize = 0;
-    while j < 192 {
+    for j in 0..192 {
         any = any | no_plain(r[at + j]);
-        j += 1;
     }
     any
 }

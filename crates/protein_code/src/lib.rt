@@ -22,6 +22,8 @@ pub fn code_table() -> [u8; 5128]
     tables::CODE_1
 }
 
+// `Coded` stands at each call that takes a table: a struct of the table that says so was tried, `Table`, and a caller can't put its own
+// table in one into a `Coding` (protein_codons), since a field that is a struct of references has to have the struct's lifetime.
 // The base set of a residue as it is read on a strand.
 pub fn set_of(b: u8, turned: bool, code: &[u8; 5128]) -> usize
     requires { Coded code.now }

@@ -12,15 +12,13 @@ use Rattle.paper.specs.Locations as paper
 use Rattle.paper.specs.Translation.{Code, bases_of, complement_of, coding_text, codon_letter, letters}
 use Rattle.protein_code.specs.Tables.{set_bases, sets_letter}
 use Rattle.protein_blocks.specs.Blocks.{letter_from}
+use Rattle.std.specs.Prelude.{None, Some}
 use Rattle.location_spans.specs.Walking.{Left, steps_left, Starts, Steps}
-use Rattle.location_spans.specs.declared.walking.Triple.{Triple}
 use Rattle.location_spans.specs.declared.walking.Walk.{Walk}
 use Rattle.location_spans.specs.declared.walking.Started.{Started}
-use Rattle.location_spans.specs.declared.walking.Next.TheVariants as next
+use Rattle.location_spans.specs.declared.walking.NextSpan.{NextSpan}
 use Rattle.protein_codons.specs.declared.Reading.{Reading}
-use Rattle.protein_codons.specs.declared.Base.{Base}
-use Rattle.protein_codons.specs.declared.Letter.{Letter}
-use Rattle.protein_codons.specs.Reading.{Ready, strand, current, span_letters, place_of, TextLeft, residues_left, Opens, Fills, BaseIs, BaseSays, Bases, Onward, Gives, LetterIs, LetterSays, Letters, Skips, Codes, BeginsText, Ends}
+use Rattle.protein_codons.specs.Reading.{Ready, strand, current, span_letters, place_of, TextLeft, residues_left, Opens, Fills, BaseIs, Onward, Gives, LetterIs, Skips, Codes, BeginsText, Ends}
 use Rattle.protein_codons.proofs.Residues.{strand_none, first_ahead, first_behind, three_ahead, three_behind, strand_length, drop_ahead, drop_behind}
 use Rattle.protein_codons.proofs.Codons.{letters_within, letters_split, letters_at}
 
@@ -33,23 +31,23 @@ outweighs {v} {w} n {b} h k =
     omega (arith, suc-mul v (suc n))
 
 module _ (n m : ℕ) (x y : Reading) where
-  pub less_residues : y.walk ≡ x.walk → y.high - y.low < x.high - x.low → residues_left n m y < residues_left n m x
+  pub less_residues : y.walk ≡ x.walk → y.span.high - y.span.low < x.span.high - x.span.low → residues_left n m y < residues_left n m x
   unfolding residues_left
   less_residues e h = rw e (omega arith)
 
-  pub less_steps : steps_left m y.walk < steps_left m x.walk → y.high ≤ n → residues_left n m y < residues_left n m x
+  pub less_steps : steps_left m y.walk < steps_left m x.walk → y.span.high ≤ n → residues_left n m y < residues_left n m x
   unfolding residues_left
   less_steps h k =
-      let a = outweighs n {b = y.high - y.low} h (omega arith) in
+      let a = outweighs n {b = y.span.high - y.span.low} h (omega arith) in
       omega arith
 
 -- ---- the next span
 
-spent : (s : List ℕ) (x : Reading) → x.low ≡ x.high → current s x ≡ []
+spent : (s : List ℕ) (x : Reading) → x.span.low ≡ x.span.high → current s x ≡ []
 spent s x e =
-    ap (λ (low : ℕ). strand x.turned (slice low x.high s)) e
-    ∙ ap (strand x.turned) (slice_empty x.high s)
-    ∙ strand_none x.turned
+    ap (λ (low : ℕ). strand x.span.turned (slice low x.span.high s)) e
+    ∙ ap (strand x.span.turned) (slice_empty x.span.high s)
+    ∙ strand_none x.span.turned
 
 -- the loop's invariant
 pub record Filling (s loc : List ℕ) (L : ℕ) (x y : Reading) : Type 0 where
@@ -62,14 +60,14 @@ module _ {s loc : List ℕ} {L : ℕ} where
   filling_start r = record { ready = r; falls = omega arith; keeps = λ text h. h }
 
   module _ {x y : Reading} (f : Filling s loc L x y) where
-    pub filling_full : (y.low ≡ y.high → ⊥) → Fills s loc L x y
+    pub filling_full : (y.span.low ≡ y.span.high → ⊥) → Fills s loc L x y
     filling_full e = record { ready = f.ready; falls = f.falls; keeps = f.keeps; ends = λ q. absurd (e q) }
 
-    module _ (e : y.low ≡ y.high) where
+    module _ (e : y.span.low ≡ y.span.high) where
       only_others : (text : List ℕ) (h : TextLeft s loc L y text) → text ≡ coding_text s h.others
       only_others text h = h.is ∙ ap (λ (l : List ℕ). l ++ coding_text s h.others) (spent s y e)
 
-      pub filling_done : Steps loc L y.walk next.Done → Fills s loc L x y
+      pub filling_done : Steps loc L y.walk None → Fills s loc L x y
       filling_done g =
           record {
             ready = f.ready;
@@ -80,14 +78,14 @@ module _ {s loc : List ℕ} {L : ℕ} where
                 only_others text u ∙ ap (coding_text s) (g.yields u.others u.left);
           }
 
-      module _ (top : L ≤ length s) {a : Triple} {v : Walk} {z : Reading} (g : Steps loc L y.walk (next.Is a v)) (o : Opens a v z) where
+      module _ (top : L ≤ length s) {n : NextSpan} {z : Reading} (g : Steps loc L y.walk (Some n)) (o : Opens n.span n.left z) where
         pub fewer_steps : steps_left (length loc) z.walk < steps_left (length loc) y.walk
         fewer_steps = rw o.walk g.within.1
 
         pub filling_next : Filling s loc L x z
         filling_next =
             let inside = g.within.0 in
-            let high : z.high ≤ length s = omega (arith, o.inside, inside.last_high) in
+            let high : z.span.high ≤ length s = omega (arith, o.inside, inside.last_high) in
             record {
               ready = record { order = o.order; inside = high };
               falls = omega (arith, less_steps (length s) (length loc) y z fewer_steps high, f.falls);
@@ -112,50 +110,74 @@ left_on {s} {loc} {L} h e = record { others = h.others; left = subst (λ (w : Wa
 
 -- y has the walk of x, and of its current span all but the residue a at its front
 pub record Passes (s : List ℕ) (x : Reading) (a : ℕ) (y : Reading) : Type 0 where
-  pub order : y.low ≤ y.high
-  pub inside : y.high ≤ length s
+  pub order : y.span.low ≤ y.span.high
+  pub inside : y.span.high ≤ length s
   pub walk : y.walk ≡ x.walk
-  pub less : y.high - y.low < x.high - x.low
+  pub less : y.span.high - y.span.low < x.span.high - x.span.low
   pub is : current s x ≡ a ∷ current s y
 
-module _ (s : List ℕ) (x : Reading) (inside : x.high ≤ length s) where
-  module _ (t : x.turned ≡ false) where
-    on_ahead : current s x ≡ slice x.low x.high s
-    on_ahead = ap (λ (b : Bool). strand b (slice x.low x.high s)) t
+module _ (s : List ℕ) (x : Reading) (inside : x.span.high ≤ length s) where
+  module _ (t : x.span.turned ≡ false) where
+    on_ahead : (low high : ℕ) → strand x.span.turned (slice low high s) ≡ slice low high s
+    on_ahead low high = ap (λ (b : Bool). strand b (slice low high s)) t
 
-    pub pass_ahead : x.low < x.high
-        → Passes s x (get_or s x.low 0) (record { walk = x.walk; low = x.low + 1; high = x.high; turned = false })
+    pub pass_ahead : x.span.low < x.span.high
+        → Passes s x (get_or s x.span.low 0) (record { walk = x.walk; span = record { low = x.span.low + 1; high = x.span.high; turned = x.span.turned } })
     pass_ahead h =
-        record { order = omega arith; inside = inside; walk = refl; less = omega arith; is = on_ahead ∙ first_ahead s x.low x.high h inside }
+        let low = x.span.low in
+        let high = x.span.high in
+        record {
+          order = omega arith;
+          inside = inside;
+          walk = refl;
+          less = omega arith;
+          is = on_ahead low high ∙ first_ahead s low high h inside ∙ ap (λ (l : List ℕ). get_or s low 0 ∷ l) (sym (on_ahead (low + 1) high));
+        }
 
-  module _ (t : x.turned ≡ true) where
-    on_behind : current s x ≡ reverse (map complement_of (slice x.low x.high s))
-    on_behind = ap (λ (b : Bool). strand b (slice x.low x.high s)) t
+  module _ (t : x.span.turned ≡ true) where
+    on_behind : (low high : ℕ) → strand x.span.turned (slice low high s) ≡ reverse (map complement_of (slice low high s))
+    on_behind low high = ap (λ (b : Bool). strand b (slice low high s)) t
 
-    pub pass_behind : x.low < x.high
-        → Passes s x (complement_of (get_or s (x.high - 1) 0)) (record { walk = x.walk; low = x.low; high = x.high - 1; turned = true })
+    pub pass_behind : x.span.low < x.span.high
+        → Passes s x (complement_of (get_or s (x.span.high - 1) 0)) (record { walk = x.walk; span = record { low = x.span.low; high = x.span.high - 1; turned = x.span.turned } })
     pass_behind h =
-        record { order = omega arith; inside = omega arith; walk = refl; less = omega arith; is = on_behind ∙ first_behind s x.low x.high h inside }
+        let low = x.span.low in
+        let high = x.span.high in
+        record {
+          order = omega arith;
+          inside = omega arith;
+          walk = refl;
+          less = omega arith;
+          is = on_behind low high
+              ∙ first_behind s low high h inside
+              ∙ ap (λ (l : List ℕ). complement_of (get_or s (high - 1) 0) ∷ l) (sym (on_behind low (high - 1)));
+        }
 
-module _ (x : Reading) (k : ℕ) (h : x.low + 3 * k ≤ x.high) where
-  pub onward_ahead : x.turned ≡ false → Onward x k (record { walk = x.walk; low = x.low + 3 * k; high = x.high; turned = false })
+module _ (x : Reading) (k : ℕ) (h : x.span.low + 3 * k ≤ x.span.high) where
+  pub onward_ahead : x.span.turned ≡ false
+      → Onward x k (record { walk = x.walk; span = record { low = x.span.low + 3 * k; high = x.span.high; turned = x.span.turned } })
   onward_ahead t =
+      let low = x.span.low in
+      let high = x.span.high in
       record {
         walk = refl;
         order = h;
         inside = omega arith;
         size = omega arith;
-        is = λ s i. drop_ahead s x.low x.high (3 * k) ∙ ap (drop (3 * k)) (sym (on_ahead s x i t));
+        is = λ s i. let on = on_ahead s x i t in on (low + 3 * k) high ∙ drop_ahead s low high (3 * k) ∙ ap (drop (3 * k)) (sym (on low high));
       }
 
-  pub onward_behind : x.turned ≡ true → Onward x k (record { walk = x.walk; low = x.low; high = x.high - 3 * k; turned = true })
+  pub onward_behind : x.span.turned ≡ true
+      → Onward x k (record { walk = x.walk; span = record { low = x.span.low; high = x.span.high - 3 * k; turned = x.span.turned } })
   onward_behind t =
+      let low = x.span.low in
+      let high = x.span.high in
       record {
         walk = refl;
         order = omega arith;
         inside = omega arith;
         size = omega arith;
-        is = λ s i. drop_behind s x.low x.high (3 * k) h i ∙ ap (drop (3 * k)) (sym (on_behind s x i t));
+        is = λ s i. let on = on_behind s x i t in on low (high - 3 * k) ∙ drop_behind s low high (3 * k) h i ∙ ap (drop (3 * k)) (sym (on low high));
       }
 
 -- ---- the letters of the current span
@@ -207,7 +229,7 @@ module _ (s : List ℕ) {x y : Reading} {k : ℕ} (r : Ready (length s) x) (o : 
   unfolding residues_left
   run_falls m = rw o.walk (omega (arith, o.size))
 
-  pub run_gives : (gc : Code) {loc : List ℕ} {L : ℕ} → Gives gc s loc L x (take k (span_letters gc s x.low x.high x.turned)) y
+  pub run_gives : (gc : Code) {loc : List ℕ} {L : ℕ} → Gives gc s loc L x (take k (span_letters gc s x.span.low x.span.high x.span.turned)) y
   unfolding span_letters
   run_gives gc {loc} {L} =
       record {
@@ -215,7 +237,7 @@ module _ (s : List ℕ) {x y : Reading} {k : ℕ} (r : Ready (length s) x) (o : 
         gives = λ text h.
             let c = coding_text s h.others in
             let w = current s x in
-            let n = span_fits s x.low x.high x.turned k (omega (arith, o.size, o.order)) r.inside in
+            let n = span_fits s x.span.low x.span.high x.span.turned k (omega (arith, o.size, o.order)) r.inside in
             record {
               others = current s y ++ c;
               is = ap (letters gc) h.is
@@ -263,6 +285,9 @@ module _ {s loc : List ℕ} {L : ℕ} where
             (e ∙ sym (drop-nil (n - k)) ∙ ap (drop (n - k)) (sym e) ∙ drop-drop (n - k) k text ∙ ap (λ (i : ℕ). drop i text) m) u;
       }
 
+  pub none_left : {x : Reading} (gc : Code) → ((text : List ℕ) → TextLeft s loc L x text → text ≡ []) → (text : List ℕ) → TextLeft s loc L x text → letters gc text ≡ []
+  none_left gc h text t = ap (letters gc) (h text t)
+
   module _ {x x1 : Reading} {a : ℕ} (g1 : BaseIs s loc L x a x1) where
     pub one_left : (gc : Code) → ((text : List ℕ) → TextLeft s loc L x1 text → text ≡ []) → (text : List ℕ) → TextLeft s loc L x text → letters gc text ≡ []
     one_left gc h text t = let u = g1.gives text t in ap (letters gc) (u.is ∙ ap (λ (l : List ℕ). u.first ∷ l) (h u.others u.left))
@@ -295,21 +320,13 @@ module _ {s loc : List ℕ} {L : ℕ} where
 
 -- one codon of the current span
 pub next_letter : (gc : Code) {s loc : List ℕ} {L : ℕ} {x y : Reading} {c : ℕ} → Ready (length s) x → Onward x 1 y
-    → c ≡ get_or (span_letters gc s x.low x.high x.turned) 0 0 → LetterIs gc s loc L x c y
+    → c ≡ get_or (span_letters gc s x.span.low x.span.high x.span.turned) 0 0 → LetterIs gc s loc L x c y
 next_letter gc {s} {loc} {L} {x} {y} {c} r o e =
-    let l = span_letters gc s x.low x.high x.turned in
+    let l = span_letters gc s x.span.low x.span.high x.span.turned in
     record {
-      one = subst (λ (d : List ℕ). Gives gc s loc L x d y) (take-suc l 0 0 (span_within gc s x.low x.high x.turned 1 (omega (arith, o.size)) r.inside) ∙ ap (λ (a : ℕ). a ∷ []) (sym e)) (run_gives s r o gc);
+      one = subst (λ (d : List ℕ). Gives gc s loc L x d y) (take-suc l 0 0 (span_within gc s x.span.low x.span.high x.span.turned 1 (omega (arith, o.size)) r.inside) ∙ ap (λ (a : ℕ). a ∷ []) (sym e)) (run_gives s r o gc);
       falls = omega (arith, run_falls s r o (length loc));
     }
-
--- ---- a call's answer, once it is known which it is
-
-pub bases_are : {s loc : List ℕ} {L : ℕ} {x : Reading} {r q : Base} → Bases s loc L x r → r ≡ q → BaseSays s loc L x q
-bases_are {s} {loc} {L} {x} h e = subst (BaseSays s loc L x) e h.says
-
-pub letters_are : {gc : Code} {s loc : List ℕ} {L : ℕ} {x : Reading} {r q : Letter} → Letters gc s loc L x r → r ≡ q → LetterSays gc s loc L x q
-letters_are {gc} {s} {loc} {L} {x} h e = subst (LetterSays gc s loc L x) e h.says
 
 -- ---- the start
 
@@ -321,7 +338,7 @@ module _ {s loc : List ℕ} {L : ℕ} where
   skipped_end {x} {y} {k} {n} a b f = let e : k ≡ n = omega arith in subst (λ (i : ℕ). Skips s loc L x i y) e f
 
 module _ (s loc : List ℕ) (L : ℕ) (r : Started) (st : Starts loc r) where
-  begins_at : (t : Location) → Codes s loc L t → TextLeft s loc L (record { walk = r.walk; low = 0; high = 0; turned = false }) (coding_text s (paper.spans t))
+  begins_at : (t : Location) → Codes s loc L t → TextLeft s loc L (record { walk = r.walk; span = record { low = 0; high = 0; turned = false } }) (coding_text s (paper.spans t))
   begins_at t h =
       record {
         others = paper.spans t;
@@ -329,12 +346,12 @@ module _ (s loc : List ℕ) (L : ℕ) (r : Started) (st : Starts loc r) where
         is = refl;
       }
 
-  pub begins_none : {n : ℕ} → n ≡ 0 → BeginsText s loc L n (record { walk = r.walk; low = 0; high = 0; turned = false })
+  pub begins_none : {n : ℕ} → n ≡ 0 → BeginsText s loc L n (record { walk = r.walk; span = record { low = 0; high = 0; turned = false } })
   begins_none {n} e =
       let z : n - 1 ≡ 0 = omega arith in
       record { ready = record { order = omega arith; inside = omega arith }; leaves = λ t h. rw z (begins_at t h) }
 
-  pub begins_skip : {n : ℕ} {y : Reading} → Skips s loc L (record { walk = r.walk; low = 0; high = 0; turned = false }) (n - 1) y → BeginsText s loc L n y
+  pub begins_skip : {n : ℕ} {y : Reading} → Skips s loc L (record { walk = r.walk; span = record { low = 0; high = 0; turned = false } }) (n - 1) y → BeginsText s loc L n y
   begins_skip {n} f = record { ready = f.ready; leaves = λ t h. f.keeps (coding_text s (paper.spans t)) (begins_at t h) }
 
 -- ---- whether a letter is left

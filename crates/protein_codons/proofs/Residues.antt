@@ -102,7 +102,7 @@ module _ (s : List ℕ) where
 -- ---- the whole of a span
 
 module _ (x : Triple) (w : Walk) where
-  pub opens_none : x.last < x.first → Opens x w (record { walk = w; low = 0; high = 0; turned = eqb (x.marks % 2) 1 })
+  pub opens_none : x.last < x.first → Opens x w (record { walk = w; span = record { low = 0; high = 0; turned = eqb (x.marks % 2) 1 } })
   opens_none h =
       record {
         order = omega arith;
@@ -111,7 +111,7 @@ module _ (x : Triple) (w : Walk) where
         is = λ s k. ap (strand (eqb (x.marks % 2) 1)) (sym (stretch_none s x.first x.last h));
       }
 
-  pub opens_some : 1 ≤ x.first → x.first ≤ x.last → Opens x w (record { walk = w; low = x.first - 1; high = x.last; turned = eqb (x.marks % 2) 1 })
+  pub opens_some : 1 ≤ x.first → x.first ≤ x.last → Opens x w (record { walk = w; span = record { low = x.first - 1; high = x.last; turned = eqb (x.marks % 2) 1 } })
   opens_some a b =
       record {
         order = omega arith;

@@ -2,7 +2,7 @@
 use Prim.Native.Nat.{ℕ, suc, ◌+◌, ◌≤◌, ◌<◌}
 use Prim.Native.Char.{code}
 use native.Mathlib.Omega.{arith}
-use mathlib.Core.Path.{◌≡◌, refl, sym, ap, ◌∙◌}
+use mathlib.Core.Path.{◌≡◌, refl, sym, ap, ◌∙◌, subst}
 use mathlib.Core.Bool.{Bool, true, false}
 use mathlib.Core.List.{List, [], ◌∷◌, ◌++◌}
 use lib.ListN.{length, take, get_or}
@@ -31,6 +31,10 @@ module _ {l : List ℕ} {a b : ℕ} (h : NoStops l a b) where
 
 pub clear_start : {low high : ℕ} (l : List ℕ) → low ≤ high → Clear low high l 0
 clear_start l h = record { within = omega arith; clear = none_start l 0 }
+
+-- that many
+pub clear_are : {low high n m : ℕ} {l : List ℕ} → Clear low high l n → n ≡ m → Clear low high l m
+clear_are {low} {high} {l = l} h e = subst (Clear low high l) e h
 
 module _ {c : ℕ} (n : c ≡ code "*" → ⊥) where
   pub keep_letter : (l : List ℕ) → drop_stop (c ∷ l) ≡ c ∷ drop_stop l

@@ -1,5 +1,5 @@
 -- What is promised of a reading of the coding text: which text is left of it.
-use Rattle.std.specs.Prelude.{ℕ, suc, ◌+◌, ◌*◌, ◌-◌, ◌≤◌, ◌<◌, ◌≡◌, Bool, true, false, cond, List, [], ◌∷◌, ◌++◌, map, reverse, length, drop}
+use Rattle.std.specs.Prelude.{ℕ, suc, ◌+◌, ◌*◌, ◌-◌, ◌≤◌, ◌<◌, ◌≡◌, Bool, true, false, cond, List, [], ◌∷◌, ◌++◌, map, reverse, length, drop, Option, None, Some}
 use Rattle.std.proofs.Math.Seq.{slice}
 use Rattle.paper.specs.Bytes.{raw}
 use Rattle.paper.specs.Locations.{Location, Locates, breaks25}
@@ -11,15 +11,11 @@ use Rattle.location_spans.specs.Walking.{Left, steps_left, span_is}
 use Rattle.location_spans.specs.declared.walking.Triple.{Triple}
 use Rattle.location_spans.specs.declared.walking.Walk.{Walk}
 use Rattle.protein_codons.specs.declared.Reading.{Reading}
-use Rattle.protein_codons.specs.declared.Base.{Base}
-use Rattle.protein_codons.specs.declared.Base.TheVariants as base
-use Rattle.protein_codons.specs.declared.Letter.{Letter}
-use Rattle.protein_codons.specs.declared.Letter.TheVariants as letter
 
 -- what is left of the current span lies in the n residues
 pub record Ready (n : ℕ) (x : Reading) : Type 0 where
-  pub order : x.low ≤ x.high
-  pub inside : x.high ≤ n
+  pub order : x.span.low ≤ x.span.high
+  pub inside : x.span.high ≤ n
 
 -- "complemented spans read backwards through .."
 abbrev pub strand : Bool → List ℕ → List ℕ
@@ -27,7 +23,7 @@ strand turned l = cond turned (reverse (map complement_of l)) l
 
 -- the residues that are left of the current span
 abbrev pub current : List ℕ → Reading → List ℕ
-current s x = strand x.turned (slice x.low x.high s)
+current s x = strand x.span.turned (slice x.span.low x.span.high s)
 
 -- the letters of the codons that stand whole between two places
 unfoldable pub span_letters : Code → List ℕ → ℕ → ℕ → Bool → List ℕ
@@ -56,12 +52,12 @@ pub record TextLeft (s loc : List ℕ) (L : ℕ) (x : Reading) (text : List ℕ)
 
 -- more residues than this a reading cannot give, whatever the bytes are: n and m are the sizes of the residues and of the location
 unfoldable pub residues_left : ℕ → ℕ → Reading → ℕ
-residues_left n m x = steps_left m x.walk * suc n + (x.high - x.low)
+residues_left n m x = steps_left m x.walk * suc n + (x.span.high - x.span.low)
 
 -- the reading y that has the whole span x before the walk w
 pub record Opens (x : Triple) (w : Walk) (y : Reading) : Type 0 where
-  pub order : y.low ≤ y.high
-  pub inside : y.high ≤ x.last
+  pub order : y.span.low ≤ y.span.high
+  pub inside : y.span.high ≤ x.last
   pub walk : y.walk ≡ w
   pub is : (s : List ℕ) → x.first ≤ length s → current s y ≡ residues_of s (span_is x)
 
@@ -70,7 +66,7 @@ pub record Fills (s loc : List ℕ) (L : ℕ) (x y : Reading) : Type 0 where
   pub ready : Ready (length s) y
   pub falls : residues_left (length s) (length loc) y ≤ residues_left (length s) (length loc) x
   pub keeps : (text : List ℕ) → TextLeft s loc L x text → TextLeft s loc L y text
-  pub ends : y.low ≡ y.high → (text : List ℕ) → TextLeft s loc L x text → text ≡ []
+  pub ends : y.span.low ≡ y.span.high → (text : List ℕ) → TextLeft s loc L x text → text ≡ []
 
 -- b is the base set of the first residue of the text, and y leaves the others
 pub record FirstBase (s loc : List ℕ) (L : ℕ) (b : ℕ) (y : Reading) (text : List ℕ) : Type 0 where
@@ -86,20 +82,20 @@ pub record BaseIs (s loc : List ℕ) (L : ℕ) (x : Reading) (b : ℕ) (y : Read
   pub falls : residues_left (length s) (length loc) y < residues_left (length s) (length loc) x
   pub gives : (text : List ℕ) → TextLeft s loc L x text → FirstBase s loc L b y text
 
-abbrev pub BaseSays : List ℕ → List ℕ → ℕ → Reading → Base → Type 0
-BaseSays s loc L x base.Done = (text : List ℕ) → TextLeft s loc L x text → text ≡ []
-BaseSays s loc L x (base.Is b y) = BaseIs s loc L x b y
+abbrev pub BaseSays : List ℕ → List ℕ → ℕ → Reading → Option (ℕ × Reading) → Type 0
+BaseSays s loc L x None = (text : List ℕ) → TextLeft s loc L x text → text ≡ []
+BaseSays s loc L x (Some r) = BaseIs s loc L x r.0 r.1
 
-pub record Bases (s loc : List ℕ) (L : ℕ) (x : Reading) (r : Base) : Type 0 where
+pub record Bases (s loc : List ℕ) (L : ℕ) (x : Reading) (r : Option (ℕ × Reading)) : Type 0 where
   pub says : BaseSays s loc L x r
 
 -- y has passed k whole codons of the current span of x
 pub record Onward (x : Reading) (k : ℕ) (y : Reading) : Type 0 where
   pub walk : y.walk ≡ x.walk
-  pub order : y.low ≤ y.high
-  pub inside : y.high ≤ x.high
-  pub size : y.high - y.low + 3 * k ≡ x.high - x.low
-  pub is : (s : List ℕ) → x.high ≤ length s → current s y ≡ drop (3 * k) (current s x)
+  pub order : y.span.low ≤ y.span.high
+  pub inside : y.span.high ≤ x.span.high
+  pub size : y.span.high - y.span.low + 3 * k ≡ x.span.high - x.span.low
+  pub is : (s : List ℕ) → x.span.high ≤ length s → current s y ≡ drop (3 * k) (current s x)
 
 -- d are the letters of the first whole codons of the text, and y leaves the residues behind them
 pub record FirstLetters (gc : Code) (s loc : List ℕ) (L : ℕ) (d : List ℕ) (y : Reading) (text : List ℕ) : Type 0 where
@@ -116,11 +112,11 @@ pub record LetterIs (gc : Code) (s loc : List ℕ) (L : ℕ) (x : Reading) (c : 
   pub one : Gives gc s loc L x (c ∷ []) y
   pub falls : residues_left (length s) (length loc) y < residues_left (length s) (length loc) x
 
-abbrev pub LetterSays : Code → List ℕ → List ℕ → ℕ → Reading → Letter → Type 0
-LetterSays gc s loc L x letter.Done = (text : List ℕ) → TextLeft s loc L x text → letters gc text ≡ []
-LetterSays gc s loc L x (letter.Is c y) = LetterIs gc s loc L x c y
+abbrev pub LetterSays : Code → List ℕ → List ℕ → ℕ → Reading → Option (ℕ × Reading) → Type 0
+LetterSays gc s loc L x None = (text : List ℕ) → TextLeft s loc L x text → letters gc text ≡ []
+LetterSays gc s loc L x (Some r) = LetterIs gc s loc L x r.0 r.1
 
-pub record Letters (gc : Code) (s loc : List ℕ) (L : ℕ) (x : Reading) (r : Letter) : Type 0 where
+pub record Letters (gc : Code) (s loc : List ℕ) (L : ℕ) (x : Reading) (r : Option (ℕ × Reading)) : Type 0 where
   pub says : LetterSays gc s loc L x r
 
 -- y leaves what x leaves but for its first k residues

@@ -78,11 +78,11 @@ module _ {gc : Code} {s loc : List ℕ} {L : ℕ} {from : Reading} {value : List
     comparing_one g n k e =
         comparing_on g.one (front_one n) (omega arith) (rest_of k ∙ ap (λ (b : ℕ). b ∷ drop (i + 1) value) e)
 
-    pub comparing_run : {k : ℕ} {y : Reading} → Onward x k y → Same x.low x.high (span_letters gc s x.low x.high x.turned) value i k
+    pub comparing_run : {k : ℕ} {y : Reading} → Onward x k y → Same x.span.low x.span.high (span_letters gc s x.span.low x.span.high x.span.turned) value i k
         → Comparing gc s loc L from value y (i + k)
     comparing_run {k} o w =
-        let l = span_letters gc s x.low x.high x.turned in
-        let n : k ≤ length l = span_within gc s x.low x.high x.turned k w.front.within f.ready.inside in
+        let l = span_letters gc s x.span.low x.span.high x.span.turned in
+        let n : k ≤ length l = span_within gc s x.span.low x.span.high x.span.turned k w.front.within f.ready.inside in
         let rest = drop i value in
         let m : k ≤ length rest = omega (arith, length-drop i value, w.inside) in
         let e : take k rest ≡ take k l

@@ -16,8 +16,8 @@ use Rattle.paper.specs.Answers.{front}
 use Rattle.protein_codons.specs.declared.Reading.{Reading}
 use Rattle.protein_codons.specs.Reading.{Ready, span_letters, TextLeft, Onward, Gives, LetterIs, BeginsText}
 use Rattle.protein_codons.proofs.Readings.{span_within, run_gives}
-use Rattle.protein_measure.specs.declared.Size.{Size}
-use Rattle.protein_measure.specs.declared.Size.TheVariants as size
+use Rattle.std.specs.Prelude.{Result, Ok, Err}
+use Rattle.protein_measure.specs.declared.Untranslated.{Untranslated}
 use Rattle.protein_measure.specs.Measuring.{Measured, Measures}
 use Rattle.protein_write.specs.Writing.{LaysLetters, PutsLetters, after_of, WritesTranslation}
 use Rattle.protein_measure.proofs.Measuring.{measured_once}
@@ -125,10 +125,10 @@ module _ {gc : Code} {s loc : List ℕ} {L : ℕ} {from : Reading} {count : ℕ}
         putting_on g.one refl (omega arith) refl
 
     pub putting_run : {n : ℕ} {y : Reading} {out : List ℕ} → Onward x n y
-        → LaysLetters x.low x.high (span_letters gc s x.low x.high x.turned) k count n after out → Putting gc s loc L from count before out y (k + n)
+        → LaysLetters x.span.low x.span.high (span_letters gc s x.span.low x.span.high x.span.turned) k count n after out → Putting gc s loc L from count before out y (k + n)
     putting_run {n} o w =
-        let l = span_letters gc s x.low x.high x.turned in
-        putting_on (run_gives s f.ready o gc) (length-take-le n l (span_within gc s x.low x.high x.turned n w.within f.ready.inside))
+        let l = span_letters gc s x.span.low x.span.high x.span.turned in
+        putting_on (run_gives s f.ready o gc) (length-take-le n l (span_within gc s x.span.low x.span.high x.span.turned n w.within f.ready.inside))
         w.inside w.is
 
     module _ (h : k < count) where
@@ -145,8 +145,8 @@ module _ {gc : Code} {s loc : List ℕ} {L : ℕ} {from : Reading} {count : ℕ}
 -- ---- the answer
 
 module _ {gc : Code} {s loc : List ℕ} {L start : ℕ} {out : List ℕ} where
-  pub writes_is : {from : Reading} {n : ℕ} {after : List ℕ} → BeginsText s loc L start from → Measures gc s loc L start (length out) (size.Is n)
-      → PutsLetters gc s loc L from n out after → WritesTranslation gc s loc L start out (size.Is n) after
+  pub writes_is : {from : Reading} {n : ℕ} {after : List ℕ} → BeginsText s loc L start from → Measures gc s loc L start (length out) (Ok n)
+      → PutsLetters gc s loc L from n out after → WritesTranslation gc s loc L start out (Ok n) after
   writes_is {from} {n} b m p =
       record {
         says = λ t h.
@@ -157,15 +157,12 @@ module _ {gc : Code} {s loc : List ℕ} {L start : ℕ} {out : List ℕ} where
             (k, p.says w (b.leaves t h) (omega (arith, k.1, translation_short l)) ∙ ap (λ (x : List ℕ). front x out) e);
       }
 
-  pub writes_short : Measures gc s loc L start (length out) size.Short → WritesTranslation gc s loc L start out size.Short out
-  writes_short m = record { says = λ t h. (m.says t h, refl) }
-
-  pub writes_stop : Measures gc s loc L start (length out) size.Stop → WritesTranslation gc s loc L start out size.Stop out
-  writes_stop m = record { says = λ t h. (m.says t h, refl) }
+  pub writes_none : {e : Untranslated} → Measures gc s loc L start (length out) (Err e) → WritesTranslation gc s loc L start out (Err e) out
+  writes_none m = record { says = λ t h. (m.says t h, refl) }
 
 -- two answers that are allowed are equal, and what they leave
-pub written_once : (l out : List ℕ) (r q : Size) (a b : List ℕ) → Measured l (length out) r × (a ≡ after_of l out r) → Measured l (length out) q × (b ≡ after_of l out q)
-    → ◌≡◌ {A = Size × List ℕ} (r, a) (q, b)
+pub written_once : (l out : List ℕ) (r q : Result ℕ Untranslated) (a b : List ℕ) → Measured l (length out) r × (a ≡ after_of l out r) → Measured l (length out) q × (b ≡ after_of l out q)
+    → ◌≡◌ {A = Result ℕ Untranslated × List ℕ} (r, a) (q, b)
 written_once l out r q a b h k =
     let e = measured_once l (length out) r q h.0 k.0 in
     let f : a ≡ b = h.1 ∙ ap (after_of l out) e ∙ sym k.1 in

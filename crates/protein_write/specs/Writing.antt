@@ -1,5 +1,5 @@
 -- What is promised of a translation that is written.
-use Rattle.std.specs.Prelude.{ℕ, ◌+◌, ◌*◌, ◌≤◌, ◌≡◌, List, length, take}
+use Rattle.std.specs.Prelude.{ℕ, ◌+◌, ◌*◌, ◌≤◌, ◌≡◌, List, length, take, Result, Ok, Err}
 use Rattle.std.proofs.lemmas.List.Edits.{sets}
 use Rattle.paper.specs.Locations.{Location}
 use Rattle.paper.specs.Translation.{Code, letters, drop_stop}
@@ -8,8 +8,7 @@ use Rattle.protein_codons.specs.declared.Reading.{Reading}
 use Rattle.protein_codons.specs.Reading.{Codes, TextLeft}
 use Rattle.protein_codons.specs.Letters.{letters_of}
 use Rattle.protein_measure.specs.Measuring.{Measured}
-use Rattle.protein_measure.specs.declared.Size.{Size}
-use Rattle.protein_measure.specs.declared.Size.TheVariants as size
+use Rattle.protein_measure.specs.declared.Untranslated.{Untranslated}
 
 -- ---- the codons that stand whole in a span between two places, with the letters l
 
@@ -31,10 +30,9 @@ pub record PutsLetters (gc : Code) (s loc : List ℕ) (L : ℕ) (x : Reading) (c
   pub says : (text : List ℕ) → TextLeft s loc L x text → count ≤ length (letters gc text) → after ≡ front (take count (letters gc text)) out
 
 -- "Success writes the answer at the front and leaves the rest."; a refusal "changes no lent output"
-abbrev pub after_of : List ℕ → List ℕ → Size → List ℕ
-after_of l out (size.Is n) = front (drop_stop l) out
-after_of l out size.Short = out
-after_of l out size.Stop = out
+abbrev pub after_of : List ℕ → List ℕ → Result ℕ Untranslated → List ℕ
+after_of l out (Ok n) = front (drop_stop l) out
+after_of l out (Err e) = out
 
-pub record WritesTranslation (gc : Code) (s loc : List ℕ) (L start : ℕ) (out : List ℕ) (r : Size) (after : List ℕ) : Type 0 where
+pub record WritesTranslation (gc : Code) (s loc : List ℕ) (L start : ℕ) (out : List ℕ) (r : Result ℕ Untranslated) (after : List ℕ) : Type 0 where
   pub says : (t : Location) → Codes s loc L t → Measured (letters_of gc s start t) (length out) r × (after ≡ after_of (letters_of gc s start t) out r)

@@ -9,20 +9,7 @@ ghost use Rattle.read_bytes.specs.Numbers.{LowFirst, flag};
 pub fn begins(s: &[u8], at: usize, x: &[u8]) -> bool
     ensures { There x.now s.now at result }
 {
-    if s.len() < at {
-        return false;
-    }
-    if s.len() - at < x.len() {
-        return false;
-    }
-    let mut i = 0;
-    while i < x.len() {
-        if s[at + i] != x[i] {
-            return false;
-        }
-        i += 1;
-    }
-    true
+    at <= s.len() && s[at..].starts_with(x)
 }
 
 // Two bytes as one number, the first lowest.
@@ -36,5 +23,5 @@ pub fn two(a: u8, b: u8) -> u64
 pub fn equal(a: u8, b: u8) -> u8
     ensures { result ≡ flag (eqb a b) }
 {
-    if a == b { 1 } else { 0 }
+    (a == b) as u8
 }

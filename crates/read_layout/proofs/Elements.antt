@@ -8,9 +8,8 @@ use Rattle.paper.specs.Form.{Form, ◌·◌, each, each⁺}
 use Rattle.paper.specs.Tree.{Text, Qualifier, Feature, Table}
 use Rattle.paper.specs.Layout.{tag, leaf, child, child?, holding?, qualifier, quals, feature, table, other_ids}
 use Rattle.paper.proofs.Forms.{Evers}
-use Rattle.read_steps.specs.Reads.{Reads, Passes, Tried}
+use Rattle.read_steps.specs.Reads.{Step, Reads, Passes, Tried}
 use Rattle.read_steps.specs.Follow.{Not, Starts, StandsBefore, anything, closing}
-use Rattle.read_steps.specs.declared.Step.{Step}
 use Rattle.read_steps.proofs.Steps.{as_reads}
 use Rattle.read_tags.proofs.Tags.{Element, Children, leaf_element, holding?_element, ev_holding?, Void, optional_reads, some_reads}
 use Rattle.read_steps.proofs.Soles.{sole_as}

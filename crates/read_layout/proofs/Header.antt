@@ -9,11 +9,9 @@ use Rattle.paper.specs.Form.{Form, ◌·◌, ◌∪◌, maybe}
 use Rattle.paper.specs.Tree.{Text, Spoken, Party, Identification, Heading, reference, application, Sequence}
 use Rattle.paper.specs.Layout.{tag, attribute, leaf, spoken, child, child?, holding, identification, heading, party, sequence}
 use Rattle.paper.proofs.Forms.{ev_these, Evers, evs_both, evs_after}
-use Rattle.read_steps.specs.Reads.{Reads, Passes, Tried, stayed}
+use Rattle.read_steps.specs.Reads.{Step, going, stuck, Reads, Passes, Tried, stayed}
 use Rattle.read_steps.specs.Follow.{Not, Starts, StandsBefore, anything, closing}
-use Rattle.read_steps.specs.declared.Step.{Step}
-use Rattle.read_steps.specs.declared.Step.TheVariants.{Ok, Fail}
-use Rattle.read_steps.proofs.Steps.{as_reads, seq, pass_then, either_first, either_second, tried, failed_at, failed_again, step_is, step_to}
+use Rattle.read_steps.proofs.Steps.{as_reads, seq, pass_then, either_first, either_second, tried, failed_at, step_is, step_to}
 use Rattle.read_steps.proofs.Fronts.{Leads, leads_seq, leads_all, leads_starts, starts_wider}
 use Rattle.read_tags.proofs.Tags.{Element, leaf_element, spoken_element, holding_reads, ev_holding, child_leads, child_ever, child_reads, sole_attribute, sole_holding, optional_reads, ev_attribute, apart_leads}
 use Rattle.read_steps.proofs.Soles.{sure_these, sole_seq, sole_after, sole_as, sole_of, sole_or}
@@ -134,22 +132,19 @@ module _ (name latin : List ℕ) where
         (λ p at w. record { name = p.0; latin = p.1 }) (λ p at w d. d) (λ x at w d. ((x.name, x.latin), d, refl))
         (run_reads (run_one (spoken_element name) latins c.sharps) (run_maybe (leaf_element latin) l c) (one_reads latins c.sharps p) q)
 
-    party_as : {s : List ℕ} {at far : ℕ} {x y r : Step} → x ≡ Ok at far → Reads (party name latin) (Starts l) s (Ok at far) y → r ≡ stayed at y
+    party_as : {s : List ℕ} {at far : ℕ} {x y r : Step} → x ≡ going at far → Reads (party name latin) (Starts l) s (going at far) y → r ≡ stayed at y
         → Reads (maybe (party name latin)) (Starts l) s x r
     party_as e p h = optional_run_reads (party name latin) (bytes "<" ++ name) party_leads l b.clash (tried e p h)
 
-  pub party_reads : {s : List ℕ} {at far n f : ℕ} {x r : Step} → x ≡ Ok at far → Reads (child (spoken name)) (Not is_blank) s (Ok at far) (Ok n f)
-      → Tried (child (leaf latin)) (Not is_blank) s (Ok n f) r → MaybeParty name latin s x r
+  pub party_reads : {s : List ℕ} {at far n f : ℕ} {x r : Step} → x ≡ going at far → Reads (child (spoken name)) (Not is_blank) s (going at far) (going n f)
+      → Tried (child (leaf latin)) (Not is_blank) s (going n f) r → MaybeParty name latin s x r
   party_reads e p q l b c =
       let k = tried_on q in
-      party_as l b c e (step_is (both_reads l b c p (optional_reads (leaf_element latin) l c q)) k.2) k.2
+      party_as l b c e (step_is (both_reads l b c p (optional_reads (leaf_element latin) l c q)) k.1) k.1
 
-  pub party_missing : {s : List ℕ} {at far k : ℕ} {x : Step} → x ≡ Ok at far → Reads (child (spoken name)) (Not is_blank) s (Ok at far) (Fail k)
-      → MaybeParty name latin s x (Ok at k)
+  pub party_missing : {s : List ℕ} {at far k : ℕ} {x : Step} → x ≡ going at far → Reads (child (spoken name)) (Not is_blank) s (going at far) (stuck k)
+      → MaybeParty name latin s x (going at k)
   party_missing e p l b c = party_as l b c e (both_reads l b c p (failed_at refl)) refl
-
-  pub party_failed : {s : List ℕ} {k : ℕ} {x r : Step} → x ≡ Fail k → r ≡ x → MaybeParty name latin s x r
-  party_failed e h l b c = failed_again _ e h
 
 -- ---- what stands before the titles
 
@@ -230,14 +225,14 @@ referred_reads : {s : List ℕ} {x r : Step} → Reads (child (leaf File)) (Not 
 referred_reads p = as_reads {L = child (leaf File)} {M = Referred} (λ t at w. reference t) (λ t at w d. d) referred_back (one_reads earlier refl p)
 
 module _ {s : List ℕ} {at far : ℕ} where
-  pub heading_applied : {n f : ℕ} {r : Step} → Reads (child (identification Application)) (Not is_blank) s (Ok at far) (Ok n f)
-      → Tried (child (leaf File)) (Not is_blank) s (Ok n f) r → Reads heading (Starts earlier) s (Ok at far) r
+  pub heading_applied : {n f : ℕ} {r : Step} → Reads (child (identification Application)) (Not is_blank) s (going at far) (going n f)
+      → Tried (child (leaf File)) (Not is_blank) s (going n f) r → Reads heading (Starts earlier) s (going at far) r
   heading_applied p q =
       let k = tried_on q in
-      step_to k.2 (heading_as (either_first two_headings (step_is (applied_reads p (optional_reads (leaf_element File) earlier file_next q)) k.2)))
+      step_to k.1 (heading_as (either_first two_headings (step_is (applied_reads p (optional_reads (leaf_element File) earlier file_next q)) k.1)))
 
-  pub heading_referred : {k : ℕ} {r : Step} → Reads (child (identification Application)) (Not is_blank) s (Ok at far) (Fail k)
-      → Reads (child (leaf File)) (Not is_blank) s (Ok at k) r → Reads heading (Starts earlier) s (Ok at far) r
+  pub heading_referred : {k : ℕ} {r : Step} → Reads (child (identification Application)) (Not is_blank) s (going at far) (stuck k)
+      → Reads (child (leaf File)) (Not is_blank) s (going at k) r → Reads heading (Starts earlier) s (going at far) r
   heading_referred p q = heading_as (either_second two_headings (applied_reads p (failed_at refl)) (referred_reads q))
 
 heading_run : Run heading (bytes "<ApplicationIdentification" ∷ bytes "<ApplicantFileReference" ∷ []) earlier

@@ -7,10 +7,11 @@ use Rattle.paper.specs.Bytes.{bytes, is_blank}
 use Rattle.paper.specs.Form.{Form, ◌·◌, maybe, each, each⁺}
 use Rattle.paper.specs.Layout.{blanks, tag, child, child?, holding}
 use Rattle.paper.proofs.Forms.{Evers, evs_both, evs_maybe, evs_each}
-use Rattle.read_steps.specs.Reads.{Reads, Passes, Tried, Followed, chosen}
+use Rattle.std.specs.Prelude.{Ok, Err}
+use Rattle.read_steps.specs.declared.Cursor.{Cursor}
+use Rattle.read_steps.specs.declared.Stuck.{Stuck}
+use Rattle.read_steps.specs.Reads.{Step, Reads, Passes, Tried, Followed, chosen}
 use Rattle.read_steps.specs.Follow.{Not, Starts, StandsBefore, anything, closing, clashes, sharp}
-use Rattle.read_steps.specs.declared.Step.{Step}
-use Rattle.read_steps.specs.declared.Step.TheVariants.{Ok, Fail}
 use Rattle.read_steps.proofs.Steps.{before, seq, skip_tried, failed}
 use Rattle.read_steps.proofs.Fronts.{starts_sharp, leads_starts, Leads, leads_by, whole, maybe_starts, not_there}
 use Rattle.read_tags.proofs.Tags.{Element, Children, holding_element, holding_reads, tag_then, child_leads, child_ever, child_sole, child_reads, sole_optional, sole_items, sole_some_items, optional_starts, items_starts, some_starts, ev_some, ev_holding}
@@ -105,26 +106,25 @@ module _ {A : Type 0} (C : A → Form) (k : List ℕ) (leads : (a : A) → Leads
   optional_run_reads t = skip_tried (not_there whole k C (leads_by k C leads) g other) (λ z n. n) t
 
 -- ---- a trial from a step that did not fail doesn't fail
-pub tried_on : {A : Type 0} {L : A → Form} {F : List ℕ → Type 0} {s : List ℕ} {n f : ℕ} {r : Step} → Tried L F s (Ok n f) r
-    → (m : ℕ) × (g : ℕ) × (r ≡ Ok m g)
-tried_on {n = n} {f = f} {r = r} t = go t.step t.is
+pub tried_on : {A : Type 0} {L : A → Form} {F : List ℕ → Type 0} {s : List ℕ} {c : Cursor} {r : Step} → Tried L F s (Ok c) r
+    → (d : Cursor) × (r ≡ Ok d)
+tried_on {c = c} {r = r} t = go t.step t.is
   where
-    go : (y : Step) → r ≡ chosen y (Ok n f) → (m : ℕ) × (g : ℕ) × (r ≡ Ok m g)
-    go (Ok m g) e = (m, g, e)
-    go (Fail k) e = (n, max k f, e)
+    go : (y : Step) → r ≡ chosen y (Ok c) → (d : Cursor) × (r ≡ Ok d)
+    go (Ok d) e = (d, e)
+    go (Err k) e = (record { next = c.next; far = max k.far c.far }, e)
 
 -- ---- a step that failed passes through
 
-pub enters_failed : {s : List ℕ} {x : Step} (k : ℕ) → x ≡ Fail k → Enters s x x
+pub enters_failed : {s : List ℕ} {x : Step} (k : Stuck) → x ≡ Err k → Enters s x x
 enters_failed {s} {x} k h = record { head = x; open_at = x; before = failed k h; opens = failed k h; after = failed k h }
 
-pub leaves_failed : {name s : List ℕ} {x : Step} (k : ℕ) → x ≡ Fail k → Leaves name s x x
+pub leaves_failed : {name s : List ℕ} {x : Step} (k : Stuck) → x ≡ Err k → Leaves name s x x
 leaves_failed {name} {s} {x} k h = record { closed = x; closes = failed k h; after = failed k h }
 
--- ---- a loop over elements of one name: from here on, whatever is read, it is read from the start
-abbrev pub Onward : {A : Type 0} → (A → Form) → List (List ℕ) → List ℕ → ℕ → ℕ → ℕ → ℕ → Type 0
-Onward E l s next far at reach =
-    (m g : ℕ) → Reads (each (child E)) (Starts l) s (Ok at reach) (Ok m g) → Reads (each (child E)) (Starts l) s (Ok next far) (Ok m g)
-
-pub followed_failed : {A : Type 0} {L : A → Form} {P : Form} {s : List ℕ} {x : Step} (k : ℕ) → x ≡ Fail k → Followed L P s x x
+pub followed_failed : {A : Type 0} {L : A → Form} {P : Form} {s : List ℕ} {x : Step} (k : Stuck) → x ≡ Err k → Followed L P s x x
 followed_failed {x = x} k h = record { step = x; reads = failed k h; passes = failed k h }
+
+-- ---- a loop over elements of one name: from here on, whatever is read, it is read from the start
+abbrev pub Onward : {A : Type 0} → (A → Form) → List (List ℕ) → List ℕ → Step → Cursor → Type 0
+Onward E l s x c = (d : Cursor) → Reads (each (child E)) (Starts l) s (Ok c) (Ok d) → Reads (each (child E)) (Starts l) s x (Ok d)

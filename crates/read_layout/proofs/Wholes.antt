@@ -15,10 +15,8 @@ use Rattle.paper.specs.Layout.{blanks, gap, tag, close, attribute, attribute?, l
 use Rattle.paper.specs.Answers.{limit, Strays, Begins}
 use Rattle.paper.proofs.Forms.{Ever, ev_seq, ev_these, ev_run, ev_gap, Evers, evs_both, evs_after, evs_maybe}
 use Rattle.read_layout.specs.Says.{Refuses}
-use Rattle.read_steps.specs.Reads.{Lost, Reads, Passes, Tried}
+use Rattle.read_steps.specs.Reads.{Step, going, stuck, Lost, Reads, Passes, Tried}
 use Rattle.read_steps.specs.Follow.{Not, Starts, StandsBefore, anything, nothing, closing, clashes, sharp, skip}
-use Rattle.read_steps.specs.declared.Step.{Step}
-use Rattle.read_steps.specs.declared.Step.TheVariants.{Ok, Fail}
 use Rattle.read_steps.proofs.Laws.{agree_le}
 use Rattle.read_steps.proofs.Steps.{as_reads, seq, pass_then, then_pass}
 use Rattle.read_steps.proofs.Fronts.{Leads, leads_seq, leads_all, leads_starts, leads_sharp, StartsBy, skip_blanks, skip_none}
@@ -219,9 +217,9 @@ abbrev declaration : List ℕ
 declaration = bytes "<?xml version=\"1.0\" encoding=\"UTF-8\"?>"
 
 module _ {s : List ℕ} where
-  pub document_reads : {a b c d e f r : Step} → Passes (these declaration) anything s (Ok 0 0) a → Passes blanks (Not is_blank) s a b
+  pub document_reads : {a b c d e f r : Step} → Passes (these declaration) anything s (going 0 0) a → Passes blanks (Not is_blank) s a b
       → Passes doctype anything s b c → Passes blanks (Not is_blank) s c d → Reads root anything s d e → Passes blanks (Not is_blank) s e f
-      → Passes (these []) nothing s f r → Reads document nothing s (Ok 0 0) r
+      → Passes (these []) nothing s f r → Reads document nothing s (going 0 0) r
   document_reads p₁ p₂ p₃ p₄ p₅ p₆ p₇ =
       as_reads {L = λ (l : Listing ℕ). document l · these []} {M = document} (λ l at w. l)
       (λ l at w d. subst (document l at) (sym (d.2 ∙ ap (λ (v : List ℕ). d.0 ++ v) d.4 ∙ append-nil d.0)) d.3)
@@ -236,7 +234,7 @@ no_rest : (x : List ℕ) → length x ≤ 0 → x ≡ []
 no_rest [] h = refl
 no_rest (b ∷ x) h = absurd (omega arith)
 
-pub accepted : {s : List ℕ} (n f : ℕ) → Reads document nothing s (Ok 0 0) (Ok n f) → length s ≤ n → (l : Listing ℕ) × LaidOut l s
+pub accepted : {s : List ℕ} (n f : ℕ) → Reads document nothing s (going 0 0) (going n f) → length s ≤ n → (l : Listing ℕ) × LaidOut l s
 accepted {s} n f e h =
     let x = e.is.4 in
     let k : x.rest ≡ [] = no_rest x.rest
@@ -248,7 +246,7 @@ accepted {s} n f e h =
 pub refused_long : (w : List ℕ) → limit < length w → Refuses w 1 0
 refused_long w h = Refuses.too_long h
 
-pub refused : {s : List ℕ} (k : ℕ) → Reads document nothing s (Ok 0 0) (Fail k) → Strays s k
+pub refused : {s : List ℕ} (k : ℕ) → Reads document nothing s (going 0 0) (stuck k) → Strays s k
 refused {s} k e =
     record {
       stray = λ l d. lost.none l s [] d.is refl (ap (take (suc k)) (append-nil s));

@@ -1,13 +1,12 @@
 -- Stretches of the layout that are not an element of their own: what the functions between the elements read.
-use Rattle.std.specs.Prelude.{ℕ, ◌≡◌, List, [], ◌∷◌}
+use Rattle.std.specs.Prelude.{ℕ, List, [], ◌∷◌}
 use Rattle.std.proofs.Math.Option.{Option, none}
 use Rattle.paper.specs.Bytes.{bytes, is_blank}
-use Rattle.paper.specs.Form.{Form, lit, maybe, each}
-use Rattle.paper.specs.Tree.{Text, Spoken, Party, Qualifier, Identification, Heading, reference, Table, Sequence, Listing}
-use Rattle.paper.specs.Layout.{blanks, close, leaf, child, child?, holding?, qualifier, party, inner, attributes, parties}
-use Rattle.read_steps.specs.Reads.{Reads, Passes}
+use Rattle.paper.specs.Form.{Form, lit, ◌·◌, maybe}
+use Rattle.paper.specs.Tree.{Text, Spoken, Party, Identification, Heading, reference, Table, Sequence, Listing}
+use Rattle.paper.specs.Layout.{blanks, tag, close, holding?, party, inner, attributes, parties}
+use Rattle.read_steps.specs.Reads.{Step, Reads, Passes}
 use Rattle.read_steps.specs.Follow.{Not, Starts, StandsBefore, anything, skip}
-use Rattle.read_steps.specs.declared.Step.{Step}
 
 -- blanks, the `>` of a start tag, and blanks
 pub record Enters (s : List ℕ) (x r : Step) : Type 0 where
@@ -120,9 +119,10 @@ earlier =
 abbrev pub StartsPast : List (List ℕ) → List ℕ → Type 0
 StartsPast l z = Starts l (skip z)
 
--- what follows a tag where there may be no child
-abbrev pub QualsRest : List (Qualifier ℕ) → Form
-QualsRest l = holding? (bytes "INSDFeature_quals") (l ≡ []) (each (child qualifier) l)
+-- what follows a tag where there may be no child: `no_child a` says that a has none
+abbrev pub HoldingRest : {A : Type 0} → List ℕ → (A → Type 0) → (A → Form) → A → Form
+HoldingRest name no_child children a = holding? name (no_child a) (children a)
 
-abbrev pub IdsRest : Option (Text ℕ) → Form
-IdsRest t = holding? (bytes "INSDSeq_other-seqids") (t ≡ none) (child? (leaf (bytes "INSDSeqid")) t)
+-- an element that may have no child
+abbrev pub Holding : {A : Type 0} → List ℕ → (A → Type 0) → (A → Form) → A → Form
+Holding name no_child children a = tag name · HoldingRest name no_child children a

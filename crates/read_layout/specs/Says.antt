@@ -1,10 +1,9 @@
 -- What the layout says of some bytes: rules 1 and 2 of document 01.
-use Rattle.std.specs.Prelude.{ℕ, ◌≤◌, ◌<◌, List, length}
+use Rattle.std.specs.Prelude.{ℕ, ◌≤◌, ◌<◌, Result, Ok, Err, List, length}
 use Rattle.paper.specs.Tree.{Listing}
 use Rattle.paper.specs.Layout.{LaidOut}
 use Rattle.paper.specs.Answers.{limit, Strays}
-use Rattle.read_layout.specs.declared.Shape.{Shape}
-use Rattle.read_layout.specs.declared.Shape.TheVariants.{Laid, Refused}
+use Rattle.paper.specs.declared.Refused.{Refused}
 
 -- "Rule 1 comes first, then 2": the number of the broken rule, and its place
 pub data Refuses (w : List ℕ) : ℕ → ℕ → Type 0 where
@@ -17,6 +16,9 @@ pub record Lays (w : List ℕ) : Type 0 where
   pub listing : Listing ℕ
   pub laid : LaidOut listing w
 
+abbrev pub Shape : Type 0
+Shape = Result (Unit {0}) Refused
+
 abbrev pub ShapeSays : List ℕ → Shape → Type 0
-ShapeSays w Laid = Lays w
-ShapeSays w (Refused n p) = Refuses w n p
+ShapeSays w (Ok u) = Lays w
+ShapeSays w (Err r) = Refuses w r.rule r.place

@@ -2,25 +2,25 @@
 // Relies on the definitions of the crate paper and on the steps of the crates read_steps and read_tags. Judges no value.
 #![tactic(auto)]
 
-ghost use Rattle.std.specs.Prelude.{◌≡◌};
+ghost use Rattle.std.specs.Prelude.{ℕ, ◌≡◌, List, []};
+ghost use Rattle.std.proofs.Math.Option.{Option, none};
 ghost use Rattle.paper.specs.Bytes.{bytes, is_blank};
 ghost use Rattle.paper.specs.Form.{each};
+ghost use Rattle.paper.specs.Tree;
+ghost use Rattle.paper.specs.Tree.{Text};
 ghost use Rattle.paper.specs.Layout as Form;
-ghost use Rattle.read_steps.specs.Reads.{Reads, Passes, Tried, Followed, AtEnd};
-ghost use Rattle.read_steps.specs.Follow.{Not, Starts, anything, nothing, closing};
+ghost use Rattle.read_steps.specs.Reads.{going, Reads, Passes, Tried, Followed, AtEnd};
+ghost use Rattle.read_steps.specs.Follow.{Not, Starts, StandsBefore, anything, nothing, closing};
 ghost use Rattle.read_steps.specs.Texts.{ClassTable};
-ghost use Rattle.read_steps.specs.declared.Step.TheVariants.{Ok};
-ghost use Rattle.read_layout.specs.Parts.{Enters, Leaves, MaybeParty, StartsPast, QualsRest, IdsRest, held, attributed, introduced, titled, totalled, close_tag, earlier};
+ghost use Rattle.read_layout.specs.Parts.{Enters, Leaves, MaybeParty, StartsPast, Holding, HoldingRest, held, attributed, introduced, titled, totalled, close_tag, earlier};
 ghost use Rattle.read_layout.specs.Says.{ShapeSays};
+ghost use Rattle.read_tags.proofs.Tags.{Element, Children, Void};
 
-use read_steps::Step;
+use paper::Refused;
+use read_steps::{Cursor, Step};
 
-// What the layout says of some bytes.
-#[derive(Clone, Copy)]
-pub enum Shape {
-    Laid,
-    Refused { rule: usize, place: usize },
-}
+// What the layout says of some bytes: nothing, or the rule that they break and where.
+pub type Shape = Result<(), Refused>;
 
 // Blanks, the `>` of a start tag, blanks.
 fn enter(s: &[u8], st: Step) -> Step
@@ -29,124 +29,145 @@ fn enter(s: &[u8], st: Step) -> Step
     read_steps::blanks(s, read_steps::lit(s, read_steps::blanks(s, st), b">"))
 }
 
-// An end tag, blanks.
+// An end tag, blanks. The step is made anew: a copy of the whole loads both numbers at once, and waits for the two stores before it.
 fn leave(s: &[u8], st: Step, name: &[u8]) -> Step
     ensures { Leaves name.now s.now st result }
 {
-    read_steps::blanks(s, read_tags::close(s, st, name))
+    let Cursor { next, far } = st?;
+    read_steps::blanks(s, read_tags::close(s, Ok(Cursor { next, far }), name))
 }
 
-fn qualifier(s: &[u8], next: usize, far: usize, t: &[u8; 256]) -> Step
-    requires { ClassTable t.now }
-    ensures { Reads (Form.child Form.qualifier) (Not is_blank) s.now (Ok next far) result }
-{
-    let a = read_tags::tag(s, Step::Ok { next, far }, b"INSDQualifier");
-    let Step::Ok { next: n, far: f } = a else {
-        return read_steps::again(a);
-    };
-    let b = enter(s, Step::Ok { next: n, far: f });
-    let c = read_tags::leaf_on(s, b, b"INSDQualifier_name", t);
-    let d = read_tags::leaf_maybe(s, c, b"INSDQualifier_value", t);
-    leave(s, d, b"INSDQualifier")
+// An element that may stand there many times, before one of the words `next`.
+trait Repeated {
+    ghost value: { Type 0 };
+
+    ghost form: { value → ℕ → List ℕ → Type 0 };
+
+    ghost name: { List ℕ };
+
+    ghost next: { List (List ℕ) };
+
+    fn read(s: &[u8], st: Step, t: &[u8; 256]) -> Step
+        requires { ClassTable t.now }
+        ensures { Reads (Form.child form) (Not is_blank) s.now st result };
 }
 
-fn qualifiers(s: &[u8], st: Step, t: &[u8; 256]) -> Step
-    requires { ClassTable t.now }
-    ensures { Reads (each (Form.child Form.qualifier)) (Starts closing) s.now st result }
+// Any number of them. Each step is made anew, as in `leave`.
+fn many<E: Repeated>(s: &[u8], st: Step, t: &[u8; 256]) -> Step
+    requires class_table { ClassTable t.now }
+    requires element { Element E.form E.name }
+    requires last { StandsBefore E.name E.next }
+    ensures { Reads (each (Form.child E.form)) (Starts E.next) s.now st result }
 {
-    let Step::Ok { next, far } = st else {
-        return read_steps::again(st);
-    };
-    let mut at = next;
-    let mut reach = far;
+    let Cursor { mut next, mut far } = st?;
     loop {
-        match qualifier(s, at, reach, t) {
-            Step::Ok { next: n, far: f } => {
-                at = n;
-                reach = f;
+        match E::read(s, Ok(Cursor { next, far }), t) {
+            Ok(c) => {
+                next = c.next;
+                far = c.far;
             }
-            Step::Fail(k) => {
-                return Step::Ok { next: at, far: k };
-            }
+            Err(e) => return Ok(Cursor { next, far: e.far }),
         }
     }
 }
 
-// What follows the tag of INSDFeature_quals, and the blanks after the element.
-fn quals_rest(s: &[u8], next: usize, far: usize, t: &[u8; 256]) -> Step
-    requires { ClassTable t.now }
-    ensures { Followed QualsRest Form.blanks s.now (Ok next far) result }
-{
-    let a = read_steps::blanks(s, Step::Ok { next, far });
-    let Step::Ok { next: n, far: f } = a else {
-        return read_steps::again(a);
-    };
-    let short = read_steps::lit(s, Step::Ok { next: n, far: f }, b"/>");
-    let Step::Fail(k) = short else {
-        return read_steps::blanks(s, read_steps::again(short));
-    };
-    let b = read_steps::lit(s, Step::Ok { next: n, far: k }, b">");
-    let c = qualifiers(s, read_steps::blanks(s, b), t);
-    read_steps::blanks(s, read_tags::close(s, c, b"INSDFeature_quals"))
+// Children that an element may hold or not: `<X/>` holds none.
+trait Held {
+    ghost value: { Type 0 };
+
+    ghost form: { value → ℕ → List ℕ → Type 0 };
+
+    ghost no_child: { value → Type 0 };
+
+    fn read(s: &[u8], st: Step, t: &[u8; 256]) -> Step
+        requires { ClassTable t.now }
+        ensures { Reads form (Starts closing) s.now st result };
 }
 
-fn quals_maybe(s: &[u8], st: Step, t: &[u8; 256]) -> Step
-    requires { ClassTable t.now }
-    ensures { Tried (Form.child Form.quals) (Not is_blank) s.now st result }
+// What follows the tag of their element, and the blanks after it.
+fn held_rest<C: Held>(s: &[u8], st: Step, name: &[u8], t: &[u8; 256]) -> Step
+    requires class_table { ClassTable t.now }
+    requires children { Children C.form }
+    requires void { Void C.no_child }
+    ensures { Followed (HoldingRest name.now C.no_child C.form) Form.blanks s.now st result }
 {
-    let Step::Ok { next, far: _ } = st else {
-        return read_steps::again(st);
-    };
-    match read_tags::tag(s, st, b"INSDFeature_quals") {
-        Step::Fail(k) => Step::Ok { next, far: k },
-        Step::Ok { next: n, far: f } => read_steps::stay(next, quals_rest(s, n, f, t)),
-    }
-}
-
-fn feature(s: &[u8], next: usize, far: usize, t: &[u8; 256]) -> Step
-    requires { ClassTable t.now }
-    ensures { Reads (Form.child Form.feature) (Not is_blank) s.now (Ok next far) result }
-{
-    let a = read_tags::tag(s, Step::Ok { next, far }, b"INSDFeature");
-    let Step::Ok { next: n, far: f } = a else {
-        return read_steps::again(a);
-    };
-    let b = enter(s, Step::Ok { next: n, far: f });
-    let c = read_tags::leaf_on(s, b, b"INSDFeature_key", t);
-    let d = read_tags::leaf_on(s, c, b"INSDFeature_location", t);
-    let e = quals_maybe(s, d, t);
-    leave(s, e, b"INSDFeature")
-}
-
-fn feature_on(s: &[u8], st: Step, t: &[u8; 256]) -> Step
-    requires { ClassTable t.now }
-    ensures { Reads (Form.child Form.feature) (Not is_blank) s.now st result }
-{
-    match st {
-        Step::Ok { next, far } => feature(s, next, far, t),
-        Step::Fail(k) => Step::Fail(k),
-    }
-}
-
-fn features(s: &[u8], st: Step, t: &[u8; 256]) -> Step
-    requires { ClassTable t.now }
-    ensures { Reads (each (Form.child Form.feature)) (Starts closing) s.now st result }
-{
-    let Step::Ok { next, far } = st else {
-        return read_steps::again(st);
-    };
-    let mut at = next;
-    let mut reach = far;
-    loop {
-        match feature(s, at, reach, t) {
-            Step::Ok { next: n, far: f } => {
-                at = n;
-                reach = f;
-            }
-            Step::Fail(k) => {
-                return Step::Ok { next: at, far: k };
-            }
+    let c = read_steps::blanks(s, st)?;
+    match read_steps::lit(s, Ok(c), b"/>") {
+        Ok(short) => read_steps::blanks(s, Ok(short)),
+        Err(e) => {
+            let a = read_steps::lit(s, Ok(Cursor { far: e.far, ..c }), b">");
+            leave(s, C::read(s, read_steps::blanks(s, a), t), name)
         }
+    }
+}
+
+// Their element, which may be missing. Its tag is tested here, so that a missing one costs no call.
+fn held_maybe<C: Held>(s: &[u8], st: Step, name: &[u8], t: &[u8; 256]) -> Step
+    requires class_table { ClassTable t.now }
+    requires children { Children C.form }
+    requires void { Void C.no_child }
+    ensures { Tried (Form.child (Holding name.now C.no_child C.form)) (Not is_blank) s.now st result }
+{
+    let c = st?;
+    match read_tags::tag(s, Ok(c), name) {
+        Ok(a) => read_steps::stay(c.next, held_rest::<C>(s, Ok(a), name, t)),
+        Err(e) => Ok(Cursor { far: e.far, ..c }),
+    }
+}
+
+struct Qualifier;
+
+impl Repeated for Qualifier {
+    ghost value = { Tree.Qualifier ℕ };
+
+    ghost form = { Form.qualifier };
+
+    ghost name = { bytes "INSDQualifier" };
+
+    ghost next = { closing };
+
+    fn read(s: &[u8], st: Step, t: &[u8; 256]) -> Step {
+        let a = read_tags::tag(s, st, b"INSDQualifier")?;
+        let b = enter(s, Ok(a));
+        let c = read_tags::leaf(s, b, b"INSDQualifier_name", t);
+        let d = read_tags::leaf_maybe(s, c, b"INSDQualifier_value", t);
+        leave(s, d, b"INSDQualifier")
+    }
+}
+
+// What INSDFeature_quals holds.
+struct Qualifiers;
+
+impl Held for Qualifiers {
+    ghost value = { List (Tree.Qualifier ℕ) };
+
+    ghost form = { each (Form.child Form.qualifier) };
+
+    ghost no_child = { λ l. l ≡ [] };
+
+    fn read(s: &[u8], st: Step, t: &[u8; 256]) -> Step {
+        many::<Qualifier>(s, st, t)
+    }
+}
+
+struct Feature;
+
+impl Repeated for Feature {
+    ghost value = { Tree.Feature ℕ };
+
+    ghost form = { Form.feature };
+
+    ghost name = { bytes "INSDFeature" };
+
+    ghost next = { closing };
+
+    fn read(s: &[u8], st: Step, t: &[u8; 256]) -> Step {
+        let a = read_tags::tag(s, st, b"INSDFeature")?;
+        let b = enter(s, Ok(a));
+        let c = read_tags::leaf(s, b, b"INSDFeature_key", t);
+        let d = read_tags::leaf(s, c, b"INSDFeature_location", t);
+        let e = held_maybe::<Qualifiers>(s, d, b"INSDFeature_quals", t);
+        leave(s, e, b"INSDFeature")
     }
 }
 
@@ -154,47 +175,29 @@ fn table_maybe(s: &[u8], st: Step, t: &[u8; 256]) -> Step
     requires { ClassTable t.now }
     ensures { Tried (Form.child Form.table) (Not is_blank) s.now st result }
 {
-    let Step::Ok { next, far: _ } = st else {
-        return read_steps::again(st);
-    };
-    match read_tags::tag(s, st, b"INSDSeq_feature-table") {
-        Step::Fail(k) => Step::Ok { next, far: k },
-        Step::Ok { next: n, far: f } => {
-            let a = enter(s, Step::Ok { next: n, far: f });
-            let b = features(s, feature_on(s, a, t), t);
-            read_steps::stay(next, leave(s, b, b"INSDSeq_feature-table"))
+    let c = st?;
+    match read_tags::tag(s, Ok(c), b"INSDSeq_feature-table") {
+        Ok(a) => {
+            let b = Feature::read(s, enter(s, Ok(a)), t);
+            let d = many::<Feature>(s, b, t);
+            read_steps::stay(c.next, leave(s, d, b"INSDSeq_feature-table"))
         }
+        Err(e) => Ok(Cursor { far: e.far, ..c }),
     }
 }
 
-// What follows the tag of INSDSeq_other-seqids, and the blanks after the element.
-fn ids_rest(s: &[u8], next: usize, far: usize, t: &[u8; 256]) -> Step
-    requires { ClassTable t.now }
-    ensures { Followed IdsRest Form.blanks s.now (Ok next far) result }
-{
-    let a = read_steps::blanks(s, Step::Ok { next, far });
-    let Step::Ok { next: n, far: f } = a else {
-        return read_steps::again(a);
-    };
-    let short = read_steps::lit(s, Step::Ok { next: n, far: f }, b"/>");
-    let Step::Fail(k) = short else {
-        return read_steps::blanks(s, read_steps::again(short));
-    };
-    let b = read_steps::lit(s, Step::Ok { next: n, far: k }, b">");
-    let c = read_tags::leaf_maybe(s, read_steps::blanks(s, b), b"INSDSeqid", t);
-    read_steps::blanks(s, read_tags::close(s, c, b"INSDSeq_other-seqids"))
-}
+// What INSDSeq_other-seqids holds.
+struct OtherIds;
 
-fn ids_maybe(s: &[u8], st: Step, t: &[u8; 256]) -> Step
-    requires { ClassTable t.now }
-    ensures { Tried (Form.child Form.other_ids) (Not is_blank) s.now st result }
-{
-    let Step::Ok { next, far: _ } = st else {
-        return read_steps::again(st);
-    };
-    match read_tags::tag(s, st, b"INSDSeq_other-seqids") {
-        Step::Fail(k) => Step::Ok { next, far: k },
-        Step::Ok { next: n, far: f } => read_steps::stay(next, ids_rest(s, n, f, t)),
+impl Held for OtherIds {
+    ghost value = { Option (Text ℕ) };
+
+    ghost form = { Form.child? (Form.leaf (bytes "INSDSeqid")) };
+
+    ghost no_child = { λ o. o ≡ none };
+
+    fn read(s: &[u8], st: Step, t: &[u8; 256]) -> Step {
+        read_tags::leaf_maybe(s, st, b"INSDSeqid", t)
     }
 }
 
@@ -204,58 +207,31 @@ fn inner(s: &[u8], st: Step, t: &[u8; 256]) -> Step
     ensures { Reads (Form.child held) (Not is_blank) s.now st result }
 {
     let a = enter(s, read_tags::tag(s, st, b"INSDSeq"));
-    let b = read_tags::leaf_on(s, a, b"INSDSeq_length", t);
-    let c = read_tags::leaf_on(s, b, b"INSDSeq_moltype", t);
-    let d = read_tags::leaf_on(s, c, b"INSDSeq_division", t);
-    let e = ids_maybe(s, d, t);
+    let b = read_tags::leaf(s, a, b"INSDSeq_length", t);
+    let c = read_tags::leaf(s, b, b"INSDSeq_moltype", t);
+    let d = read_tags::leaf(s, c, b"INSDSeq_division", t);
+    let e = held_maybe::<OtherIds>(s, d, b"INSDSeq_other-seqids", t);
     let f = table_maybe(s, e, t);
-    let g = read_tags::leaf_on(s, f, b"INSDSeq_sequence", t);
+    let g = read_tags::leaf(s, f, b"INSDSeq_sequence", t);
     leave(s, g, b"INSDSeq")
 }
 
-// SequenceData.
-fn sequence(s: &[u8], next: usize, far: usize, t: &[u8; 256]) -> Step
-    requires { ClassTable t.now }
-    ensures { Reads (Form.child Form.sequence) (Not is_blank) s.now (Ok next far) result }
-{
-    let a = read_tags::tag(s, Step::Ok { next, far }, b"SequenceData");
-    let Step::Ok { next: n, far: f } = a else {
-        return read_steps::again(a);
-    };
-    let b = read_tags::attribute(s, Step::Ok { next: n, far: f }, b"sequenceIDNumber", t);
-    let c = inner(s, enter(s, b), t);
-    leave(s, c, b"SequenceData")
-}
+struct SequenceData;
 
-fn sequence_on(s: &[u8], st: Step, t: &[u8; 256]) -> Step
-    requires { ClassTable t.now }
-    ensures { Reads (Form.child Form.sequence) (Not is_blank) s.now st result }
-{
-    match st {
-        Step::Ok { next, far } => sequence(s, next, far, t),
-        Step::Fail(k) => Step::Fail(k),
-    }
-}
+impl Repeated for SequenceData {
+    ghost value = { Tree.Sequence ℕ };
 
-fn sequences(s: &[u8], st: Step, t: &[u8; 256]) -> Step
-    requires { ClassTable t.now }
-    ensures { Reads (each (Form.child Form.sequence)) (Starts closing) s.now st result }
-{
-    let Step::Ok { next, far } = st else {
-        return read_steps::again(st);
-    };
-    let mut at = next;
-    let mut reach = far;
-    loop {
-        match sequence(s, at, reach, t) {
-            Step::Ok { next: n, far: f } => {
-                at = n;
-                reach = f;
-            }
-            Step::Fail(k) => {
-                return Step::Ok { next: at, far: k };
-            }
-        }
+    ghost form = { Form.sequence };
+
+    ghost name = { bytes "SequenceData" };
+
+    ghost next = { closing };
+
+    fn read(s: &[u8], st: Step, t: &[u8; 256]) -> Step {
+        let a = read_tags::tag(s, st, b"SequenceData")?;
+        let b = read_tags::attribute(s, Ok(a), b"sequenceIDNumber", t);
+        let c = inner(s, enter(s, b), t);
+        leave(s, c, b"SequenceData")
     }
 }
 
@@ -266,7 +242,7 @@ fn identification(s: &[u8], st: Step, name: &[u8], t: &[u8; 256]) -> Step
 {
     let a = enter(s, read_tags::tag(s, st, name));
     let b = read_tags::leaf_maybe(s, a, b"IPOfficeCode", t);
-    let c = read_tags::leaf_on(s, b, b"ApplicationNumberText", t);
+    let c = read_tags::leaf(s, b, b"ApplicationNumberText", t);
     let d = read_tags::leaf_maybe(s, c, b"FilingDate", t);
     leave(s, d, name)
 }
@@ -275,10 +251,8 @@ fn identification_maybe(s: &[u8], st: Step, name: &[u8], t: &[u8; 256]) -> Step
     requires { ClassTable t.now }
     ensures { Tried (Form.child (Form.identification name.now)) (Not is_blank) s.now st result }
 {
-    let Step::Ok { next, far } = st else {
-        return read_steps::again(st);
-    };
-    read_steps::stay(next, identification(s, Step::Ok { next, far }, name, t))
+    let c = st?;
+    read_steps::stay(c.next, identification(s, Ok(c), name, t))
 }
 
 // "either ApplicantFileReference, or ApplicationIdentification then ApplicantFileReference?"
@@ -286,16 +260,11 @@ fn heading(s: &[u8], st: Step, t: &[u8; 256]) -> Step
     requires { ClassTable t.now }
     ensures { Reads Form.heading (Starts earlier) s.now st result }
 {
-    let Step::Ok { next, far } = st else {
-        return read_steps::again(st);
-    };
-    let here = Step::Ok { next, far };
-    match identification(s, here, b"ApplicationIdentification", t) {
-        Step::Ok { next: n, far: f } => {
-            let a = Step::Ok { next: n, far: f };
-            read_tags::leaf_maybe(s, a, b"ApplicantFileReference", t)
-        }
-        Step::Fail(k) => read_tags::leaf(s, next, k, b"ApplicantFileReference", t),
+    let c = st?;
+    let reference = b"ApplicantFileReference";
+    match identification(s, Ok(c), b"ApplicationIdentification", t) {
+        Ok(a) => read_tags::leaf_maybe(s, Ok(a), reference, t),
+        Err(e) => read_tags::leaf(s, Ok(Cursor { far: e.far, ..c }), reference, t),
     }
 }
 
@@ -304,17 +273,10 @@ fn party_maybe(s: &[u8], st: Step, name: &[u8], latin: &[u8], t: &[u8; 256]) -> 
     requires { ClassTable t.now }
     ensures { MaybeParty name.now latin.now s.now st result }
 {
-    let Step::Ok { next, far } = st else {
-        return read_steps::again(st);
-    };
-    match read_tags::spoken(s, next, far, name, t) {
-        Step::Ok { next: n, far: f } => read_tags::leaf_maybe(
-            s,
-            Step::Ok { next: n, far: f },
-            latin,
-            t,
-        ),
-        Step::Fail(k) => Step::Ok { next, far: k },
+    let c = st?;
+    match read_tags::spoken(s, Ok(c), name, t) {
+        Ok(a) => read_tags::leaf_maybe(s, Ok(a), latin, t),
+        Err(e) => Ok(Cursor { far: e.far, ..c }),
     }
 }
 
@@ -329,39 +291,19 @@ fn introduction(s: &[u8], st: Step, t: &[u8; 256]) -> Step
     party_maybe(s, c, b"InventorName", b"InventorNameLatin", t)
 }
 
-fn title_on(s: &[u8], st: Step, t: &[u8; 256]) -> Step
-    requires { ClassTable t.now }
-    ensures { Reads (Form.child (Form.spoken (bytes "InventionTitle"))) (Not is_blank) s.now st result }
-{
-    match st {
-        Step::Ok { next, far } => read_tags::spoken(s, next, far, b"InventionTitle", t),
-        Step::Fail(k) => Step::Fail(k),
-    }
-}
+struct Title;
 
-fn titles(s: &[u8], st: Step, t: &[u8; 256]) -> Step
-    requires { ClassTable t.now }
-    ensures { Reads (each (Form.child (Form.spoken (bytes "InventionTitle")))) (Starts totalled) s.now st result }
-{
-    let Step::Ok { next, far } = st else {
-        return read_steps::again(st);
-    };
-    let mut at = next;
-    let mut reach = far;
-    loop {
-        let here = Step::Ok {
-            next: at,
-            far: reach,
-        };
-        match title_on(s, here, t) {
-            Step::Ok { next: n, far: f } => {
-                at = n;
-                reach = f;
-            }
-            Step::Fail(k) => {
-                return Step::Ok { next: at, far: k };
-            }
-        }
+impl Repeated for Title {
+    ghost value = { Tree.Spoken ℕ };
+
+    ghost form = { Form.spoken (bytes "InventionTitle") };
+
+    ghost name = { bytes "InventionTitle" };
+
+    ghost next = { totalled };
+
+    fn read(s: &[u8], st: Step, t: &[u8; 256]) -> Step {
+        read_tags::spoken(s, st, b"InventionTitle", t)
     }
 }
 
@@ -383,9 +325,9 @@ fn root(s: &[u8], st: Step, t: &[u8; 256]) -> Step
     let a = read_tags::tag(s, st, b"ST26SequenceListing");
     let b = enter(s, attributes(s, a, t));
     let c = introduction(s, b, t);
-    let d = titles(s, title_on(s, c, t), t);
-    let e = read_tags::leaf_on(s, d, b"SequenceTotalQuantity", t);
-    let f = sequences(s, sequence_on(s, e, t), t);
+    let d = many::<Title>(s, Title::read(s, c, t), t);
+    let e = read_tags::leaf(s, d, b"SequenceTotalQuantity", t);
+    let f = many::<SequenceData>(s, SequenceData::read(s, e, t), t);
     read_tags::close(s, f, b"ST26SequenceListing")
 }
 
@@ -407,11 +349,11 @@ fn doctype(s: &[u8], st: Step) -> Step
 // The whole text.
 fn document(s: &[u8], t: &[u8; 256]) -> Step
     requires { ClassTable t.now }
-    ensures { Reads Form.document nothing s.now (Ok 0 0) result × AtEnd s.now result }
+    ensures { Reads Form.document nothing s.now (going 0 0) result × AtEnd s.now result }
 {
     let a = read_steps::word(
         s,
-        Step::fresh(),
+        Ok(Cursor::fresh()),
         b"<?xml version=\"1.0\" encoding=\"UTF-8\"?>",
     );
     let b = doctype(s, read_steps::blanks(s, a));
@@ -424,12 +366,15 @@ fn document(s: &[u8], t: &[u8; 256]) -> Step
 pub fn layout(listing: &[u8]) -> Shape
     ensures { ShapeSays listing.now result }
 {
-    if listing.len() > Step::LIMIT {
-        return Shape::Refused { rule: 1, place: 0 };
+    if listing.len() > Cursor::LIMIT {
+        return Err(Refused { rule: 1, place: 0 });
     }
     let t = read_steps::class_table();
     match document(listing, &t) {
-        Step::Ok { next: _, far: _ } => Shape::Laid,
-        Step::Fail(k) => Shape::Refused { rule: 2, place: k },
+        Ok(_) => Ok(()),
+        Err(e) => Err(Refused {
+            rule: 2,
+            place: e.far,
+        }),
     }
 }

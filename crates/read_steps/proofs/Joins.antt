@@ -6,9 +6,8 @@ use Rattle.paper.specs.Bytes.{is_blank}
 use Rattle.paper.specs.Form.{these, ◌·◌, one}
 use Rattle.paper.specs.Layout.{blanks, gap}
 use Rattle.paper.proofs.Forms.{ev_these, ev_run}
-use Rattle.read_steps.specs.Reads.{Passes}
+use Rattle.read_steps.specs.Reads.{Step, Passes}
 use Rattle.read_steps.specs.Follow.{Not, anything}
-use Rattle.read_steps.specs.declared.Step.{Step}
 use Rattle.read_steps.proofs.Steps.{as_reads, then_pass}
 
 -- two words one after the other are one word

@@ -1,5 +1,5 @@
 -- Laws of `Took` and `Lost`: sequence, choice, what may be missing, repetition, another value. Each is proved once, for every form.
-use Prim.Native.Nat.{ℕ, suc, ◌+◌, ◌-◌, ◌≤◌, max}
+use Prim.Native.Nat.{ℕ, suc, ◌+◌, ◌≤◌, max}
 use native.Mathlib.Nat.{add-suc, max-eq_left, max-eq_right, le-max_left}
 use native.Mathlib.Decide.{dec_le}
 use native.Mathlib.Omega.{arith}

@@ -12,11 +12,9 @@ use borrow.Author.Tests.{ne_eqb, eqb-true, not-true}
 use Rattle.paper.specs.Bytes.{bytes, all, among, is_printed, spell, raw}
 use Rattle.paper.specs.Form.{Form, these, ◌∪◌, given, each}
 use Rattle.paper.specs.Layout.{text}
-use Rattle.read_steps.specs.Reads.{Lost, Viable, Reads, Passes, chosen}
+use Rattle.read_steps.specs.Reads.{Step, going, stuck, Lost, Viable, Reads, Passes, chosen}
 use Rattle.read_steps.specs.Follow.{Not, anything, clash}
 use Rattle.read_steps.specs.Texts.{allowed_in, is_plain, is_text, One, letter, Scanned, Upto}
-use Rattle.read_steps.specs.declared.Step.{Step}
-use Rattle.read_steps.specs.declared.Step.TheVariants.{Ok, Fail}
 use Rattle.read_steps.proofs.Leaves.{byte_took, at_drop, not_at, not_over}
 use Rattle.read_steps.proofs.Steps.{as_reads, either, either_first, stop, more, onwards}
 use Rattle.paper.proofs.Texts.{unspell, unspell_spell}
@@ -197,7 +195,7 @@ module _ (high : Bool) where
         (entity 39 apos e₅) h₅)
 
   -- a byte that stands for itself is a character
-  plain_letter_lem : {s : List ℕ} {at far n f : ℕ} → Reads Plain anything s (Ok at far) (Ok n f) → Reads (letter high) anything s (Ok at far) (Ok n f)
+  plain_letter_lem : {s : List ℕ} {at far n f : ℕ} → Reads Plain anything s (going at far) (going n f) → Reads (letter high) anything s (going at far) (going n f)
   plain_letter_lem p = letter_as (either_first apart₅ (either_first apart₄ (either_first apart₃ (either_first apart₂ (either_first apart₁ p)))))
 
   -- ---- a character starts with a byte that a text can start with
@@ -237,21 +235,21 @@ module _ (high : Bool) where
   Letters s x y = Reads (each (letter high)) (Not (is_text high)) s x y
 
   module _ {s : List ℕ} {at far : ℕ} where
-    pub letters_stop : {k : ℕ} → Reads (letter high) anything s (Ok at far) (Fail k) → Letters s (Ok at far) (Ok at k)
+    pub letters_stop : {k : ℕ} → Reads (letter high) anything s (going at far) (stuck k) → Letters s (going at far) (going at k)
     letters_stop e = stop (λ l at w z d g. tt) letter_apart e
 
-    pub letters_more : {n f m g : ℕ} → Reads (letter high) anything s (Ok at far) (Ok n f) → Letters s (Ok n f) (Ok m g) → Letters s (Ok at far) (Ok m g)
+    pub letters_more : {n f m g : ℕ} → Reads (letter high) anything s (going at far) (going n f) → Letters s (going n f) (going m g) → Letters s (going at far) (going m g)
     letters_more e d = more (λ l at w z d g. tt) letter_apart e d
 
-    pub letter_onwards : {n f : ℕ} → Reads (letter high) anything s (Ok at far) (Ok n f) → (at < n) × (n ≤ length s)
+    pub letter_onwards : {n f : ℕ} → Reads (letter high) anything s (going at far) (going n f) → (at < n) × (n ≤ length s)
     letter_onwards e = onwards letter_long e
 
   -- bytes that stand for themselves, however many, are characters
   module _ (s : List ℕ) {m g : ℕ} where
-    letters_raise : {at far : ℕ} → Letters s (Ok at far) (Ok m g) → Letters s (Ok at (max far at)) (Ok m g)
+    letters_raise : {at far : ℕ} → Letters s (going at far) (going m g) → Letters s (going at (max far at)) (going m g)
     letters_raise e' = let e = e'.is in record { is = (e.0, e.1, e.2, omega (arith, e.3), e.4) }
 
-    plain_more : (at far : ℕ) → at < length s → is_plain high (get_or s at 0) ≡ true → Letters s (Ok (at + 1) far) (Ok m g) → Letters s (Ok at far) (Ok m g)
+    plain_more : (at far : ℕ) → at < length s → is_plain high (get_or s at 0) ≡ true → Letters s (going (at + 1) far) (going m g) → Letters s (going at far) (going m g)
     plain_more at far h p d =
         letters_more
         (plain_letter_lem (record {
@@ -259,18 +257,18 @@ module _ (high : Bool) where
         }))
         (letters_raise d)
 
-    plains_on : (n at far : ℕ) → Upto (is_plain high) s at (at + n) → Letters s (Ok (at + n) far) (Ok m g) → Letters s (Ok at far) (Ok m g)
-    plains_on zero at far u d = subst (λ (k : ℕ). Letters s (Ok k far) (Ok m g)) (add-zero at) d
+    plains_on : (n at far : ℕ) → Upto (is_plain high) s at (at + n) → Letters s (going (at + n) far) (going m g) → Letters s (going at far) (going m g)
+    plains_on zero at far u d = subst (λ (k : ℕ). Letters s (going k far) (going m g)) (add-zero at) d
     plains_on (suc n) at far u d =
         let b = u at (omega arith) (omega arith) in
         plain_more at far b.0 b.1
         (plains_on n (at + 1) far (λ k i j. u k (omega arith) (omega arith))
-        (subst (λ (k : ℕ). Letters s (Ok k far) (Ok m g)) (let q : at + suc n ≡ at + 1 + n = omega arith in q) d))
+        (subst (λ (k : ℕ). Letters s (going k far) (going m g)) (let q : at + suc n ≡ at + 1 + n = omega arith in q) d))
 
-    pub plains_more : {at far stop r : ℕ} → Scanned (is_plain high) s at stop r → Letters s (Ok r far) (Ok m g) → Letters s (Ok at far) (Ok m g)
+    pub plains_more : {at far stop r : ℕ} → Scanned (is_plain high) s at stop r → Letters s (going r far) (going m g) → Letters s (going at far) (going m g)
     plains_more {at} {far} {stop} {r} c d =
         let q : r ≡ at + (r - at) = omega (arith, c.onward) in
-        plains_on (r - at) at far (λ k i j. c.each k i (omega arith)) (subst (λ (k : ℕ). Letters s (Ok k far) (Ok m g)) q d)
+        plains_on (r - at) at far (λ k i j. c.each k i (omega arith)) (subst (λ (k : ℕ). Letters s (going k far) (going m g)) q d)
 
   -- where no character starts, the text ends
   no_letter : (t : List ℕ) → Not (is_text high) t → (c : ℕ) (u : List ℕ) → is_text high c ≡ true → take 1 (c ∷ u) ≡ take 1 t → ⊥
@@ -289,7 +287,7 @@ module _ (high : Bool) where
             no_letter t n k.0 (k.1 ++ z) k.3 (ap (λ (u : List ℕ). take 1 (u ++ z)) (sym k.2) ∙ e);
       }
 
-  pub letters_end : (s : List ℕ) {at far : ℕ} → Not (is_text high) (drop at s) → Letters s (Ok at far) (Ok at (max far at))
+  pub letters_end : (s : List ℕ) {at far : ℕ} → Not (is_text high) (drop at s) → Letters s (going at far) (going at (max far at))
   letters_end s {at} {far} n = letters_stop (record { is = (0, omega arith, letter_lost (drop at s) at n) })
 
   pub text_over : (s : List ℕ) (at : ℕ) → length s ≤ at → Not (is_text high) (drop at s)

@@ -1,11 +1,12 @@
 -- Scans over bytes of a class: none yet, one byte more, one scan after another, and a scan of a narrower class.
-use Prim.Native.Nat.{ℕ, ◌+◌, ◌≤◌, ◌<◌}
+use Prim.Native.Nat.{ℕ, ◌+◌, ◌-◌, ◌≤◌, ◌<◌}
 use native.Mathlib.Decide.{dec_le}
 use native.Mathlib.Omega.{arith}
 use mathlib.Core.Path.{◌≡◌, ap, sym, ◌∙◌}
 use mathlib.Core.Bool.{Bool, true, false, and-eq-true_iff}
 use mathlib.Core.List.{List}
-use lib.ListN.{length, get_or}
+use lib.ListN.{length, get_or, take, drop, length-drop}
+use lib.Seq.{length-take-le, get_or-take, get_or-drop}
 use lib.Bits.{bit_or}
 use lib.Dec.{eqb}
 use borrow.Author.Tests.{le-leb, ne_eqb}
@@ -34,6 +35,19 @@ module _ (f : ℕ → Bool) (s : List ℕ) where
       cases : Dec (mid ≤ k) → (k < length s) × (f (get_or s k 0) ≡ true)
       cases (yes l) = v k l j
       cases (no l) = u k i (omega arith)
+
+  -- what holds of each byte of a stretch
+  pub upto_part : (at stop : ℕ) → at ≤ stop → stop ≤ length s → Upto f (take (stop - at) (drop at s)) 0 (length (take (stop - at) (drop at s)))
+      → Upto f s at stop
+  upto_part at stop h g u k i j =
+      let n = stop - at in
+      let t = drop at s in
+      let e : length (take n t) ≡ n = length-take-le n t (omega (arith, h, g, length-drop at s)) in
+      let q : at + (k - at) ≡ k = omega arith in
+      let p = u (k - at) (omega arith) (omega (arith, e, i, j)) in (
+        omega (arith, g, j),
+        ap f (ap (λ (m : ℕ). get_or s m 0) (sym q) ∙ sym (get_or-drop at s (k - at) 0) ∙ sym (get_or-take n t (k - at) 0 (omega (arith, i, j)))) ∙ p.1,
+      )
 
 -- the tests of a byte that stands for itself in every text
 module _ (b : ℕ) where

@@ -1,5 +1,5 @@
 -- Which bytes stand for themselves in a text, the lent table that says so, and where a scan of a class goes.
-use Rattle.std.specs.Prelude.{ℕ, ◌+◌, ◌≤◌, ◌<◌, ◌≡◌, Bool, true, false, ◌&&◌, ◌||◌, not, List, [], ◌∷◌, length, get_or, eqb, leb}
+use Rattle.std.specs.Prelude.{ℕ, ◌≤◌, ◌<◌, ◌≡◌, Bool, true, false, ◌&&◌, ◌||◌, not, List, [], ◌∷◌, length, get_or, eqb, leb}
 use Rattle.paper.specs.Bytes.{bytes, among, is_printed, is_printed_or_high, spell}
 use Rattle.paper.specs.Form.{Form}
 
@@ -54,5 +54,5 @@ pub record Below (a b r : ℕ) : Type 0 where
 pub record Odd (b r : ℕ) : Type 0 where
   pub none : r ≡ 0 → is_plain false b ≡ true
 
-pub record Block (s : List ℕ) (at n r : ℕ) : Type 0 where
-  pub none : r ≡ 0 → Upto (is_plain false) s at (at + n)
+pub record Block (x : List ℕ) (r : ℕ) : Type 0 where
+  pub none : r ≡ 0 → Upto (is_plain false) x 0 (length x)

@@ -2,56 +2,58 @@
 // Relies on the definitions of the crate paper (forms and layout) and on read_bytes. Knows no tag.
 #![tactic(auto)]
 
-ghost use Rattle.std.specs.Prelude.{◌≡◌, true, false, [], max, ◌+◌, ◌≤◌, length};
+ghost use Rattle.std.specs.Prelude.{◌≡◌, true, false, [], Ok, ◌+◌, ◌≤◌, length};
 ghost use Rattle.paper.specs.Bytes.{is_blank};
 ghost use Rattle.paper.specs.Form.{these, one};
 ghost use Rattle.paper.specs.Layout;
 ghost use Rattle.read_bytes.specs.Words.{StandsAt};
-ghost use Rattle.read_steps.specs.declared.Step.TheVariants.{Ok};
 ghost use Rattle.read_steps.specs.Parts.{ShowsBytes};
-ghost use Rattle.read_steps.specs.Reads.{Reads, Passes, AtEnd, raised, chosen, stayed};
+ghost use Rattle.read_steps.specs.Reads.{Step, Reads, Passes, AtEnd, raised, chosen, stayed};
 ghost use Rattle.read_steps.specs.Follow.{Not, anything, nothing};
 ghost use Rattle.read_steps.specs.Words.{Eight, Four};
 ghost use Rattle.read_steps.specs.Texts.{allowed_in, is_plain, is_text, letter, One, ClassTable, Scanned, Passed, Below, Odd, Block};
 
 use read_bytes::{equal, two};
 
-// The cursor of a listing, how far a reading got: `next` is where the next part starts, `far` the furthest place to which some layout
-// goes.
+// Where a reading of a listing stands: `next` is where the next part starts, `far` the furthest place to which some layout goes.
 #[derive(Clone, Copy)]
-pub enum Step {
-    Ok { next: usize, far: usize },
-    Fail(usize),
+pub struct Cursor {
+    pub next: usize,
+    pub far: usize,
 }
 
-impl Step {
+impl Cursor {
     // "16,777,216 bytes is the longest listing."
     pub const LIMIT: usize = 16_777_216;
 
     // At the start of a listing.
     pub fn fresh() -> Self
-        ensures { result ≡ Ok 0 0 }
+        ensures { result ≡ record { next = 0; far = 0 } }
     {
-        Step::Ok { next: 0, far: 0 }
+        Cursor { next: 0, far: 0 }
     }
 }
 
-pub fn most(a: usize, b: usize) -> usize
-    ensures { result ≡ max a b }
-{
-    if a < b { b } else { a }
+// No layout goes on: the furthest place to which one goes.
+#[derive(Clone, Copy)]
+pub struct Stuck {
+    pub far: usize,
 }
+
+pub type Step = Result<Cursor, Stuck>;
 
 // What `st` says, where some layout goes to `far` at least.
 fn raise(far: usize, st: Step) -> Step
     ensures { result ≡ raised far st }
 {
     match st {
-        Step::Ok { next, far: f } => Step::Ok {
-            next,
-            far: most(far, f),
-        },
-        Step::Fail(k) => Step::Fail(most(far, k)),
+        Ok(c) => Ok(Cursor {
+            next: c.next,
+            far: far.max(c.far),
+        }),
+        Err(e) => Err(Stuck {
+            far: far.max(e.far),
+        }),
     }
 }
 
@@ -60,18 +62,8 @@ fn either(a: Step, b: Step) -> Step
     ensures { result ≡ chosen a b }
 {
     match a {
-        Step::Ok { next, far } => Step::Ok { next, far },
-        Step::Fail(k) => raise(k, b),
-    }
-}
-
-// The same step, made anew: a copy of the whole enum would copy the bytes between its fields too.
-pub fn again(st: Step) -> Step
-    ensures { result ≡ st }
-{
-    match st {
-        Step::Ok { next, far } => Step::Ok { next, far },
-        Step::Fail(k) => Step::Fail(k),
+        Ok(c) => Ok(c),
+        Err(e) => raise(e.far, b),
     }
 }
 
@@ -80,8 +72,11 @@ pub fn stay(at: usize, st: Step) -> Step
     ensures { result ≡ stayed at st }
 {
     match st {
-        Step::Ok { next, far } => Step::Ok { next, far },
-        Step::Fail(k) => Step::Ok { next: at, far: k },
+        Ok(c) => Ok(c),
+        Err(e) => Ok(Cursor {
+            next: at,
+            far: e.far,
+        }),
     }
 }
 
@@ -89,25 +84,18 @@ pub fn stay(at: usize, st: Step) -> Step
 pub fn lit(s: &[u8], st: Step, x: &[u8]) -> Step
     ensures { Passes (these x.now) anything s.now st result }
 {
-    let Step::Ok { next, far } = st else {
-        return again(st);
-    };
-    let mut at = next;
-    let mut i = 0;
-    while i < x.len() {
-        if at >= s.len() {
-            return Step::Fail(most(far, at));
+    let Cursor { next, far } = st?;
+    for (i, b) in x.iter().enumerate() {
+        let at = next + i;
+        if at >= s.len() || s[at] != *b {
+            return Err(Stuck { far: far.max(at) });
         }
-        if s[at] != x[i] {
-            return Step::Fail(most(far, at));
-        }
-        at += 1;
-        i += 1;
     }
-    Step::Ok {
-        next: at,
-        far: most(far, at),
-    }
+    let end = next + x.len();
+    Ok(Cursor {
+        next: end,
+        far: far.max(end),
+    })
 }
 
 // Four bytes as one number, the first lowest. It is compiled to one load.
@@ -132,21 +120,13 @@ pub fn stands(s: &[u8], at: usize, x: &[u8]) -> bool
     ensures { result ≡ true → StandsAt x.now s.now at }
 {
     let n = x.len();
-    if n < 8 {
+    if n < 8 || s.len() < at || s.len() - at < n {
         return false;
     }
-    if s.len() < at {
-        return false;
-    }
-    if s.len() - at < n {
-        return false;
-    }
-    let mut i: usize = 0;
-    while 8 < n - i {
+    for i in (0..n - 8).step_by(8) {
         if eight(s, at + i) != eight(x, i) {
             return false;
         }
-        i += 8;
     }
     eight(s, at + (n - 8)) == eight(x, n - 8)
 }
@@ -157,103 +137,65 @@ pub fn stands_short(s: &[u8], at: usize, x: &[u8]) -> bool
     ensures { result ≡ true → StandsAt x.now s.now at }
 {
     let n = x.len();
-    if n < 4 {
+    if n < 4 || 8 < n || s.len() < at || s.len() - at < n {
         return false;
     }
-    if 8 < n {
-        return false;
-    }
-    if s.len() < at {
-        return false;
-    }
-    if s.len() - at < n {
-        return false;
-    }
-    if four(s, at) != four(x, 0) {
-        return false;
-    }
-    four(s, at + (n - 4)) == four(x, n - 4)
+    four(s, at) == four(x, 0) && four(s, at + (n - 4)) == four(x, n - 4)
 }
 
 // The word x, as `lit` reads it: eight bytes at a time, and where it isn't there `lit` tells how far it goes.
 pub fn word(s: &[u8], st: Step, x: &[u8]) -> Step
     ensures { Passes (these x.now) anything s.now st result }
 {
-    let Step::Ok { next, far } = st else {
-        return again(st);
-    };
+    let Cursor { next, far } = st?;
     if stands(s, next, x) {
         let end = next + x.len();
-        return Step::Ok {
+        return Ok(Cursor {
             next: end,
-            far: most(far, end),
-        };
+            far: far.max(end),
+        });
     }
-    lit(s, Step::Ok { next, far }, x)
+    lit(s, Ok(Cursor { next, far }), x)
 }
 
 pub fn is_blank(b: u8) -> bool
     ensures { result ≡ is_blank b }
 {
-    if b' ' < b {
-        return false;
-    }
-    if b == b' ' {
-        return true;
-    }
-    if b == b'\t' {
-        return true;
-    }
-    if b == b'\r' {
-        return true;
-    }
-    if b == b'\n' {
-        return true;
-    }
-    false
+    b <= b' ' && (b == b' ' || b == b'\t' || b == b'\r' || b == b'\n')
 }
 
 // Any blanks.
 pub fn blanks(s: &[u8], st: Step) -> Step
     ensures { Passes Layout.blanks (Not is_blank) s.now st result }
 {
-    let Step::Ok { next, far } = st else {
-        return again(st);
-    };
-    let mut at = next;
-    while at < s.len() {
-        if is_blank(s[at]) {
-            at += 1;
-        } else {
-            return Step::Ok {
+    let Cursor { next, far } = st?;
+    for at in next..s.len() {
+        if !is_blank(s[at]) {
+            return Ok(Cursor {
                 next: at,
-                far: most(far, at),
-            };
+                far: far.max(at),
+            });
         }
     }
-    Step::Ok {
-        next: at,
-        far: most(far, at),
-    }
+    let end = next.max(s.len());
+    Ok(Cursor {
+        next: end,
+        far: far.max(end),
+    })
 }
 
 // One blank.
 fn blank(s: &[u8], st: Step) -> Step
     ensures { Passes (one is_blank) anything s.now st result }
 {
-    let Step::Ok { next, far } = st else {
-        return again(st);
-    };
-    if s.len() <= next {
-        return Step::Fail(most(far, next));
-    }
-    if is_blank(s[next]) {
-        return Step::Ok {
+    let Cursor { next, far } = st?;
+    if next < s.len() && is_blank(s[next]) {
+        return Ok(Cursor {
             next: next + 1,
-            far: most(far, next + 1),
-        };
+            far: far.max(next + 1),
+        });
     }
-    Step::Fail(most(far, next))
+    Err(Stuck { far: far.max(next) })
 }
 
 // One or more blanks.
@@ -276,19 +218,14 @@ fn plain(s: &[u8], st: Step, high: bool, t: &[u8; 256]) -> Step
     requires { ClassTable t.now }
     ensures { Reads (One (is_plain high)) anything s.now st result }
 {
-    let Step::Ok { next, far } = st else {
-        return again(st);
-    };
-    if s.len() <= next {
-        return Step::Fail(most(far, next));
-    }
-    if plain_by(t, high, s[next]) {
-        return Step::Ok {
+    let Cursor { next, far } = st?;
+    if next < s.len() && plain_by(t, high, s[next]) {
+        return Ok(Cursor {
             next: next + 1,
-            far: most(far, next + 1),
-        };
+            far: far.max(next + 1),
+        });
     }
-    Step::Fail(most(far, next))
+    Err(Stuck { far: far.max(next) })
 }
 
 // One character of a text.
@@ -310,21 +247,18 @@ fn scan(s: &[u8], start: usize, stop: usize, high: bool, t: &[u8; 256]) -> usize
     requires stop_in_bounds { stop ≤ length s.now }
     ensures { Scanned (is_plain high) s.now start stop result }
 {
-    let mut at = start;
-    while at < stop {
-        if plain_by(t, high, s[at]) {
-            at += 1;
-        } else {
+    for at in start..stop {
+        if !plain_by(t, high, s[at]) {
             return at;
         }
     }
-    at
+    start.max(stop)
 }
 
 fn below(a: u8, b: u8) -> u8
     ensures { Below a b result }
 {
-    if a < b { 1 } else { 0 }
+    (a < b) as u8
 }
 
 // 0 only where b stands for itself in every text. Where not all of these are asked for, only a letter or what is near the letters:
@@ -344,21 +278,18 @@ fn odd(b: u8, all: bool) -> u8
     below(b, b'?') | below(b'~', b)
 }
 
-// 0 only where each of n bytes stands for itself. Joined with no branch, and not summed: it is compiled to vector code.
-fn block(s: &[u8], at: usize, n: usize, all: bool) -> u8
-    requires { at + n ≤ length s.now }
-    ensures { Block s.now at n result }
+// 0 only where each byte stands for itself. Joined with no branch, and not summed: it is compiled to vector code.
+fn block(x: &[u8], all: bool) -> u8
+    ensures { Block x.now result }
 {
-    let mut bad: u8 = 0;
-    let mut j: usize = 0;
-    while j < n {
-        bad = bad | odd(s[at + j], all);
-        j += 1;
+    let mut bad = 0;
+    for b in x {
+        bad |= odd(*b, all);
     }
     bad
 }
 
-// Whole blocks of bytes that stand for themselves: long texts are mostly letters.
+// Whole blocks of bytes that stand for themselves: long texts are mostly letters. Steps are of two sizes, so no `for` or chain fits.
 pub fn blocks(s: &[u8], start: usize) -> usize
     ensures { Passed (is_plain false) s.now start result }
 {
@@ -367,10 +298,10 @@ pub fn blocks(s: &[u8], start: usize) -> usize
         if s.len() - at < 64 {
             return at;
         }
-        if block(s, at, 64, false) == 0 {
+        if block(&s[at..at + 64], false) == 0 {
             at += 64;
         } else {
-            if block(s, at, 32, true) != 0 {
+            if block(&s[at..at + 32], true) != 0 {
                 return at;
             }
             at += 32;
@@ -398,41 +329,48 @@ fn plains(s: &[u8], start: usize, high: bool, t: &[u8; 256]) -> usize
     scan(s, blocks(s, mid), n, high, t)
 }
 
-// A text: any number of characters.
-pub fn text(s: &[u8], next: usize, far: usize, high: bool, t: &[u8; 256]) -> Step
+// A text: any number of characters. It stands apart from `text`, which tests the step, and the hints keep it so: a cursor is handed over
+// in registers, a step by memory, which took 2 % more instructions.
+#[inline(never)]
+fn text_at(s: &[u8], from: Cursor, high: bool, t: &[u8; 256]) -> Step
     requires { ClassTable t.now }
-    ensures { Reads (Layout.text (allowed_in high)) (Not (is_text high)) s.now (Step.Ok next far) result }
+    ensures { Reads (Layout.text (allowed_in high)) (Not (is_text high)) s.now (Ok from) result }
 {
-    let mut at = next;
-    let mut reach = far;
+    let mut at = from.next;
+    let mut reach = from.far;
     loop {
         at = plains(s, at, high, t);
-        if s.len() <= at {
-            return Step::Ok {
+        if s.len() <= at || s[at] != b'&' {
+            return Ok(Cursor {
                 next: at,
-                far: most(reach, at),
-            };
+                far: reach.max(at),
+            });
         }
-        if s[at] != b'&' {
-            return Step::Ok {
-                next: at,
-                far: most(reach, at),
-            };
-        }
-        let here = Step::Ok {
+        let here = Ok(Cursor {
             next: at,
             far: reach,
-        };
+        });
         match character(s, here, high, t) {
-            Step::Ok { next: n, far: f } => {
-                at = n;
-                reach = f;
+            Ok(c) => {
+                at = c.next;
+                reach = c.far;
             }
-            Step::Fail(k) => {
-                return Step::Ok { next: at, far: k };
+            Err(e) => {
+                return Ok(Cursor {
+                    next: at,
+                    far: e.far,
+                });
             }
         }
     }
+}
+
+#[inline(always)]
+pub fn text(s: &[u8], st: Step, high: bool, t: &[u8; 256]) -> Step
+    requires { ClassTable t.now }
+    ensures { Reads (Layout.text (allowed_in high)) (Not (is_text high)) s.now st result }
+{
+    text_at(s, st?, high, t)
 }
 
 // The end.
@@ -440,16 +378,14 @@ pub fn end(s: &[u8], st: Step) -> Step
     ensures passes { Passes (these []) nothing s.now st result }
     ensures at_end { AtEnd s.now result }
 {
-    let Step::Ok { next, far } = st else {
-        return again(st);
-    };
+    let Cursor { next, far } = st?;
     if next < s.len() {
-        Step::Fail(most(far, next))
+        Err(Stuck { far: far.max(next) })
     } else {
-        Step::Ok {
+        Ok(Cursor {
             next,
-            far: most(far, next),
-        }
+            far: far.max(next),
+        })
     }
 }
 
@@ -475,11 +411,5 @@ pub fn class_table() -> [u8; 256]
 pub fn bytes_of<'s>(s: &'s [u8], from: usize, to: usize) -> &'s [u8]
     ensures { ShowsBytes s.now from to result.now }
 {
-    if s.len() < to {
-        return &s[0..0];
-    }
-    if to < from {
-        return &s[0..0];
-    }
-    &s[from..to]
+    s.get(from..to).unwrap_or(&[])
 }

@@ -11,11 +11,11 @@ use Rattle.paper.specs.Form.{Form, these, lit, ◌·◌, ◌∪◌, given, one, 
 use Rattle.paper.specs.Tree.{Text}
 use Rattle.paper.specs.Layout.{blanks, gap, text, tag, close, attribute, content, leaf, spoken, child, holding, holding?}
 use Rattle.paper.proofs.Forms.{ev_seq, ev_these, ev_run, ev_gap, ev_close, Evers, evs_then, evs_after, evs_both}
-use Rattle.read_steps.specs.Reads.{Viable, Reads, Passes, Tried}
+use Rattle.std.specs.Prelude.{Err}
+use Rattle.read_steps.specs.declared.Stuck.{Stuck}
+use Rattle.read_steps.specs.Reads.{Step, going, stuck, Viable, Reads, Passes, Tried}
 use Rattle.read_steps.specs.Follow.{Not, Starts, first, anything, skip, clashes, sharp, closing, StandsBefore}
 use Rattle.read_steps.specs.Texts.{allowed_in, is_text}
-use Rattle.read_steps.specs.declared.Step.{Step}
-use Rattle.read_steps.specs.declared.Step.TheVariants.{Ok, Fail}
 use Rattle.read_steps.proofs.Steps.{as_reads, as_reads_at, seq, pass_then, then_pass, either_first, either_second, skip_tried, stop, more, onwards, failed}
 use Rattle.read_steps.proofs.Fronts.{Leads, leads_these, leads_all, leads_seq, leads_starts, leads_sharp, leads_long, leads_by, LeadsBy, whole, StartsBy, starts_sharp, skip_gap, skip_none, maybe_starts, each_starts, not_there}
 use Rattle.read_steps.proofs.Letters.{ev_text, sole_text}
@@ -128,12 +128,12 @@ module _ (name : List ℕ) (high : Bool) (start : ℕ) where
       as_reads {M = Short start} (λ u at w. record { place = start; read = [] }) (λ u at w l. ((refl, refl), l))
       (λ t at w l. (tt, l.1, λ i. record { place = l.0.0 i; read = l.0.1 i })) e
 
-  pub body_short : {s : List ℕ} {at far n f : ℕ} → Passes (lit "/>") anything s (Ok at far) (Ok n f) → Reads (Body name high start) anything s (Ok at far) (Ok n f)
+  pub body_short : {s : List ℕ} {at far n f : ℕ} → Passes (lit "/>") anything s (going at far) (going n f) → Reads (Body name high start) anything s (going at far) (going n f)
   body_short e = either_first short_long (short_reads e)
 
-  pub body_long : {s : List ℕ} {at far k : ℕ} {b d r : Step} → Passes (lit "/>") anything s (Ok at far) (Fail k)
-      → Passes (lit ">") anything s (Ok at k) b → Reads (text (allowed_in high)) (Not (is_text high)) s b d → Passes (close name) anything s d r
-      → Reads (Body name high start) anything s (Ok at far) r
+  pub body_long : {s : List ℕ} {at far k : ℕ} {b d r : Step} → Passes (lit "/>") anything s (going at far) (stuck k)
+      → Passes (lit ">") anything s (going at k) b → Reads (text (allowed_in high)) (Not (is_text high)) s b d → Passes (close name) anything s d r
+      → Reads (Body name high start) anything s (going at far) r
   body_long e p q c =
       either_second short_long (short_reads e)
       (then_pass (λ at w z l g. leads_sharp (is_text high) (bytes "</") (close name) (text_sharp high) (close_leads name) at w z l) (ev_close name)
@@ -174,8 +174,8 @@ tag_leads : (name : List ℕ) (G : Form) → Leads (bytes "<" ++ name) (tag name
 tag_leads name G = leads_seq (bytes "<" ++ name) (tag name) G (leads_all (bytes "<" ++ name))
 
 -- a leaf
-pub leaf_reads : {s name : List ℕ} {at far : ℕ} {y r : Step} → Passes (tag name) anything s (Ok at far) y
-    → Reads (content name (allowed_in false) at) anything s y r → Reads (leaf name) anything s (Ok at far) r
+pub leaf_reads : {s name : List ℕ} {at far : ℕ} {y r : Step} → Passes (tag name) anything s (going at far) y
+    → Reads (content name (allowed_in false) at) anything s y r → Reads (leaf name) anything s (going at far) r
 leaf_reads {s} {name} {at} {far} p q =
     as_reads_at {L = λ (t : Text ℕ). tag name · content name (allowed_in false) at t} {M = leaf name} (λ t w. t) (λ t w d. d) (λ t w d. (t, d, refl))
     (pass_then {M = content name (allowed_in false) at} (λ t at w z l g. tt) (ev_content name false at) p q)
@@ -191,8 +191,8 @@ leaf_element name =
     }
 
 -- a name or title with its language
-pub spoken_reads : {s name : List ℕ} {at far : ℕ} {y v r : Step} → Passes (tag name) anything s (Ok at far) y
-    → Reads (attribute (bytes "languageCode")) anything s y v → Reads (content name (allowed_in true) at) anything s v r → Reads (spoken name) anything s (Ok at far) r
+pub spoken_reads : {s name : List ℕ} {at far : ℕ} {y v r : Step} → Passes (tag name) anything s (going at far) y
+    → Reads (attribute (bytes "languageCode")) anything s y v → Reads (content name (allowed_in true) at) anything s v r → Reads (spoken name) anything s (going at far) r
 spoken_reads {s} {name} {at} {far} p q c =
     as_reads_at {L = λ (x : Text ℕ × Text ℕ). tag name · attribute (bytes "languageCode") x.0 · content name (allowed_in true) at x.1} {M = spoken name}
     (λ x w. record { language_code = x.0; words = x.1 }) (λ x w d. d) (λ x w d. ((x.language_code, x.words), d, refl))
@@ -309,16 +309,16 @@ module _ {A : Type 0} {C : A → Form} (name : List ℕ) (facts : Children C) {n
       → Reads (λ (a : A). holding? name (nothing a) (C a)) anything s x r
   holding?_reads p q = pass_then {M = Inside? name nothing C} (λ a at w z l g. inside_sharp a at w z l) ev_inside p q
 
-  pub holding?_failed : {s : List ℕ} {x h : Step} (k : ℕ) → Passes blanks (Not is_blank) s x h → h ≡ Fail k
+  pub holding?_failed : {s : List ℕ} {x h : Step} (k : Stuck) → Passes blanks (Not is_blank) s x h → h ≡ Err k
       → Reads (λ (a : A). holding? name (nothing a) (C a)) anything s x h
   holding?_failed k p e = holding?_reads p (failed k e)
 
-  module _ {s : List ℕ} {x : Step} {at far : ℕ} (b : Passes blanks (Not is_blank) s x (Ok at far)) where
-    pub holding?_short : {n f : ℕ} → Passes (lit "/>") anything s (Ok at far) (Ok n f)
-        → Reads (λ (a : A). holding? name (nothing a) (C a)) anything s x (Ok n f)
+  module _ {s : List ℕ} {x : Step} {at far : ℕ} (b : Passes blanks (Not is_blank) s x (going at far)) where
+    pub holding?_short : {n f : ℕ} → Passes (lit "/>") anything s (going at far) (going n f)
+        → Reads (λ (a : A). holding? name (nothing a) (C a)) anything s x (going n f)
     holding?_short e = holding?_reads b (either_first empty_apart (empty_reads e))
 
-    pub holding?_long : {k : ℕ} {y u w r : Step} → Passes (lit "/>") anything s (Ok at far) (Fail k) → Passes (lit ">") anything s (Ok at k) y
+    pub holding?_long : {k : ℕ} {y u w r : Step} → Passes (lit "/>") anything s (going at far) (stuck k) → Passes (lit ">") anything s (going at k) y
         → Passes blanks (Not is_blank) s y u → Reads C (Starts closing) s u w → Passes (close name) anything s w r
         → Reads (λ (a : A). holding? name (nothing a) (C a)) anything s x r
     holding?_long e p i q c = holding?_reads b (either_second empty_apart (empty_reads e) (inner_reads name facts p i q c))
@@ -394,14 +394,14 @@ module _ {A : Type 0} {E : A → Form} {name : List ℕ} (e : Element E name) (l
     optional_reads t = skip_tried item_apart under t
 
     -- any number
-    pub items_stop : {at far k : ℕ} → Reads Item (Not is_blank) s (Ok at far) (Fail k) → Reads (each Item) (Starts l) s (Ok at far) (Ok at k)
+    pub items_stop : {at far k : ℕ} → Reads Item (Not is_blank) s (going at far) (stuck k) → Reads (each Item) (Starts l) s (going at far) (going at k)
     items_stop r = stop items_sharp item_apart r
 
-    pub items_more : {at far n f m g : ℕ} → Reads Item (Not is_blank) s (Ok at far) (Ok n f) → Reads (each Item) (Starts l) s (Ok n f) (Ok m g)
-        → Reads (each Item) (Starts l) s (Ok at far) (Ok m g)
+    pub items_more : {at far n f m g : ℕ} → Reads Item (Not is_blank) s (going at far) (going n f) → Reads (each Item) (Starts l) s (going n f) (going m g)
+        → Reads (each Item) (Starts l) s (going at far) (going m g)
     items_more r t = more items_sharp item_apart r t
 
-    pub item_onwards : {at far n f : ℕ} → Reads Item (Not is_blank) s (Ok at far) (Ok n f) → (at < n) × (n ≤ length s)
+    pub item_onwards : {at far n f : ℕ} → Reads Item (Not is_blank) s (going at far) (going n f) → (at < n) × (n ≤ length s)
     item_onwards r = onwards item_long r
 
     -- one or more

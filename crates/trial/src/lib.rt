@@ -3,13 +3,14 @@
 #![tactic(auto)]
 
 ghost use Rattle.std.specs.Prelude.{◌≡◌};
-ghost use Rattle.paper.specs.Locations.{mark};
+ghost use Rattle.location_judge.specs.Readings.{operator_code};
 ghost use Rattle.trial.specs.Numbers.{LayoutNumbers, LocationNumbers, SpansNumbers, TranslationNumbers, RightNumbers};
 
-use location_judge::judging::Judgement;
-use location_spans::room::Answer;
-use protein_measure::Size;
-use read_layout::Shape;
+use location_judge::judging::judge_location;
+use location_judge::operators::Operator;
+use location_spans::room::spans;
+use protein_codons::Coding;
+use protein_measure::Untranslated;
 
 // 0, or the number of the broken rule with its place.
 #[unsafe(no_mangle)]
@@ -17,24 +18,15 @@ pub extern "C" fn trial_layout(listing: &[u8], place: &mut usize) -> usize
     ensures { LayoutNumbers listing.now result place.new }
 {
     match read_layout::layout(listing) {
-        Shape::Laid => {
+        Ok(()) => {
             *place = 0;
             0
         }
-        Shape::Refused { rule, place: p } => {
-            *place = p;
-            rule
+        Err(refused) => {
+            *place = refused.place;
+            refused.rule
         }
     }
-}
-
-fn flag(b: bool, n: u32) -> u32
-    ensures { result ≡ mark b n }
-{
-    if b {
-        return n;
-    }
-    0
 }
 
 // 0 with the facts of a location, or 24. A fact is 1 where it holds.
@@ -48,19 +40,30 @@ pub extern "C" fn trial_location(
 ) -> u32
     ensures { LocationNumbers part.now top result wrong.new complemented.new unjudged.new }
 {
-    match location_judge::judging::judge_location(part, 0, part.len(), top) {
-        Judgement::Bad => {
+    match judge_location(part, 0, part.len(), top) {
+        Some(facts) => {
+            *wrong = u32::from(facts.wrong);
+            *complemented = u32::from(facts.complemented);
+            *unjudged = u32::from(facts.unjudged);
+            0
+        }
+        None => {
             *wrong = 0;
             *complemented = 0;
             *unjudged = 0;
             24
         }
-        Judgement::Is(f) => {
-            *wrong = flag(f.wrong, 1);
-            *complemented = flag(f.complemented, 1);
-            *unjudged = flag(f.unjudged, 1);
-            0
-        }
+    }
+}
+
+// 0 none, 1 join, 2 order.
+fn operator_number(operator: Option<Operator>) -> u32
+    ensures { result ≡ operator_code operator }
+{
+    match operator {
+        None => 0,
+        Some(Operator::Join) => 1,
+        Some(Operator::Order) => 2,
     }
 }
 
@@ -77,22 +80,18 @@ pub extern "C" fn trial_spans(
 {
     *operator = 0;
     *count = 0;
-    match location_judge::judging::judge_location(part, 0, part.len(), top) {
-        Judgement::Bad => 24,
-        Judgement::Is(f) => {
-            if f.wrong {
-                return 25;
-            }
-            match location_spans::room::spans(part, 0, part.len(), top, out) {
-                Answer::Short => 34,
-                Answer::Are(o, n) => {
-                    *operator = o;
-                    *count = n;
-                    0
-                }
-            }
-        }
+    let Some(facts) = judge_location(part, 0, part.len(), top) else {
+        return 24;
+    };
+    if facts.wrong {
+        return 25;
     }
+    let Some(written) = spans(part, 0, part.len(), top, out) else {
+        return 34;
+    };
+    *operator = operator_number(written.operator);
+    *count = written.count;
+    0
 }
 
 // 0 with the translation written and its length, or 37, 34. `r` are the residues, `loc` is the raw part of the location, `top` the number
@@ -109,19 +108,21 @@ pub extern "C" fn trial_translation(
     ensures { TranslationNumbers r.now loc.now top frame out.old result size.new out.new }
 {
     let code = protein_code::code_table();
-    match protein_write::write(r, loc, top, frame, &code, out) {
-        Size::Is(n) => {
-            *size = n;
-            0
-        }
-        Size::Short => {
-            *size = 0;
-            34
-        }
-        Size::Stop => {
-            *size = 0;
-            37
-        }
+    let coding = Coding {
+        r,
+        loc,
+        top,
+        frame,
+        code: &code,
+    };
+    let written = protein_write::write(&coding, out);
+    *size = written.unwrap_or(0);
+    match written {
+        Ok(_) => 0,
+        Err(e) => match e {
+            Untranslated::Short => 34,
+            Untranslated::Stop => 37,
+        },
     }
 }
 
@@ -131,6 +132,12 @@ pub extern "C" fn trial_is_right(r: &[u8], loc: &[u8], top: u32, frame: usize, v
     ensures { RightNumbers r.now loc.now top frame value.now result }
 {
     let code = protein_code::code_table();
-    let right = protein_compare::is_right(r, loc, top, frame, value, &code);
-    flag(right, 1)
+    let coding = Coding {
+        r,
+        loc,
+        top,
+        frame,
+        code: &code,
+    };
+    u32::from(protein_compare::is_right(&coding, value))
 }

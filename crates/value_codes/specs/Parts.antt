@@ -1,5 +1,5 @@
 -- What the inner functions compute.
-use Rattle.std.specs.Prelude.{ℕ, ◌+◌, ◌*◌, ◌-◌, ◌≤◌, Bool, ◌&&◌, cond, leb}
+use Rattle.std.specs.Prelude.{ℕ, ◌+◌, ◌*◌, ◌-◌, ◌≤◌, Bool, ◌&&◌, cond, leb, Option, Some, None}
 use Prim.Native.Char.{code}
 use Rattle.paper.specs.Values.{is_digit, days_in}
 
@@ -7,9 +7,9 @@ use Rattle.paper.specs.Values.{is_digit, days_in}
 abbrev pub between : ℕ → ℕ → ℕ → Bool
 between low high b = leb low b && leb b high
 
--- the value of two digits, 100 where they are none
-abbrev pub two_digits : ℕ → ℕ → ℕ
-two_digits a b = cond (is_digit a && is_digit b) ((a - code "0") * 10 + (b - code "0")) 100
+-- the value of two digits, where they are digits
+abbrev pub two_digits : ℕ → ℕ → Option ℕ
+two_digits a b = cond (is_digit a && is_digit b) (Some ((a - code "0") * 10 + (b - code "0"))) None
 
 -- there is such a day
 pub record Day (year month day : ℕ) : Type 0 where

@@ -10,103 +10,63 @@ ghost use Rattle.value_codes.specs.Parts.{between, two_digits, Day};
 fn within(b: u8, low: u8, high: u8) -> bool
     ensures { result ≡ between low high b }
 {
-    if b < low {
-        return false;
-    }
-    b <= high
+    low <= b && b <= high
 }
 
-// The value of two digits; 100, which is no month, no day and no half of a year, where they are none.
-fn two_digits(a: u8, b: u8) -> usize
+// The value of two digits.
+fn two_digits(a: u8, b: u8) -> Option<usize>
     ensures { result ≡ two_digits a b }
 {
-    if !within(a, b'0', b'9') {
-        return 100;
+    if within(a, b'0', b'9') && within(b, b'0', b'9') {
+        Some((a - b'0') as usize * 10 + (b - b'0') as usize)
+    } else {
+        None
     }
-    if !within(b, b'0', b'9') {
-        return 100;
-    }
-    (a - b'0') as usize * 10 + (b - b'0') as usize
 }
 
 fn is_leap(year: usize) -> bool
     ensures { result ≡ is_leap year }
 {
-    if year % 4 != 0 {
-        return false;
-    }
-    if year % 100 != 0 {
-        return true;
-    }
-    year % 400 == 0
+    year % 4 == 0 && (year % 100 != 0 || year % 400 == 0)
 }
 
 fn days_in(year: usize, month: usize) -> usize
     ensures { result ≡ days_in year month }
 {
-    if month == 2 {
-        if is_leap(year) {
-            return 29;
-        }
-        return 28;
+    match month {
+        2 if is_leap(year) => 29,
+        2 => 28,
+        4 | 6 | 9 | 11 => 30,
+        _ => 31,
     }
-    if month == 4 {
-        return 30;
-    }
-    if month == 6 {
-        return 30;
-    }
-    if month == 9 {
-        return 30;
-    }
-    if month == 11 {
-        return 30;
-    }
-    31
 }
 
 // Whether there is such a day.
 fn is_day(year: usize, month: usize, day: usize) -> bool
     ensures { Tells result (Day year month day) }
 {
-    if year < 1 {
-        return false;
-    }
-    if month < 1 {
-        return false;
-    }
-    if 12 < month {
-        return false;
-    }
-    if day < 1 {
-        return false;
-    }
-    day <= days_in(year, month)
+    1 <= year && 1 <= month && month <= 12 && 1 <= day && day <= days_in(year, month)
 }
 
 // Whether it is "a real Gregorian CCYY-MM-DD, years 0001 to 9999".
 pub fn is_date(w: &[u8]) -> bool
     ensures { OfRead w.now Date result }
 {
-    if w.len() != 10 {
+    if w.len() != 10 || w[4] != b'-' || w[7] != b'-' {
         return false;
     }
-    if w[4] != b'-' {
+    let Some(century) = two_digits(w[0], w[1]) else {
         return false;
-    }
-    if w[7] != b'-' {
+    };
+    let Some(rest) = two_digits(w[2], w[3]) else {
         return false;
-    }
-    let century = two_digits(w[0], w[1]);
-    if 99 < century {
+    };
+    let Some(month) = two_digits(w[5], w[6]) else {
         return false;
-    }
-    let rest = two_digits(w[2], w[3]);
-    if 99 < rest {
+    };
+    let Some(day) = two_digits(w[8], w[9]) else {
         return false;
-    }
-    let month = two_digits(w[5], w[6]);
-    let day = two_digits(w[8], w[9]);
+    };
     is_day(century * 100 + rest, month, day)
 }
 
@@ -114,13 +74,7 @@ pub fn is_date(w: &[u8]) -> bool
 fn is_two(w: &[u8], low: u8, high: u8) -> bool
     ensures { Tells result (Two (between low high) w.now) }
 {
-    if w.len() != 2 {
-        return false;
-    }
-    if !within(w[0], low, high) {
-        return false;
-    }
-    within(w[1], low, high)
+    w.len() == 2 && within(w[0], low, high) && within(w[1], low, high)
 }
 
 // "two letters A to Z"

@@ -1,10 +1,12 @@
 -- What one slot and one comparison tell of a text and a dictionary.
 use Prim.Native.Nat.{ℕ, ◌+◌, ◌/◌, ◌%◌, ◌≤◌, ◌<◌}
 use native.Mathlib.Omega.{arith}
-use mathlib.Core.Path.{◌≡◌, refl, sym, ap, ◌∙◌, subst}
+use mathlib.Core.Path.{◌≡◌, sym, ap, ◌∙◌, subst}
 use mathlib.Core.List.{List, [], ◌++◌}
 use lib.ListN.{length, get_or, take, drop, take-append-drop}
 use lib.Seq.{take-append_seam, drop-drop}
+use Rattle.std.specs.Prelude.{Some, None}
+use Rattle.std.proofs.lemmas.Option.{none-some, same_Some}
 use Rattle.read_bytes.specs.Words.{StandsAt}
 use Rattle.read_bytes.proofs.Words.{stands_long}
 use Rattle.value_dictionary.specs.Texts.{byte_of, slot_of, entry_of, text_of, Dictionary, FindsText}
@@ -27,7 +29,7 @@ stands {factor} {mask} {t} {w} {l} d k h e =
     }
 
 -- a text that is none of any dictionary's
-none : {factor mask : ℕ} {t w : List ℕ} → ((k : ℕ) → ¬ Stands factor mask t w k) → FindsText factor mask t w 255
+none : {factor mask : ℕ} {t w : List ℕ} → ((k : ℕ) → ¬ Stands factor mask t w k) → FindsText factor mask t w None
 none n =
     record {
       looks = λ l d.
@@ -35,10 +37,10 @@ none n =
             is = λ h. absurd (omega (arith, d.few));
             found = λ k h e. absurd (n k (stands d k h e));
           };
-      below = λ l d x. absurd (x refl);
+      below = λ l d k e. absurd (none-some k e);
     }
 
-pub short : {factor mask : ℕ} {t w : List ℕ} → length w < 2 → FindsText factor mask t w 255
+pub short : {factor mask : ℕ} {t w : List ℕ} → length w < 2 → FindsText factor mask t w None
 short h = none (λ k x. omega (arith, x.long))
 
 -- the number in w's slot, and the two bytes of that number
@@ -58,10 +60,10 @@ looked factor mask t w (e, h) is read =
 
 module _ {factor mask : ℕ} {t w : List ℕ} {k entry : ℕ} (at : Looked factor mask t w k entry) where
   -- no other can be its own
-  only : (Stands factor mask t w k → ⊥) → FindsText factor mask t w 255
+  only : (Stands factor mask t w k → ⊥) → FindsText factor mask t w None
   only n = none (λ j x. n (subst (Stands factor mask t w) (sym x.slot ∙ sym at.is) x))
 
-  pub other_size : ¬ (entry % 32 ≡ length w) → FindsText factor mask t w 255
+  pub other_size : ¬ (entry % 32 ≡ length w) → FindsText factor mask t w None
   other_size n = only (λ x. n (ap (λ (n : ℕ). n % 32) at.read ∙ x.size))
 
   module _ (size : entry % 32 ≡ length w) where
@@ -69,24 +71,24 @@ module _ {factor mask : ℕ} {t w : List ℕ} {k entry : ℕ} (at : Looked facto
     here : text_of mask t k ≡ take (length w) (drop (entry / 32) t)
     here = (λ i. take (sym at.read i % 32) (drop (sym at.read i / 32) t)) ∙ ap (λ (n : ℕ). take n (drop (entry / 32) t)) size
 
-    differs : ¬ (take (length w) (drop (entry / 32) t) ≡ w) → FindsText factor mask t w 255
+    differs : ¬ (take (length w) (drop (entry / 32) t) ≡ w) → FindsText factor mask t w None
     differs n = only (λ x. n (sym here ∙ x.text))
 
-    same_text : take (length w) (drop (entry / 32) t) ≡ w → FindsText factor mask t w k
+    same_text : take (length w) (drop (entry / 32) t) ≡ w → FindsText factor mask t w (Some k)
     same_text e =
         record {
           looks = λ l d. record { is = λ h. sym e ∙ sym here ∙ d.text k h; found = λ j h f. at.is ∙ (stands d j h f).slot };
-          below = λ l d x. subst (λ (n : ℕ). n < length l) (sym at.is) (d.full (slot_of factor mask w) at.under);
+          below = λ l d j e. subst (λ (n : ℕ). n < length l) (sym at.is ∙ same_Some k j e) (d.full (slot_of factor mask w) at.under);
         }
 
 -- of a part of a table: whether the word stands in the table
 module _ {factor mask : ℕ} (base : ℕ) (s : List ℕ) {w : List ℕ} {k entry : ℕ} (at : Looked factor mask (drop base s) w k entry) (size : entry % 32 ≡ length w) where
-  pub stands_text : StandsAt w s (base + entry / 32) → FindsText factor mask (drop base s) w k
+  pub stands_text : StandsAt w s (base + entry / 32) → FindsText factor mask (drop base s) w (Some k)
   stands_text x =
       same_text at size
       (ap (take (length w)) (drop-drop (entry / 32) base s ∙ x.here) ∙ take-append_seam w (drop (base + entry / 32 + length w) s))
 
-  pub other_text : 2 ≤ length w → ¬ StandsAt w s (base + entry / 32) → FindsText factor mask (drop base s) w 255
+  pub other_text : 2 ≤ length w → ¬ StandsAt w s (base + entry / 32) → FindsText factor mask (drop base s) w None
   other_text h n =
       differs at size
       (λ e.

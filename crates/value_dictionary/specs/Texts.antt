@@ -1,6 +1,7 @@
 -- A dictionary: its slots, one more than its mask; two bytes for each text, where it starts and how long it is; the texts.
-use Rattle.std.specs.Prelude.{ℕ, ◌+◌, ◌*◌, ◌-◌, ◌/◌, ◌%◌, ◌<◌, ◌≤◌, ◌≡◌, List, [], length, get_or, take, drop}
+use Rattle.std.specs.Prelude.{ℕ, ◌+◌, ◌*◌, ◌-◌, ◌/◌, ◌%◌, ◌<◌, ◌≤◌, ◌≡◌, Option, Some, List, [], length, get_or, take, drop}
 use Rattle.std.specs.Int.Bits.{bit_and}
+use Rattle.std.specs.Option.{unwrap_or}
 
 abbrev pub byte_of : List ℕ → ℕ → ℕ
 byte_of t i = get_or t i 0
@@ -29,12 +30,16 @@ pub record Dictionary (factor mask : ℕ) (l : List (List ℕ)) (t : List ℕ) :
   pub size : (k : ℕ) → k < length l → entry_of mask t k % 32 ≡ length (get_or l k [])
   pub text : (k : ℕ) → k < length l → text_of mask t k ≡ get_or l k []
 
+-- the number that was found, as a place; 255, which is above all of them, where none was
+abbrev pub place_of : Option ℕ → ℕ
+place_of r = unwrap_or r 255
+
 -- r is the number of v among the texts l; above all of them where it is none of them
 pub record PlaceOf (l : List (List ℕ)) (v : List ℕ) (r : ℕ) : Type 0 where
   pub is : r < length l → v ≡ get_or l r []
   pub found : (k : ℕ) → k < length l → v ≡ get_or l k [] → r ≡ k
 
--- whatever texts t is a dictionary of, r is 255 where w is none of them
-pub record FindsText (factor mask : ℕ) (t w : List ℕ) (r : ℕ) : Type 0 where
-  pub looks : (l : List (List ℕ)) → Dictionary factor mask l t → PlaceOf l w r
-  pub below : (l : List (List ℕ)) → Dictionary factor mask l t → ¬ (r ≡ 255) → r < length l
+-- whatever texts t is a dictionary of, r is w's number among them, or none where w is none of them
+pub record FindsText (factor mask : ℕ) (t w : List ℕ) (r : Option ℕ) : Type 0 where
+  pub looks : (l : List (List ℕ)) → Dictionary factor mask l t → PlaceOf l w (place_of r)
+  pub below : (l : List (List ℕ)) → Dictionary factor mask l t → (k : ℕ) → r ≡ Some k → k < length l

@@ -13,7 +13,6 @@ use Rattle.value_words.specs.Reading.{Tells}
 use Rattle.value_words.proofs.Numbers.{suffix}
 use Rattle.value_words.proofs.Tests.{told, tells_le}
 use Rattle.value_residues.specs.Residues.{begun, NextCharacter, SameOf64, Passes, Others, Characters, HasDefined}
-use Rattle.value_residues.specs.declared.Passed.{Passed}
 
 -- the byte that a character begins with
 abbrev first : ℕ → ℕ
@@ -52,24 +51,6 @@ module _ (w : List ℕ) (at : ℕ) where
   pub inside_first : at < length w → get_or w at 0 ≡ 38 → InEntity (at + 1)
   inside_first h e = record { onward = omega arith; within = omega (arith, h); same = λ but. rw (eq-eqb (get_or w at 0) 38 e) refl }
 
-  module _ {i : ℕ} (x : InEntity i) where
-    begun_on : i < length w → (t : Bool) → eqb (get_or w i 0) 59 ≡ t → (but : ℕ) → begun but (eqb (get_or w at 0) 38) (drop (at + 1) w) ≡ begun but (not t) (drop (i + 1) w)
-    begun_on h t e but = x.same but ∙ ap (begun but true) (suffix w i h) ∙ ap (λ (u : Bool). begun but (not u) (drop (i + 1) w)) e
-
-    pub inside_closed : i < length w → get_or w i 0 ≡ 59 → NextCharacter w at (i + 1)
-    inside_closed h e = record { onward = omega (arith, x.onward); within = omega (arith, h); same = begun_on h true (eq-eqb (get_or w i 0) 59 e) }
-
-    pub inside_next : i < length w → ¬ (get_or w i 0 ≡ 59) → InEntity (i + 1)
-    inside_next h n = record { onward = omega (arith, x.onward); within = omega (arith, h); same = begun_on h false (ne_eqb (get_or w i 0) 59 n) }
-
-    pub inside_end : length w ≤ i → NextCharacter w at i
-    inside_end h =
-        record {
-          onward = x.onward;
-          within = x.within;
-          same = λ but. x.same but ∙ ap (begun but true) (drop_of_length-le w h) ∙ sym (ap (begun but false) (drop_of_length-le w h));
-        }
-
 -- ---- some characters at once
 
 -- the byte at i begins a character
@@ -86,11 +67,6 @@ pub record Summed (w : List ℕ) (at b same amp j : ℕ) : Type 0 where
   pub end : j ≤ 64
   pub few : same ≤ j
   pub is : amp ≡ 0 → begun b false (drop at w) + same ≡ j + begun b false (drop (at + j) w)
-
-pub summed_none : (w : List ℕ) (at b : ℕ) → Summed w at b 0 0 0
-summed_none w at b =
-    let q : at + 0 ≡ at = omega arith in
-    record { end = omega arith; few = omega arith; is = λ z. omega (arith, ap (λ (k : ℕ). begun b false (drop k w)) q) }
 
 module _ {w : List ℕ} {at b same amp j : ℕ} (s : Summed w at b same amp j) where
   pub summed_next : {x y : ℕ} → at + j < length w → j < 64 → x ≡ flag (eqb (get_or w (at + j) 0) b) → y ≡ flag (eqb (get_or w (at + j) 0) 38)
@@ -116,11 +92,6 @@ module _ {w : List ℕ} {at b same amp j : ℕ} (s : Summed w at b same amp j) w
       no_flag true e = absurd (omega (arith, e))
       no_flag false e = refl
 
-  pub summed_all : 64 ≤ j → amp ≡ 0 → SameOf64 w at b same
-  summed_all h z =
-      let q : j ≡ 64 = omega (arith, h, s.end) in
-      record { is = λ l. subst (λ (k : ℕ). begun b false (drop at w) + same ≡ k + begun b false (drop (at + k) w)) q (s.is z) }
-
 module _ {w : List ℕ} {at but : ℕ} where
   pub ahead_64 : {same : ℕ} → at + 64 ≤ length w → same ≤ 64 → SameOf64 w at but same → Passes w at but (record { count = 64 - same; next = at + 64 })
   ahead_64 h l s = record { onward = omega arith; within = h; each = omega (arith, l); is = omega (arith, l, s.is l) }
@@ -141,9 +112,6 @@ pub record Counting (w : List ℕ) (but n i : ℕ) : Type 0 where
   pub in_all : n + begun but false (drop i w) ≡ begun but false w
 
 module _ {w : List ℕ} {but n i : ℕ} (c : Counting w but n i) where
-  pub counting_next : {x : Passed} → Passes w i but x → Counting w but (n + x.count) x.next
-  counting_next x = record { within = x.within; few = omega (arith, c.few, x.each); in_all = omega (arith, c.in_all, x.is) }
-
   counted : {most r : ℕ} → r ≤ most → (begun but false w ≤ most → r ≡ begun but false w) → (most ≤ begun but false w → r ≡ most) → Others w but most r
   counted l few many =
       record {

@@ -136,9 +136,6 @@ module _ (w : List ℕ) (class : ℕ) where
     told : (k : Rules.Kind) → class ≡ symbol_class k → eqb (get_or t (get_or w i 0) 0) class ≡ is_symbol k (get_or w i 0)
     told k e = ap (eqb (get_or t (get_or w i 0) 0)) e ∙ table.at_byte k (get_or w i 0) small
 
-    pub of_class : get_or t (get_or w i 0) 0 ≡ class → OfClass class (get_or w i 0)
-    of_class e k q = sym (told k q) ∙ eq-eqb (get_or t (get_or w i 0) 0) class e
-
     pub of_none : ¬ (get_or t (get_or w i 0) 0 ≡ class) → (k : Rules.Kind) → class ≡ symbol_class k → is_symbol k (get_or w i 0) ≡ false
     of_none n k q = sym (told k q) ∙ ne_eqb (get_or t (get_or w i 0) 0) class n
 

@@ -49,17 +49,15 @@ fn next_character(w: &[u8], at: usize) -> usize
     requires { at < length w.now }
     ensures { NextCharacter w.now at result }
 {
-    let mut i = at + 1;
     if w[at] != b'&' {
-        return i;
+        return at + 1;
     }
-    while i < w.len() {
+    for i in at + 1..w.len() {
         if w[i] == b';' {
             return i + 1;
         }
-        i += 1;
     }
-    i
+    w.len()
 }
 
 // How many of 64 bytes are this one; 255 where an entity begins among them. With no branch: it is compiled to vector code.
@@ -69,11 +67,9 @@ fn same_of_64(w: &[u8], at: usize, b: u8) -> u8
 {
     let mut same: u8 = 0;
     let mut amp: u8 = 0;
-    let mut j: usize = 0;
-    while j < 64 {
+    for j in 0..64 {
         same += equal(w[at + j], b);
-        amp = amp | equal(w[at + j], b'&');
-        j += 1;
+        amp |= equal(w[at + j], b'&');
     }
     if amp == 0 { same } else { 255 }
 }
@@ -99,24 +95,19 @@ fn ahead(w: &[u8], at: usize, but: u8) -> Passed
     Passed { count: 1, next }
 }
 
-// How many characters begin with another byte than this, up to a limit. An entity is one; little more is read than it takes.
+// How many characters begin with another byte than this, up to a limit. An entity is one; little more is read than it takes. The loop goes
+// on by what `ahead` passes, 64 bytes or a character, so there is no `for`.
 fn others(w: &[u8], but: u8, most: usize) -> usize
     ensures { Others w.now but most result }
 {
     let mut n: usize = 0;
     let mut i: usize = 0;
-    while i < w.len() {
-        if most <= n {
-            return most;
-        }
+    while i < w.len() && n < most {
         let Passed { count, next } = ahead(w, i, but);
         n += count;
         i = next;
     }
-    if most <= n {
-        return most;
-    }
-    n
+    if n < most { n } else { most }
 }
 
 // How many characters it is written from: none begins with `<`.
@@ -137,10 +128,7 @@ pub fn has_defined(w: &[u8], undefined: u8, enough: usize) -> bool
 fn outside(b: u8, first: u8, last: u8) -> u8
     ensures { result ≡ flag (is_outside first last b) }
 {
-    if b < first {
-        return 1;
-    }
-    if last < b { 1 } else { 0 }
+    if b < first || last < b { 1 } else { 0 }
 }
 
 // 0 only for the bases and `n`, which most residues are.
@@ -193,15 +181,13 @@ fn block(w: &[u8], at: usize, class: u8, rarer: bool) -> u8
     ensures { Block w.now class at result }
 {
     let mut bad: u8 = 0;
-    let mut j: usize = 0;
-    while j < 64 {
-        bad = bad | strange(w[at + j], class, rarer);
-        j += 1;
+    for j in 0..64 {
+        bad |= strange(w[at + j], class, rarer);
     }
     bad
 }
 
-// How far blocks of symbols reach from `from` on, before `end`.
+// How far blocks of symbols reach from `from` on, before `end`. The place is the answer, and 64 bytes must be left: a `for` is no plainer.
 fn reach(w: &[u8], from: usize, end: usize, class: u8, rarer: bool) -> usize
     requires end_in_bounds { end ≤ length w.now }
     requires from_le_end { from ≤ end }
@@ -224,14 +210,12 @@ fn foreign(w: &[u8], from: usize, class: u8, t: &[u8; 256]) -> usize
     requires symbol_table { SymbolTable t.now }
     ensures { Foreign w.now class from result }
 {
-    let mut i = from;
-    while i < w.len() {
+    for i in from..w.len() {
         if t[w[i] as usize] != class {
             return i;
         }
-        i += 1;
     }
-    i
+    w.len()
 }
 
 // How far symbols are passed from `from` on: by blocks of the common ones; then by some blocks of all, for a rarer one seldom comes alone.
@@ -250,6 +234,7 @@ fn sweep(w: &[u8], from: usize, class: u8) -> usize
 
 // How many bytes are written before the first residue that is no symbol of the class: by blocks, and by the table where none is passed
 // any more. The first sweep, the only one for most sequences, stands before the loop: there it is compiled to faster code.
+// `class` is a number and no enum: `symbols` promises `within` of any class, and an enum would take fewer.
 pub fn symbols(w: &[u8], class: u8, t: &[u8; 256]) -> usize
     requires { SymbolTable t.now }
     ensures { Symbols w.now class result }

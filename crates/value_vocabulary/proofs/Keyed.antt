@@ -8,6 +8,7 @@ use mathlib.Core.List.{List, [], ◌∷◌, ◌++◌, map}
 use lib.ListN.{length, get_or, drop, length-map, get_or-map}
 use lib.Dec.{ltb}
 use borrow.Author.Tests.{ltb-true, ltb-false}
+use Rattle.std.specs.Prelude.{Some, None}
 use Rattle.paper.specs.Bytes.{bytes, raw}
 use Rattle.paper.specs.Lists.{◌∈◌}
 use Rattle.paper.specs.Vocabulary.{Row, nucleotide_names, older, is_one_of, lower, counted}
@@ -16,11 +17,12 @@ use Rattle.paper.proofs.Lists.{in_map, in_first, in_second}
 use Rattle.paper.proofs.Once.{name_once}
 use Rattle.paper.proofs.Texts.{raw_once}
 use Rattle.paper.proofs.Words.{one_in, in_one, row_named}
+use Rattle.value_words.specs.Reading.{is_acid}
 use Rattle.value_words.specs.declared.Molecule.{Molecule}
 use Rattle.value_words.specs.declared.Molecule.TheVariants as kind
 use Rattle.value_dictionary.specs.Texts.{pair_of, PlaceOf, FindsText}
 use Rattle.value_vocabulary.specs.Tables.{RowIn, name_texts, standing_of, crumb_at, HasRow, key_texts, RowFor, Keys, VocabularyTable}
-use Rattle.value_vocabulary.specs.Lookups.{RowStands, RowIs, is_acid, FindsRow}
+use Rattle.value_vocabulary.specs.Lookups.{RowStands, RowIs, FindsRow}
 use Rattle.value_vocabulary.proofs.InRow.{standing_some, row_few}
 
 -- ---- places
@@ -63,20 +65,20 @@ counted_in true l v m = go (is_one_of older v) refl m
 
 -- ---- the row of a key, by its number among the keys
 
-module _ {factor : ℕ} (rows : ℕ) {t w : List ℕ} {k : ℕ} (f : FindsText factor 127 t w k) where
+module _ {factor : ℕ} (rows : ℕ) {t w : List ℕ} where
   -- every text's number is below 255
-  pub no_row : k ≡ 255 → RowIn factor rows t w 0
-  no_row x =
+  pub no_row : FindsText factor 127 t w None → RowIn factor rows t w 0
+  no_row f =
       record {
-        is = λ l d j h e. absurd (omega (arith, x, d.few, (f.looks l d).found j h e));
+        is = λ l d j h e. absurd (omega (arith, d.few, (f.looks l d).found j h e));
         none = λ l d n. refl;
       }
 
-  pub has_row : {r : ℕ} → ¬ (k ≡ 255) → r ≡ pair_of t (rows + 2 * k) → RowIn factor rows t w r
-  has_row x is =
+  pub has_row : {k r : ℕ} → FindsText factor 127 t w (Some k) → r ≡ pair_of t (rows + 2 * k) → RowIn factor rows t w r
+  has_row {k} f is =
       record {
         is = λ l d j h e. is ∙ ap (λ (n : ℕ). pair_of t (rows + 2 * n)) ((f.looks l d).found j h e);
-        none = λ l d n. absurd (n k (f.below l d x) ((f.looks l d).is (f.below l d x)));
+        none = λ l d n. absurd (n k (f.below l d k refl) ((f.looks l d).is (f.below l d k refl)));
       }
 
 -- ---- the row at a place

@@ -1,11 +1,10 @@
 -- What is promised of a look-up: it holds of whichever text as read the raw part is written from.
-use Rattle.std.specs.Prelude.{ℕ, ◌≡◌, Bool, true, false, List, length}
+use Rattle.std.specs.Prelude.{ℕ, ◌≡◌, List, length}
 use Rattle.paper.specs.Bytes.{bytes, raw}
 use Rattle.paper.specs.Vocabulary.{Row, counted}
 use Rattle.paper.specs.Rules.{Kind, kind_name, upper_in, RowOf}
 use Rattle.value_words.specs.Reading.{KindIs}
 use Rattle.value_words.specs.declared.Molecule.{Molecule}
-use Rattle.value_words.specs.declared.Molecule.TheVariants as kind
 use Rattle.value_dictionary.specs.Texts.{PlaceOf}
 use Rattle.value_vocabulary.specs.Tables.{name_texts, standing_of, needs_at, standing_at, Few}
 
@@ -25,12 +24,6 @@ pub record RowStands (k : Kind) (t : List ℕ) (row : ℕ) (r : Row) : Type 0 wh
 pub record RowIs (k : Kind) (t v : List ℕ) (row : ℕ) : Type 0 where
   pub known : ¬ (row ≡ 0) → (r : Row) × RowOf k v r × RowStands k t row r
   pub unknown : row ≡ 0 → (r : Row) → ¬ RowOf k v r
-
-abbrev pub is_acid : Molecule → Bool
-is_acid kind.Dna = false
-is_acid kind.Rna = false
-is_acid kind.Aa = true
-is_acid kind.Other = false
 
 -- in a sequence of whichever kind this is
 pub record FindsRow (t w : List ℕ) (kind : Molecule) (row : ℕ) : Type 0 where

@@ -9,7 +9,7 @@ mod tables;
 ghost use Rattle.std.specs.Prelude.{◌≡◌, ◌+◌, ◌<◌, drop};
 ghost use Rattle.value_dictionary.specs.Texts.{byte_of};
 ghost use Rattle.value_vocabulary.specs.Tables.{RowIn, VocabularyTable, needs_at, standing_at};
-ghost use Rattle.value_vocabulary.specs.Lookups.{NameNumber, is_acid, FindsRow};
+ghost use Rattle.value_vocabulary.specs.Lookups.{NameNumber, FindsRow};
 
 use tables::{
     AMINO_KEYS, AMINO_KEYS_FACTOR, AMINO_KEYS_ROWS, NAMES_FACTOR, NUCLEOTIDE_KEYS,
@@ -27,12 +27,13 @@ pub fn vocabulary_table() -> [u8; 3492]
 
 // ---- names
 
-// The number of a qualifier's name: that of its row in section 6, then the older names; 255 where it is none of them.
+// The number of a qualifier's name: that of its row in section 6, then the older names; 255 where it is none of them. It is a number and
+// no Option: 255 stands in no row, so the caller looks it up as it does any other, and no branch asks whether there is one.
 pub fn name_of(w: &[u8], words: &[u8; 3492]) -> usize
     requires { VocabularyTable words.now }
     ensures { NameNumber w.now result }
 {
-    find(w, words, 0, NAMES_FACTOR, 255)
+    find(w, words, 0, NAMES_FACTOR, 255).unwrap_or(255)
 }
 
 // ---- keys
@@ -44,40 +45,29 @@ fn row_in(w: &[u8], words: &[u8; 3492], base: usize, factor: usize, rows: usize)
     requires rows_bound { base + rows + 639 < 3_492 }
     ensures { RowIn factor rows (drop base words.now) w.now result }
 {
-    let k = find(w, words, base, factor, 127);
-    if k == 255 {
-        return 0;
-    }
-    pair_at(words, base, rows + 2 * k)
-}
-
-// Whether the words of AA are meant: its own keys, and the names of its source in upper case.
-pub fn is_acid(kind: Molecule) -> bool
-    ensures { result ≡ is_acid kind }
-{
-    match kind {
-        Molecule::Dna => false,
-        Molecule::Rna => false,
-        Molecule::Aa => true,
-        Molecule::Other => false,
+    match find(w, words, base, factor, 127) {
+        Some(k) => pair_at(words, base, rows + 2 * k),
+        None => 0,
     }
 }
 
-// The place of the row of a key of this kind, 0 where the key is unknown. Where the moltype names no kind nothing is said.
+// The place of the row of a key of this kind, 0 where the key is unknown. Where the moltype names no kind nothing is said. The table has 0
+// for an older name too, and the caller looks names up at whichever place it gets: so it is a number and no Option.
 pub fn row_of(w: &[u8], kind: Molecule, words: &[u8; 3492]) -> usize
     requires { VocabularyTable words.now }
     ensures { FindsRow words.now w.now kind result }
 {
-    if is_acid(kind) {
-        return row_in(w, words, AMINO_KEYS, AMINO_KEYS_FACTOR, AMINO_KEYS_ROWS);
+    if kind.is_acid() {
+        row_in(w, words, AMINO_KEYS, AMINO_KEYS_FACTOR, AMINO_KEYS_ROWS)
+    } else {
+        row_in(
+            w,
+            words,
+            NUCLEOTIDE_KEYS,
+            NUCLEOTIDE_KEYS_FACTOR,
+            NUCLEOTIDE_KEYS_ROWS,
+        )
     }
-    row_in(
-        w,
-        words,
-        NUCLEOTIDE_KEYS,
-        NUCLEOTIDE_KEYS_FACTOR,
-        NUCLEOTIDE_KEYS_ROWS,
-    )
 }
 
 // ---- rows
@@ -86,10 +76,7 @@ pub fn row_of(w: &[u8], kind: Molecule, words: &[u8; 3492]) -> usize
 fn row_byte(t: &[u8], i: usize) -> usize
     ensures { (result ≡ byte_of t.now i) × (result < 256) }
 {
-    if i < t.len() {
-        return t[i] as usize;
-    }
-    0
+    if i < t.len() { t[i] as usize } else { 0 }
 }
 
 // How many names the row at a place requires: none, one or two.
@@ -100,18 +87,14 @@ pub fn needs(row: usize, words: &[u8; 3492]) -> usize
 }
 
 // How a name stands in the row at a place: 0 not allowed, 1 allowed, 2 the first that is required, 3 the second. Every other byte of a
-// row is turned round: else the rows had long runs of 0, and LLVM would store those twice.
+// row is turned round: else the rows had long runs of 0, and LLVM would store those twice. The answer is the table's two bits: an enum
+// would be made of them here by four cases, only to be compared by its one caller.
 pub fn standing(row: usize, name: usize, words: &[u8; 3492]) -> usize
     ensures { result ≡ standing_at words.now row name }
 {
-    if name < 85 {
-        if row < 65_536 {
-            let bits = (row_byte(words, row + 1 + name / 4) >> (2 * (name % 4))) % 4;
-            if name % 8 < 4 {
-                return bits;
-            }
-            return 3 - bits;
-        }
+    if 85 <= name || 65_536 <= row {
+        return 0;
     }
-    0
+    let bits = (row_byte(words, row + 1 + name / 4) >> (2 * (name % 4))) % 4;
+    if name % 8 < 4 { bits } else { 3 - bits }
 }

@@ -1,17 +1,17 @@
 -- Decimal digits, read from the front.
-use Prim.Native.Nat.{ℕ, ◌+◌, ◌-◌, ◌≤◌, ◌<◌}
+use Prim.Native.Nat.{ℕ, ◌+◌, ◌≤◌, ◌<◌}
 use Prim.Native.Char.{code}
 use native.Mathlib.Numerals.{add-one}
 use native.Mathlib.Omega.{arith}
 use mathlib.Core.Path.{◌≡◌, refl, sym, ap, ◌∙◌, subst}
 use mathlib.Core.Bool.{Bool, true, false}
 use mathlib.Core.List.{List, [], ◌∷◌, ◌++◌}
-use lib.ListN.{length, take, drop, get_or, drop_of_length-le, take-append-drop, length-drop}
-use lib.Seq.{drop-cons, take_all}
+use lib.ListN.{length, take, drop, get_or, take-append-drop}
+use lib.Seq.{drop-cons}
 use Rattle.paper.specs.Bytes.{bytes, all, raw}
 use Rattle.paper.specs.Values.{is_digit, value_from, Leads, Number, decimal}
 use Rattle.paper.specs.Rules.{Whole}
-use Rattle.paper.proofs.Decimal.{digit_bounds, digit_is, push, value_grows, number_decimal, decimal_number}
+use Rattle.paper.proofs.Decimal.{digit_bounds, push, value_grows, number_decimal, decimal_number}
 use Rattle.value_words.specs.Reading.{Tells}
 use Rattle.value_words.proofs.Read.{raw_plain, raw_both}
 
@@ -26,10 +26,6 @@ starts : (w : List ℕ) → Leads w → (0 < length w) × (get_or w 0 0 ≡ code
 starts [] l = absurd l
 starts (b ∷ w) l = (omega arith, l)
 
-leads : (w : List ℕ) → 0 < length w → (get_or w 0 0 ≡ code "0" → ⊥) → Leads w
-leads [] h l = absurd (omega arith)
-leads (b ∷ w) h l = l
-
 -- the digits before i have the value v
 pub record Upto (w : List ℕ) (n i v : ℕ) : Type 0 where
   pub leads : Leads w
@@ -37,14 +33,8 @@ pub record Upto (w : List ℕ) (n i v : ℕ) : Type 0 where
   pub of : Rest n v (drop i w) → Rest n 0 w
 
 module _ (w : List ℕ) (n : ℕ) where
-  pub not_empty : length w ≡ 0 → ¬ Number n w
-  not_empty e x = omega (arith, (starts w x.leads).0)
-
   pub not_zero : get_or w 0 0 ≡ code "0" → ¬ Number n w
   not_zero e x = (starts w x.leads).1 e
-
-  pub begin : (length w ≡ 0 → ⊥) → (get_or w 0 0 ≡ code "0" → ⊥) → Upto w n 0 0
-  begin h l = record { leads = leads w (omega arith) l; to = λ r. r; of = λ r. r }
 
   module _ (i v : ℕ) (u : Upto w n i v) where
     -- the byte at i
@@ -59,23 +49,6 @@ module _ (w : List ℕ) (n : ℕ) where
           let d = digit_bounds (get_or w i 0) r.0.0 in
           (d.0, d.1, omega (arith, r.1, value_grows (push v (get_or w i 0)) (drop (i + 1) w)))
 
-      pub next : code "0" ≤ get_or w i 0 → get_or w i 0 ≤ code "9" → Upto w n (i + 1) (push v (get_or w i 0))
-      next p q =
-          record {
-            leads = u.leads;
-            to = λ r. let s = on (u.to r) in (s.0.1, s.1);
-            of = λ r. u.of (subst (Rest n v) (sym (suffix w i h)) ((digit_is (get_or w i 0) p q, r.0), r.1));
-          }
-
-    module _ (h : length w ≤ i) where
-      pub all_read : v ≡ n → Number n w
-      all_read e =
-          let r = u.of (subst (Rest n v) (sym (drop_of_length-le w h)) (tt, sym e)) in
-          record { digits = r.0; leads = u.leads; counts = r.1 }
-
-      pub read_all : Number n w → v ≡ n
-      read_all x = sym (subst (Rest n v) (drop_of_length-le w h) (u.to (x.digits, x.counts))).1
-
 pub raw_number : (n : ℕ) (v : List ℕ) → Number n v → raw v ≡ v
 raw_number n v x = raw_plain is_digit refl v x.digits
 
@@ -85,16 +58,6 @@ pub raw_whole : (n : ℕ) → 1 ≤ n → (v : List ℕ) → Whole n v → raw v
 raw_whole n h v e = ap raw e ∙ raw_both (bytes "1..") (decimal n) refl (raw_number n (decimal n) (decimal_number n h)) ∙ sym e
 
 -- by a test of the first three bytes, and of the rest
-module _ (w : List ℕ) (n : ℕ) where
-  pub whole_short : length w < 3 → ¬ Whole n w
-  whole_short h e = omega (arith, ap length e)
-
-  pub whole_front : ¬ (take 3 w ≡ bytes "1..") → ¬ Whole n w
-  whole_front h e = h (ap (take 3) e)
-
-  pub whole_rest : 1 ≤ n → take 3 w ≡ bytes "1.." → (r : Bool) → Tells r (Number n (take (length w - 3) (drop 3 w))) → Tells r (Whole n w)
-  whole_rest p h r x = go r (subst (λ (u : List ℕ). Tells r (Number n u)) (take_all (length w - 3) (drop 3 w) (omega (arith, length-drop 3 w))) x)
-    where
-      go : (r : Bool) → Tells r (Number n (drop 3 w)) → Tells r (Whole n w)
-      go true x = sym (take-append-drop 3 w) ∙ (λ i. h i ++ number_decimal x i)
-      go false x = λ e. x (subst (Number n) (sym (ap (drop 3) e)) (decimal_number n p))
+pub whole_rest : (w : List ℕ) (n : ℕ) → 1 ≤ n → take 3 w ≡ bytes "1.." → (r : Bool) → Tells r (Number n (drop 3 w)) → Tells r (Whole n w)
+whole_rest w n p h true x = sym (take-append-drop 3 w) ∙ (λ i. h i ++ number_decimal x i)
+whole_rest w n p h false x = λ e. x (subst (Number n) (sym (ap (drop 3) e)) (decimal_number n p))

@@ -1,6 +1,5 @@
 -- From tests of the code to what they tell.
 use Prim.Native.Nat.{ℕ, zero, suc, ◌+◌, ◌≤◌, ◌<◌}
-use native.Mathlib.Decide.{ℕ_discrete}
 use native.Mathlib.Omega.{arith}
 use mathlib.Core.Path.{◌≡◌, refl, sym, ap, ◌∙◌, subst}
 use mathlib.Core.Bool.{Bool, true, false, true≢false}
@@ -31,14 +30,6 @@ tells_false false e t = t
 
 pub tells_le : (a b : ℕ) → Tells (leb a b) (a ≤ b)
 tells_le a b = tells (leb a b) (leb-true a b) (λ e h. omega (arith, h, leb-false a b e))
-
--- what holds below i and at i holds below i + 1
-pub below_next : (P : ℕ → Type 0) (i : ℕ) → ((j : ℕ) → j < i → P j) → P i → (j : ℕ) → j < i + 1 → P j
-below_next P i h p j k = cases (ℕ_discrete j i)
-  where
-    cases : Dec (j ≡ i) → P j
-    cases (yes e) = subst P (sym e) p
-    cases (no n) = h j (omega arith)
 
 -- a list is its elements
 spread_from : (w : List ℕ) (f : ℕ → ℕ) (i : ℕ) → ((j : ℕ) → get_or w j 0 ≡ f (i + j)) → w ≡ listed f i (length w)

@@ -29,3 +29,17 @@ KindIs v kind.Other = (k : Rules.Kind) → ¬ Names v k
 
 pub record Moltypes (w : List ℕ) (r : Molecule) : Type 0 where
   pub says : (v : List ℕ) → w ≡ raw v → KindIs v r
+
+-- it is one of the three
+abbrev pub is_known : Molecule → Bool
+is_known kind.Dna = true
+is_known kind.Rna = true
+is_known kind.Aa = true
+is_known kind.Other = false
+
+-- its words are those of AA: its own keys, and the names of its source in upper case
+abbrev pub is_acid : Molecule → Bool
+is_acid kind.Dna = false
+is_acid kind.Rna = false
+is_acid kind.Aa = true
+is_acid kind.Other = false

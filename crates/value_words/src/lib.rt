@@ -5,7 +5,7 @@
 ghost use Rattle.std.specs.Prelude.{◌≡◌};
 ghost use Rattle.paper.specs.Values.{Number};
 ghost use Rattle.paper.specs.Rules.{Whole};
-ghost use Rattle.value_words.specs.Reading.{Tells, OfRead, Moltypes};
+ghost use Rattle.value_words.specs.Reading.{Tells, OfRead, Moltypes, is_known, is_acid};
 
 // What a moltype names.
 #[derive(Clone, Copy)]
@@ -16,21 +16,27 @@ pub enum Molecule {
     Other,
 }
 
+impl Molecule {
+    // Whether it names a kind.
+    pub fn is_known(self) -> bool
+        ensures { result ≡ is_known self }
+    {
+        !matches!(self, Molecule::Other)
+    }
+
+    // Whether it is AA, which has words of its own.
+    pub fn is_acid(self) -> bool
+        ensures { result ≡ is_acid self }
+    {
+        matches!(self, Molecule::Aa)
+    }
+}
+
 // Whether two parts are the same bytes.
 pub fn same(w: &[u8], x: &[u8]) -> bool
     ensures { Tells result (w.now ≡ x.now) }
 {
-    if w.len() != x.len() {
-        return false;
-    }
-    let mut i: usize = 0;
-    while i < w.len() {
-        if w[i] != x[i] {
-            return false;
-        }
-        i += 1;
-    }
-    true
+    w == x
 }
 
 // Whether these bytes are the number n. No value that is kept is above n, so none wraps.
@@ -38,23 +44,12 @@ pub fn same(w: &[u8], x: &[u8]) -> bool
 fn is_decimal(w: &[u8], n: usize) -> bool
     ensures { Tells result (Number n w.now) }
 {
-    if w.len() == 0 {
-        return false;
-    }
-    if w[0] == b'0' {
+    if w.is_empty() || w[0] == b'0' {
         return false;
     }
     let mut v: usize = 0;
-    let mut i: usize = 0;
-    while i < w.len() {
-        let b = w[i];
-        if b < b'0' {
-            return false;
-        }
-        if b'9' < b {
-            return false;
-        }
-        if n / 10 < v {
+    for &b in w {
+        if b < b'0' || b'9' < b || n / 10 < v {
             return false;
         }
         let d = (b - b'0') as usize;
@@ -62,7 +57,6 @@ fn is_decimal(w: &[u8], n: usize) -> bool
             return false;
         }
         v = v * 10 + d;
-        i += 1;
     }
     v == n
 }
@@ -81,14 +75,10 @@ pub fn is_whole(w: &[u8], n: usize) -> bool
     if n == 0 {
         return same(w, b"1..0");
     }
-    let size = w.len();
-    if size < 3 {
-        return false;
+    match w.strip_prefix(b"1..") {
+        Some(digits) => is_decimal(digits, n),
+        None => false,
     }
-    if !same(&w[0..3], b"1..") {
-        return false;
-    }
-    is_decimal(&w[3..size], n)
 }
 
 // Which kind a moltype names.
@@ -96,13 +86,12 @@ pub fn kind_of(w: &[u8]) -> Molecule
     ensures { Moltypes w.now result }
 {
     if same(w, b"DNA") {
-        return Molecule::Dna;
+        Molecule::Dna
+    } else if same(w, b"RNA") {
+        Molecule::Rna
+    } else if same(w, b"AA") {
+        Molecule::Aa
+    } else {
+        Molecule::Other
     }
-    if same(w, b"RNA") {
-        return Molecule::Rna;
-    }
-    if same(w, b"AA") {
-        return Molecule::Aa;
-    }
-    Molecule::Other
 }

@@ -3,6 +3,8 @@ use Prim.Native.Nat.{ℕ, ◌+◌}
 use mathlib.Core.Path.{◌≡◌, refl, ap, ◌∙◌}
 use mathlib.Core.Bool.{Bool, true, false}
 use mathlib.Core.List.{List, [], ◌∷◌, ◌++◌}
+use Rattle.std.specs.Prelude.{Some, None}
+use Rattle.std.specs.Prelude as rust
 use mathlib.Core.Option.{Option, none, some}
 use lib.ListN.{length, drop}
 use Rattle.paper.specs.Bytes.{bytes, is_blank}
@@ -16,14 +18,13 @@ use Rattle.read_steps.proofs.Fronts.{Leads, leads_seq, leads_less, leads_sharp, 
 use Rattle.read_tags.proofs.Tags.{spoken_element}
 use Rattle.walk_steps.specs.Stands.{tag_of, Ends, Finds, FindsContent, FindsMaybe, FindsLast, FindsAttribute, entering, leaving, FindsAttributeMaybe}
 use Rattle.walk_steps.specs.declared.Found.{Found}
-use Rattle.walk_steps.specs.declared.FoundMaybe.{FoundMaybe}
-use Rattle.walk_steps.specs.declared.Maybe.TheVariants.{Absent, Present}
+use Rattle.walk_steps.specs.declared.Range.{Range}
 use Rattle.walk_steps.proofs.Places.{part, from, run_ends}
 use Rattle.walk_steps.proofs.Leaves.{starts_at, tag_inside}
 use Rattle.walk_steps.proofs.Elements.{Sharp, held, missing_none, there_some, there_tells, tag_starts, tag_leads, leaf_leads}
 use Rattle.walk_steps.proofs.Attributes.{attribute_starts}
 use Rattle.walk_header.specs.Header.{tag_end, FindsAttributes, FindsSpoken, FindsParty, FindsIdentification, FindsIdentificationMaybe}
-use Rattle.walk_header.specs.declared.FoundIdentification.{FoundIdentification}
+use Rattle.walk_header.specs.declared.Filing.{Filing}
 
 -- ---- the root's attributes
 
@@ -36,7 +37,7 @@ versions = bytes "softwareVersion" ∷ produceds
 abbrev softwares : List (List ℕ)
 softwares = bytes "softwareName" ∷ versions
 
-pub attributes_found : {s : List ℕ} {at : ℕ} {v : Found} {a b c p : FoundMaybe} → FindsAttribute (bytes "dtdVersion") s at v
+pub attributes_found : {s : List ℕ} {at : ℕ} {v : Found Range} {a b c p : Found (rust.Option Range)} → FindsAttribute (bytes "dtdVersion") s at v
     → FindsAttributeMaybe (bytes "fileName") s v.next a → FindsAttributeMaybe (bytes "softwareName") s a.next b
     → FindsAttributeMaybe (bytes "softwareVersion") s b.next c → FindsAttributeMaybe (bytes "productionDate") s c.next p
     → FindsAttributes s at (record { version = v.part; produced = p.part; next = p.next })
@@ -65,7 +66,7 @@ attributes_found fv fa fb fc fp l e d fol =
 pub spoken_leads : (name : List ℕ) (x : Spoken ℕ) → Leads (tag_of name) (child (spoken name) x)
 spoken_leads name x = leads_seq (tag_of name) (spoken name x) blanks ((spoken_element name).leads x)
 
-pub spoken_found : {name s : List ℕ} {at a n : ℕ} {x w : Found} → Ends (tag name) anything s at a → FindsAttribute (bytes "languageCode") s a x
+pub spoken_found : {name s : List ℕ} {at a n : ℕ} {x w : Found Range} → Ends (tag name) anything s at a → FindsAttribute (bytes "languageCode") s a x
     → FindsContent name (allowed_in true) at s x.next w → Scanned is_blank s w.next (length s) n
     → FindsSpoken name s at (record { part = x.part; next = n })
 spoken_found {name} {at = at} p fa fw c x e d fol =
@@ -84,13 +85,13 @@ pub party_leads : (name latin : List ℕ) (x : Party ℕ) → Leads (tag_of name
 party_leads name latin x = leads_seq (tag_of name) (child (spoken name) x.name) (child? (leaf latin) x.latin) (spoken_leads name x.name)
 
 module _ {name latin s : List ℕ} {at : ℕ} where
-  pub party_absent : {q : Bool} → q ≡ false → There (tag_of name) s at q → FindsParty name latin s at (record { part = Absent; next = at })
+  pub party_absent : {q : Bool} → q ≡ false → There (tag_of name) s at q → FindsParty name latin s at (record { part = None; next = at })
   party_absent h t l b c o e d fol =
       let k = missing_none name (party name latin) (party_leads name latin) (t.no h) o d in
       rw k.0 (record { part = tt; next = k.1 })
 
-  pub party_present : {q : Bool} {x : Found} {m : FoundMaybe} → q ≡ true → There (tag_of name) s at q → FindsSpoken name s at x → FindsMaybe latin s x.next m
-      → FindsParty name latin s at (record { part = Present x.part; next = m.next })
+  pub party_present : {q : Bool} {x : Found Range} {m : Found (rust.Option Range)} → q ≡ true → There (tag_of name) s at q → FindsSpoken name s at x → FindsMaybe latin s x.next m
+      → FindsParty name latin s at (record { part = Some x.part; next = m.next })
   party_present h t fs fm l b c o e d fol =
       let k = there_some name (party name latin) (party_leads name latin) l fol ((there_tells l b.clash t).other h) o d in
       let x = k.0 in
@@ -130,10 +131,10 @@ module _ (x : Identification ℕ) where
 pub identification_leads : (name : List ℕ) (x : Identification ℕ) → Leads (tag_of name) (child (identification name) x)
 identification_leads name x = tag_leads name (holding name (O x · N x · D x))
 
-pub identification_found : {name s : List ℕ} {at a b n : ℕ} {o f : FoundMaybe} {y : Found} → Ends (tag name) anything s at a → Ends entering (Not is_blank) s a b
+pub identification_found : {name s : List ℕ} {at a b n : ℕ} {o f : Found (rust.Option Range)} {y : Found Range} → Ends (tag name) anything s at a → Ends entering (Not is_blank) s a b
     → FindsMaybe (bytes "IPOfficeCode") s b o → Finds (child (leaf (bytes "ApplicationNumberText"))) (Not is_blank) s o.next y
     → FindsLast (bytes "FilingDate") s y.next f → Ends (leaving name) (Not is_blank) s f.next n
-    → FindsIdentification name s at (record { office = o.part; filed = f.part; next = n })
+    → FindsIdentification name s at (record { part = record { office = o.part; filed = f.part }; next = n })
 identification_found {name} {s} p i fo fn ff l x e d fol =
     let u = held name (O x · N x · D x) (children_sharp x) p i d in
     let k2 = part (O x · N x) (D x) u.children in
@@ -143,16 +144,16 @@ identification_found {name} {s} p i fo fn ff l x e d fol =
     let ro = fo (bytes "<ApplicationNumberText" ∷ []) (record { clash = refl; sharps = refl }) x.office k1.0 k1.1 sn in
     let rn = fn x.number k2.0 (from ro.next k1.2) (starts_sharp is_blank (bytes "<FilingDate" ∷ closing) refl (drop k2.0 s) sd) in
     let rf = ff (record { clash = refl; sharps = refl }) x.filed u.end (from rn.next k2.2) u.closes in
-    record { office = ro.part; filed = rf.part; next = l.is e (from rf.next u.leaves) fol }
+    record { part = record { office = ro.part; filed = rf.part }; next = l.is e (from rf.next u.leaves) fol }
 
 module _ {name s : List ℕ} {at : ℕ} where
   pub identification_absent : {q : Bool} → q ≡ false → There (tag_of name) s at q
-      → FindsIdentificationMaybe name s at (record { office = Absent; filed = Absent; next = at })
+      → FindsIdentificationMaybe name s at (record { part = record { office = None; filed = None }; next = at })
   identification_absent h t l b o e d fol =
       let k = missing_none name (child (identification name)) (identification_leads name) (t.no h) o d in
-      rw k.0 (record { office = tt; filed = tt; next = k.1 })
+      rw k.0 (record { part = record { office = tt; filed = tt }; next = k.1 })
 
-  pub identification_present : {q : Bool} {r : FoundIdentification} → q ≡ true → There (tag_of name) s at q → FindsIdentification name s at r
+  pub identification_present : {q : Bool} {r : Found Filing} → q ≡ true → There (tag_of name) s at q → FindsIdentification name s at r
       → FindsIdentificationMaybe name s at r
   identification_present h t finds l b o e d fol =
       let k = there_some name (child (identification name)) (identification_leads name) l fol ((there_tells l b.clash t).other h) o d in

@@ -5,6 +5,7 @@ use native.Mathlib.Omega.{arith}
 use mathlib.Core.Path.{◌≡◌, refl, sym, ap, ◌∙◌, subst}
 use mathlib.Core.Bool.{Bool, true, false, ◌&&◌, not, and-eq-true_iff}
 use mathlib.Core.List.{List, [], ◌∷◌, ◌++◌, append_assoc, append-nil}
+use Rattle.std.specs.Prelude as rust
 use mathlib.Core.Option.{Option, some}
 use lib.ListN.{length, drop}
 use lib.Seq.{drop-length}
@@ -19,12 +20,13 @@ use Rattle.read_steps.specs.Follow.{Not, Starts, anything, skip}
 use Rattle.read_steps.specs.Texts.{Scanned}
 use Rattle.read_steps.proofs.Fronts.{false_true, Leads, leads_all, leads_seq, leads_less, leads_sharp, skip_blanks, skip_none, gap_blank}
 use Rattle.walk_steps.specs.Stands.{Stands, Past, others, tag_of, Ends, FindsMaybe, entering}
-use Rattle.walk_steps.specs.declared.FoundMaybe.{FoundMaybe}
+use Rattle.walk_steps.specs.declared.Range.{Range}
+use Rattle.walk_steps.specs.declared.Found.{Found}
 use Rattle.walk_steps.proofs.Places.{part, join, wider, some_each, from}
 use Rattle.walk_steps.proofs.Leaves.{starts_at, no_blank}
 use Rattle.walk_steps.proofs.Elements.{Sharp, Inside, inside, upto_ends, tag_starts, leaf_leads}
 use Rattle.walk_header.specs.Header.{FindsParty, FindsIdentificationMaybe, identified_by, titled, inventing, applying, earlier, FindsHeading, FindsParties, tag_end, FindsAttributes, any_line, Behind, FindsHeader}
-use Rattle.walk_header.specs.declared.FoundIdentification.{FoundIdentification}
+use Rattle.walk_header.specs.declared.Filing.{Filing}
 use Rattle.walk_header.specs.declared.FoundAttributes.{FoundAttributes}
 use Rattle.walk_header.specs.declared.FoundParties.{FoundParties}
 use Rattle.walk_header.proofs.Entries.{spoken_leads, party_leads, identification_leads}
@@ -47,14 +49,14 @@ headed : (h : Heading ℕ) {s : List ℕ} {at e : ℕ} → Stands (heading h) s 
 headed (reference t) {s} {at} d = join {F = lit ""} {G = child (leaf File) t} {b = at} (record { word = []; laid = refl; size = omega arith; here = refl }) d
 headed (application x t) d = d
 
-pub heading_found : {s : List ℕ} {at : ℕ} {x : FoundIdentification} {m : FoundMaybe} → FindsIdentificationMaybe Application s at x → FindsMaybe File s x.next m
-    → FindsHeading s at (record { office = x.office; filed = x.filed; next = m.next })
+pub heading_found : {s : List ℕ} {at : ℕ} {x : Found Filing} {m : Found (rust.Option Range)} → FindsIdentificationMaybe Application s at x → FindsMaybe File s x.next m
+    → FindsHeading s at (record { part = x.part; next = m.next })
 heading_found fi fm h e d fol =
     let u = part (child? (identification Application) (identified_by h)) (child? (leaf File) (referred_by h)) (headed h d) in
     let st = tag_starts File (child (leaf File)) (leaf_leads File) earlier (referred_by h) u.2 fol in
     let y = fi (tag_of File ∷ earlier) (record { clash = refl; sharps = refl }) (identified_by h) u.0 u.1 st in
     let z = fm earlier (record { clash = refl; sharps = refl }) (referred_by h) e (from y.next u.2) fol in
-    record { office = y.office; filed = y.filed; next = z.next }
+    record { part = y.part; next = z.next }
 
 heading_leads : (h : Heading ℕ) → Leads (bytes "<") (heading h)
 heading_leads (reference t) = leads_less (bytes "<") File (child (leaf File) t) (leaf_leads File t)
@@ -73,11 +75,11 @@ Applicant = party (bytes "ApplicantName") (bytes "ApplicantNameLatin")
 abbrev Inventor : Party ℕ → Form
 Inventor = party (bytes "InventorName") (bytes "InventorNameLatin")
 
-pub parties_found : {s : List ℕ} {at : ℕ} {x y : FoundIdentification} {a i : FoundMaybe} → FindsHeading s at x → FindsIdentificationMaybe Earliest s x.next y
+pub parties_found : {s : List ℕ} {at : ℕ} {x y : Found Filing} {a i : Found (rust.Option Range)} → FindsHeading s at x → FindsIdentificationMaybe Earliest s x.next y
     → FindsParty (bytes "ApplicantName") (bytes "ApplicantNameLatin") s y.next a
     → FindsParty (bytes "InventorName") (bytes "InventorNameLatin") s a.next i
     → FindsParties s at
-    (record { office = x.office; filed = x.filed; first_office = y.office; first_filed = y.filed; applicant = a.part; inventor = i.part; next = i.next })
+    (record { heading = x.part; earliest = y.part; applicant = a.part; inventor = i.part; next = i.next })
 parties_found fh fe fa fi l e d fol =
     let H = heading l.heading in
     let P = child? (identification Earliest) l.earliest in
@@ -94,10 +96,8 @@ parties_found fh fe fa fi l e d fol =
     let ra = fa inventing (record { clash = refl; sharps = refl }) (record { clash = refl; sharps = refl }) l.applicant k3.0 (from re.next k2.2) si in
     let ri = fi titled (record { clash = refl; sharps = refl }) (record { clash = refl; sharps = refl }) l.inventor e (from ra.next k3.2) fol in
     record {
-      office = rh.office;
-      filed = rh.filed;
-      first_office = re.office;
-      first_filed = re.filed;
+      heading = rh.part;
+      earliest = re.part;
       applicant = ra.part;
       inventor = ri.part;
       next = ri.next;
@@ -289,10 +289,8 @@ pub header_found : {s : List ℕ} {a b c e : ℕ} {x : FoundAttributes} {y : Fou
     (record {
       version = x.version;
       produced = x.produced;
-      office = y.office;
-      filed = y.filed;
-      first_office = y.first_office;
-      first_filed = y.first_filed;
+      heading = y.heading;
+      earliest = y.earliest;
       applicant = y.applicant;
       inventor = y.inventor;
       titles = y.next;
@@ -307,10 +305,8 @@ header_found {s} p q t fa i fp l laid =
     record {
       version = f.version;
       produced = f.produced;
-      office = g.office;
-      filed = g.filed;
-      first_office = g.first_office;
-      first_filed = g.first_filed;
+      heading = g.heading;
+      earliest = g.earliest;
       applicant = g.applicant;
       inventor = g.inventor;
       behind = subst (Behind s l) (sym g.next) o.behind;

@@ -10,15 +10,15 @@ ghost use Rattle.read_steps.specs.Follow.{Not};
 ghost use Rattle.walk_steps.specs.Stands.{Ends, Finds};
 ghost use Rattle.walk_header.specs.Header.{FindsSpoken, FindsIdentification, FindsIdentificationMaybe, FindsHeading, FindsParty, FindsAttributes, FindsParties, any_line, FindsHeader};
 
-use walk_steps::{Found, FoundMaybe, Maybe, Range};
+use walk_steps::{Found, Range};
 
 // The languageCode of a text that has one, and what follows the text.
-fn spoken(s: &[u8], at: usize, name: &[u8]) -> Found
+fn spoken(s: &[u8], at: usize, name: &[u8]) -> Found<Range>
     ensures { FindsSpoken name.now s.now at result }
 {
     let a = walk_steps::tag(s, at, name);
     let Found { part, next: b } = walk_steps::attribute(s, a, b"languageCode");
-    let Found { part: _, next: c } = walk_steps::content(s, b, at, name, true);
+    let c = walk_steps::content(s, b, at, name, true).next;
     Found {
         part,
         next: walk_steps::blanks(s, c),
@@ -33,87 +33,82 @@ pub fn title_here(s: &[u8], at: usize) -> bool
 }
 
 // The languageCode of a title.
-pub fn title(s: &[u8], at: usize) -> Found
+pub fn title(s: &[u8], at: usize) -> Found<Range>
     ensures { FindsSpoken (bytes "InventionTitle") s.now at result }
 {
     spoken(s, at, b"InventionTitle")
 }
 
-// What is asked of an identification, and what follows it.
+// What is asked of an identification: the office that it names, and the day of filing.
 #[derive(Clone, Copy)]
-pub struct FoundIdentification {
-    pub office: Maybe,
-    pub filed: Maybe,
-    pub next: usize,
+pub struct Filing {
+    pub office: Option<Range>,
+    pub filed: Option<Range>,
 }
 
-fn identification(s: &[u8], at: usize, name: &[u8]) -> FoundIdentification
+fn identification(s: &[u8], at: usize, name: &[u8]) -> Found<Filing>
     ensures { FindsIdentification name.now s.now at result }
 {
     let a = walk_steps::tag(s, at, name);
     let b = walk_steps::enter(s, a);
-    let FoundMaybe {
+    let Found {
         part: office,
         next: c,
     } = walk_steps::leaf_maybe(s, b, b"IPOfficeCode");
-    let Found { part: _, next: d } = walk_steps::leaf(s, c, b"ApplicationNumberText");
-    let FoundMaybe {
+    let d = walk_steps::leaf(s, c, b"ApplicationNumberText").next;
+    let Found {
         part: filed,
         next: e,
     } = walk_steps::last_leaf(s, d, b"FilingDate");
-    FoundIdentification {
-        office,
-        filed,
+    Found {
+        part: Filing { office, filed },
         next: walk_steps::leave(s, e, name),
     }
 }
 
-// An identification that may be missing.
-fn identification_maybe(s: &[u8], at: usize, name: &[u8]) -> FoundIdentification
+// An identification that may be missing: then it names neither.
+fn identification_maybe(s: &[u8], at: usize, name: &[u8]) -> Found<Filing>
     ensures { FindsIdentificationMaybe name.now s.now at result }
 {
     if walk_steps::opens(s, at, name) {
-        return identification(s, at, name);
-    }
-    FoundIdentification {
-        office: Maybe::Absent,
-        filed: Maybe::Absent,
-        next: at,
+        identification(s, at, name)
+    } else {
+        Found {
+            part: Filing {
+                office: None,
+                filed: None,
+            },
+            next: at,
+        }
     }
 }
 
 // The languageCode of a name that may be missing, and what follows the name and its Latin form.
-fn party_maybe(s: &[u8], at: usize, name: &[u8], latin: &[u8]) -> FoundMaybe
+fn party_maybe(s: &[u8], at: usize, name: &[u8], latin: &[u8]) -> Found<Option<Range>>
     ensures { FindsParty name.now latin.now s.now at result }
 {
     if walk_steps::opens(s, at, name) {
         let Found { part, next: a } = spoken(s, at, name);
-        let FoundMaybe { part: _, next } = walk_steps::leaf_maybe(s, a, latin);
-        return FoundMaybe {
-            part: Maybe::Present(part),
-            next,
-        };
-    }
-    FoundMaybe {
-        part: Maybe::Absent,
-        next: at,
+        Found {
+            part: Some(part),
+            next: walk_steps::leaf_maybe(s, a, latin).next,
+        }
+    } else {
+        Found {
+            part: None,
+            next: at,
+        }
     }
 }
 
 // The application's identification, if the heading has one. A heading that is only a file reference has none.
-fn heading(s: &[u8], at: usize) -> FoundIdentification
+fn heading(s: &[u8], at: usize) -> Found<Filing>
     ensures { FindsHeading s.now at result }
 {
-    let FoundIdentification {
-        office,
-        filed,
-        next: a,
-    } = identification_maybe(s, at, b"ApplicationIdentification");
-    let FoundMaybe { part: _, next } = walk_steps::leaf_maybe(s, a, b"ApplicantFileReference");
-    FoundIdentification {
-        office,
-        filed,
-        next,
+    let Found { part, next: a } = identification_maybe(s, at, b"ApplicationIdentification");
+    Found {
+        part,
+        next: walk_steps::leaf_maybe(s, a, b"ApplicantFileReference").next,
     }
 }
 
@@ -121,7 +116,7 @@ fn heading(s: &[u8], at: usize) -> FoundIdentification
 #[derive(Clone, Copy)]
 pub struct FoundAttributes {
     pub version: Range,
-    pub produced: Maybe,
+    pub produced: Option<Range>,
     pub next: usize,
 }
 
@@ -132,10 +127,10 @@ fn attributes(s: &[u8], at: usize) -> FoundAttributes
         part: version,
         next: a,
     } = walk_steps::attribute(s, at, b"dtdVersion");
-    let FoundMaybe { part: _, next: b } = walk_steps::attribute_maybe(s, a, b"fileName");
-    let FoundMaybe { part: _, next: c } = walk_steps::attribute_maybe(s, b, b"softwareName");
-    let FoundMaybe { part: _, next: d } = walk_steps::attribute_maybe(s, c, b"softwareVersion");
-    let FoundMaybe {
+    let b = walk_steps::attribute_maybe(s, a, b"fileName").next;
+    let c = walk_steps::attribute_maybe(s, b, b"softwareName").next;
+    let d = walk_steps::attribute_maybe(s, c, b"softwareVersion").next;
+    let Found {
         part: produced,
         next,
     } = walk_steps::attribute_maybe(s, d, b"productionDate");
@@ -149,41 +144,35 @@ fn attributes(s: &[u8], at: usize) -> FoundAttributes
 // What is asked of the elements before the titles.
 #[derive(Clone, Copy)]
 pub struct FoundParties {
-    pub office: Maybe,
-    pub filed: Maybe,
-    pub first_office: Maybe,
-    pub first_filed: Maybe,
-    pub applicant: Maybe,
-    pub inventor: Maybe,
+    pub heading: Filing,
+    pub earliest: Filing,
+    pub applicant: Option<Range>,
+    pub inventor: Option<Range>,
     pub next: usize,
 }
 
 fn parties(s: &[u8], at: usize) -> FoundParties
     ensures { FindsParties s.now at result }
 {
-    let FoundIdentification {
-        office,
-        filed,
+    let Found {
+        part: heading,
         next: a,
     } = heading(s, at);
-    let FoundIdentification {
-        office: first_office,
-        filed: first_filed,
+    let Found {
+        part: earliest,
         next: b,
     } = identification_maybe(s, a, b"EarliestPriorityApplicationIdentification");
-    let FoundMaybe {
+    let Found {
         part: applicant,
         next: c,
     } = party_maybe(s, b, b"ApplicantName", b"ApplicantNameLatin");
-    let FoundMaybe {
+    let Found {
         part: inventor,
         next,
     } = party_maybe(s, c, b"InventorName", b"InventorNameLatin");
     FoundParties {
-        office,
-        filed,
-        first_office,
-        first_filed,
+        heading,
+        earliest,
         applicant,
         inventor,
         next,
@@ -203,13 +192,11 @@ fn line_over(s: &[u8], at: usize) -> usize
 #[derive(Clone, Copy)]
 pub struct FoundHeader {
     pub version: Range,
-    pub produced: Maybe,
-    pub office: Maybe,
-    pub filed: Maybe,
-    pub first_office: Maybe,
-    pub first_filed: Maybe,
-    pub applicant: Maybe,
-    pub inventor: Maybe,
+    pub produced: Option<Range>,
+    pub heading: Filing,
+    pub earliest: Filing,
+    pub applicant: Option<Range>,
+    pub inventor: Option<Range>,
     pub titles: usize,
 }
 
@@ -226,10 +213,8 @@ pub fn header(s: &[u8]) -> FoundHeader
     } = attributes(s, c);
     let e = walk_steps::enter(s, d);
     let FoundParties {
-        office,
-        filed,
-        first_office,
-        first_filed,
+        heading,
+        earliest,
         applicant,
         inventor,
         next: titles,
@@ -237,10 +222,8 @@ pub fn header(s: &[u8]) -> FoundHeader
     FoundHeader {
         version,
         produced,
-        office,
-        filed,
-        first_office,
-        first_filed,
+        heading,
+        earliest,
         applicant,
         inventor,
         titles,
@@ -248,7 +231,7 @@ pub fn header(s: &[u8]) -> FoundHeader
 }
 
 // The text of SequenceTotalQuantity.
-pub fn total(s: &[u8], at: usize) -> Found
+pub fn total(s: &[u8], at: usize) -> Found<Range>
     ensures { Finds (Form.child (Form.leaf (bytes "SequenceTotalQuantity"))) (Not is_blank) s.now at result }
 {
     walk_steps::leaf(s, at, b"SequenceTotalQuantity")

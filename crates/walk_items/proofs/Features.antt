@@ -4,6 +4,7 @@ use mathlib.Core.Path.{◌≡◌, refl}
 use mathlib.Core.Bool.{Bool}
 use mathlib.Core.List.{List, [], ◌∷◌, ◌++◌}
 use mathlib.Core.Option.{Option}
+use Rattle.std.specs.Prelude as rust
 use lib.ListN.{drop}
 use Rattle.paper.specs.Bytes.{bytes, is_blank}
 use Rattle.paper.specs.Form.{Form, ◌·◌, maybe, each}
@@ -14,7 +15,6 @@ use Rattle.read_steps.proofs.Fronts.{Leads, leads_seq, leads_less, leads_by, lea
 use Rattle.walk_steps.specs.Stands.{Stands, TellsChild, Ends, Finds, FindsLast, entering, leaving, OpensSo}
 use Rattle.walk_steps.specs.declared.Range.{Range}
 use Rattle.walk_steps.specs.declared.Found.{Found}
-use Rattle.walk_steps.specs.declared.FoundMaybe.{FoundMaybe}
 use Rattle.walk_steps.specs.declared.Opened.{Opened}
 use Rattle.walk_steps.proofs.Places.{part, join, from}
 use Rattle.walk_steps.proofs.Leaves.{no_blank, text_leaves}
@@ -30,7 +30,7 @@ leaf_sharp name x F at w z =
     leads_sharp is_blank (bytes "<") (child (leaf name) x · F) refl
     (leads_seq (bytes "<") (child (leaf name) x) F (leads_less (bytes "<") name (child (leaf name) x) (leaf_leads name x))) at w z
 
-pub qualifier_found : {s : List ℕ} {at a b n : ℕ} {x : Found} {v : FoundMaybe} → Ends (tag (bytes "INSDQualifier")) anything s at a
+pub qualifier_found : {s : List ℕ} {at a b n : ℕ} {x : Found Range} {v : Found (rust.Option Range)} → Ends (tag (bytes "INSDQualifier")) anything s at a
     → Ends entering (Not is_blank) s a b → Finds (child (leaf (bytes "INSDQualifier_name"))) (Not is_blank) s b x
     → FindsLast (bytes "INSDQualifier_value") s x.next v → Ends (leaving (bytes "INSDQualifier")) (Not is_blank) s v.next n
     → MeetsQualifier s at (record { name = x.part; value = v.part; next = n })
@@ -124,7 +124,7 @@ feature_rest {s} t o =
           };
     }
 
-pub feature_found : {s : List ℕ} {at a b : ℕ} {x y : Found} {r : FoundFeature} → Ends (tag (bytes "INSDFeature")) anything s at a
+pub feature_found : {s : List ℕ} {at a b : ℕ} {x y : Found Range} {r : FoundFeature} → Ends (tag (bytes "INSDFeature")) anything s at a
     → Ends entering (Not is_blank) s a b → Finds (child (leaf (bytes "INSDFeature_key"))) (Not is_blank) s b x
     → Finds (child (leaf (bytes "INSDFeature_location"))) (Not is_blank) s x.next y → FeatureRest s x.part y.part y.next r → MeetsFeature s at r
 feature_found p i key location rest f e d fol =

@@ -1,8 +1,8 @@
 -- What stands inside what stands: an item of a list, and the features of a sequence, for whoever hasn't walked there.
 use Prim.Native.Nat.{ℕ, zero, suc}
 use native.Mathlib.Omega.{arith}
-use mathlib.Core.Path.{◌≡◌, refl, sym, ◌∙◌, subst}
-use mathlib.Core.Bool.{true, false, true≢false}
+use mathlib.Core.Path.{◌≡◌, refl, sym, subst}
+use Rattle.std.specs.Prelude.{Some, None}
 use mathlib.Core.List.{List, [], ◌∷◌}
 use mathlib.Core.Option.{Option, none, some}
 use lib.ListN.{drop}
@@ -19,6 +19,7 @@ use Rattle.walk_steps.proofs.Elements.{inside_at, held_at}
 use Rattle.walk_steps.proofs.Loops.{list_sharp}
 use Rattle.walk_items.specs.Items.{IsFeature, MeetsFeature, TableIs, IsSequence, FirstFeature}
 use Rattle.walk_items.specs.declared.FoundFeature.{FoundFeature}
+use Rattle.walk_items.specs.declared.FoundTable.{FoundTable}
 use Rattle.walk_items.specs.declared.FoundSequence.{FoundSequence}
 use Rattle.walk_items.proofs.Sequences.{D, M, B, I, T, R, Children, table_at, feature_leads}
 
@@ -109,20 +110,20 @@ first_is {f = f} {l} are y i =
 
 -- in a sequence that was found
 module _ {s : List ℕ} {q : Sequence ℕ} {e : ℕ} {r : FoundSequence} (i : IsSequence s q e r) where
-  pub first_found : {g : FoundFeature} → r.table.present ≡ true → MeetsFeature s r.table.first g → FirstFeature s q g
-  first_found {g} h m = let y = there q.table i.table in by (features_of q) refl y.0 y.1
+  pub first_found : {t : FoundTable} {g : FoundFeature} → r.table ≡ Some t → MeetsFeature s t.first g → FirstFeature s q g
+  first_found {t} {g} h m = let y = there q.table (subst (TableIs s q.table) h i.table) in by (features_of q) refl y.0 y.1
     where
-      there : (o : Option (Table ℕ)) → TableIs s o r.table → (¬ (features_in o ≡ [])) × Features s r.table.first (features_in o)
-      there none t = absurd (true≢false (sym h ∙ t))
-      there (some x) t = (t.1.some, record { end = t.1.stop; stand = t.1.features; closes = t.1.closes })
+      there : (o : Option (Table ℕ)) → TableIs s o (Some t) → (¬ (features_in o ≡ [])) × Features s t.first (features_in o)
+      there none x = absurd x
+      there (some x) d = (d.some, record { end = d.stop; stand = d.features; closes = d.closes })
 
-      by : (l : List (Feature ℕ)) → features_of q ≡ l → ¬ (l ≡ []) → Features s r.table.first l → FirstFeature s q g
+      by : (l : List (Feature ℕ)) → features_of q ≡ l → ¬ (l ≡ []) → Features s t.first l → FirstFeature s q g
       by [] are n d = absurd (n refl)
       by (f ∷ l) are n d = let y = front f l d in first_is are y (m f y.next y.stands y.follows)
 
-  pub no_features : r.table.present ≡ false → features_of q ≡ []
-  no_features h = none_in q.table i.table
+  pub no_features : r.table ≡ None → features_of q ≡ []
+  no_features h = none_in q.table (subst (TableIs s q.table) h i.table)
     where
-      none_in : (o : Option (Table ℕ)) → TableIs s o r.table → features_in o ≡ []
+      none_in : (o : Option (Table ℕ)) → TableIs s o None → features_in o ≡ []
       none_in none t = refl
-      none_in (some x) t = absurd (true≢false (sym t.0 ∙ h))
+      none_in (some x) t = absurd t

@@ -8,7 +8,7 @@ use mathlib.Core.Bool.{Bool, true, false, ◌&&◌, ◌||◌, not, and-eq-true_i
 use mathlib.Core.Logic.{◌↔◌, inl, inr}
 use mathlib.Core.List.{List, [], ◌∷◌, ◌++◌}
 use mathlib.Core.Option.{Option, none, some}
-use lib.ListN.{length, drop, get_or, length-drop}
+use lib.ListN.{length, drop, get_or, length-drop, get_or-eq_default}
 use lib.Seq.{drop-drop, get_or-drop}
 use lib.Dec.{eqb}
 use borrow.Author.Tests.{eq-eqb, ne_eqb}
@@ -171,6 +171,13 @@ module _ (s : List ℕ) where
       cases : Dec (mid ≤ k) → ⊥
       cases (yes l) = v k l j x
       cases (no l) = u k i (omega arith) x
+
+  -- nor at the last six bytes
+  pub none_behind : (from : ℕ) → length s ≤ from + 6 → (to : ℕ) → NoEnding s from to
+  none_behind from n to k i j x = absurd (zero_s (sym (get_or-eq_default s 0 {n = k + 6} (omega (arith, n, i))) ∙ x.1))
+    where
+      zero_s : ◌≡◌ {A = ℕ} 0 83 → ⊥
+      zero_s e = omega (arith, e)
 
 -- past places where no end starts
 pub ending_later : {s : List ℕ} {from at r : ℕ} → from ≤ at → NoEnding s from at → FirstEnding s at r → FirstEnding s from r

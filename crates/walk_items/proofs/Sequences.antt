@@ -3,6 +3,8 @@ use Prim.Native.Nat.{ℕ}
 use mathlib.Core.Path.{◌≡◌, refl, sym}
 use mathlib.Core.Bool.{Bool, true, false}
 use mathlib.Core.List.{List, ◌∷◌, ◌++◌}
+use Rattle.std.specs.Prelude.{Some, None}
+use Rattle.std.specs.Prelude as rust
 use mathlib.Core.Option.{Option, none, some}
 use lib.ListN.{drop}
 use Rattle.paper.specs.Bytes.{bytes, is_blank}
@@ -14,7 +16,7 @@ use Rattle.read_steps.specs.Follow.{Not, Starts, anything, closing}
 use Rattle.read_steps.proofs.Fronts.{Leads, leads_all, leads_seq, leads_less, leads_by, leads_sharp, whole, maybe_starts, each_starts, starts_sharp}
 use Rattle.walk_steps.specs.Stands.{Stands, Ends, Over, Finds, FindsMaybe, entering, leaving, shutting, OpensSo, FindsAttribute}
 use Rattle.walk_steps.specs.declared.Found.{Found}
-use Rattle.walk_steps.specs.declared.FoundMaybe.{FoundMaybe}
+use Rattle.walk_steps.specs.declared.Range.{Range}
 use Rattle.walk_steps.specs.declared.Opened.{Opened}
 use Rattle.walk_steps.proofs.Places.{part, join, wider, some_each, some_not, from}
 use Rattle.walk_steps.proofs.Leaves.{starts_at, no_blank}
@@ -22,7 +24,6 @@ use Rattle.walk_steps.proofs.Elements.{Sharp, inside, held, within, missing_none
 use Rattle.walk_items.specs.Items.{MeetsQualifier, MeetsFeature, PassesFeature, feature_tail, FindsIds, FindsTable, MeetsSequence, residues_next, table_next, table_closing}
 use Rattle.walk_items.specs.declared.FoundQualifier.{FoundQualifier}
 use Rattle.walk_items.specs.declared.FoundFeature.{FoundFeature}
-use Rattle.walk_items.specs.declared.FoundIds.{FoundIds}
 use Rattle.walk_items.specs.declared.FoundTable.{FoundTable}
 
 -- ---- passed over
@@ -63,14 +64,14 @@ id_sharp o at w z d c =
     (maybe_starts whole (bytes "<INSDSeqid") (child (leaf (bytes "INSDSeqid"))) (leads_by (bytes "<INSDSeqid") (child (leaf (bytes "INSDSeqid"))) (leaf_leads (bytes "INSDSeqid")))
     closing o at w z d c)
 
-pub ids_found : {s : List ℕ} {at n : ℕ} {here : Bool} {r : Opened} {x : FoundMaybe} → There (bytes "<INSDSeq_other-seqids") s at here → OpensSo (bytes "INSDSeq_other-seqids") here s at r → FindsMaybe (bytes "INSDSeqid") s r.first x
-    → Ends (shutting (bytes "INSDSeq_other-seqids") r.long) (Not is_blank) s x.next n → FindsIds s at (record { present = r.present; next = n })
+pub ids_found : {s : List ℕ} {at n : ℕ} {here : Bool} {r : Opened} {x : Found (rust.Option Range)} → There (bytes "<INSDSeq_other-seqids") s at here → OpensSo (bytes "INSDSeq_other-seqids") here s at r → FindsMaybe (bytes "INSDSeqid") s r.first x
+    → Ends (shutting (bytes "INSDSeq_other-seqids") r.long) (Not is_blank) s x.next n → FindsIds s at (record { part = here; next = n })
 ids_found {s} h o f t g e d fol =
     let c = within (bytes "INSDSeq_other-seqids") (λ (x : Option (Text ℕ)). x ≡ none) (child? (leaf (bytes "INSDSeqid"))) id_sharp
     (λ (y : Option (Option (Text ℕ))). child? (leaf (bytes "INSDSeqid")) (flat y)) (λ at. refl) (λ l h at. rw h refl) (λ l at w g. g)
     table_next refl fol (there_tells table_next refl h) o g d in
     let y = f (bytes "</" ∷ table_next) (record { clash = refl; sharps = refl }) (flat g) c.0.stop c.0.children c.0.follows in
-    record { present = c.1; next = t.is e (from y.next c.0.ends) (starts_sharp is_blank table_next refl (drop e s) fol) }
+    record { part = c.1; next = t.is e (from y.next c.0.ends) (starts_sharp is_blank table_next refl (drop e s) fol) }
 
 -- ---- a feature table
 
@@ -99,14 +100,14 @@ table_leads t = leads_seq (bytes "<INSDSeq_feature-table") (table t) blanks (λ 
 
 module _ {s : List ℕ} {at : ℕ} where
   pub table_absent : {q : Bool} → q ≡ false → There (bytes "<INSDSeq_feature-table") s at q
-      → FindsTable s at (record { present = false; place = at; first = at; next = at })
+      → FindsTable s at (record { part = None; next = at })
   table_absent h t o e d fol =
       let k = missing_none (bytes "INSDSeq_feature-table") (child table) table_leads (t.no h) o d in
-      record { table = rw k.0 refl; next = k.1 }
+      record { table = rw k.0 tt; next = k.1 }
 
   pub table_present : {q : Bool} {a b c n : ℕ} → q ≡ true → There (bytes "<INSDSeq_feature-table") s at q → Ends (tag (bytes "INSDSeq_feature-table")) anything s at a
       → Ends entering (Not is_blank) s a b → Over (each (child feature)) (Starts table_closing) s b c → Ends (leaving (bytes "INSDSeq_feature-table")) (Not is_blank) s c n
-      → FindsTable s at (record { present = true; place = at; first = b; next = n })
+      → FindsTable s at (record { part = Some (record { place = at; first = b }); next = n })
   table_present h t p i f l o e d fol =
       let k = there_some (bytes "INSDSeq_feature-table") (child table) table_leads residues_next fol ((there_tells residues_next refl t).other h) o d in
       let x = k.0 in
@@ -114,7 +115,7 @@ module _ {s : List ℕ} {at : ℕ} where
       let u = held (bytes "INSDSeq_feature-table") (each⁺ (child feature) x.features) (features_sharp x.features) p i y.1 in
       let g = wider (some_each (child feature) x.features) u.children in
       record {
-        table = rw k.1 (refl, record { is = y.0; some = some_not (child feature) x.features u.children; stop = u.end; features = g; closes = u.closes });
+        table = rw k.1 (record { is = y.0; some = some_not (child feature) x.features u.children; stop = u.end; features = g; closes = u.closes });
         next = l.is e (from (f.is x.features u.end g (table_closes u.leaves)) u.leaves) (starts_sharp is_blank residues_next refl (drop e s) fol);
       }
 
@@ -157,7 +158,7 @@ module _ (q : Sequence ℕ) where
 ids_leads : (o : Option (Text ℕ)) → Leads (bytes "<INSDSeq_other-seqids") (child other_ids o)
 ids_leads o = tag_leads (bytes "INSDSeq_other-seqids") (holding? (bytes "INSDSeq_other-seqids") (o ≡ none) (child? (leaf (bytes "INSDSeqid")) o))
 
-pub sequence_found : {s : List ℕ} {at a b c d g h : ℕ} {xn xd xm xb xr : Found} {ids : FoundIds} {tb : FoundTable}
+pub sequence_found : {s : List ℕ} {at a b c d g h : ℕ} {xn xd xm xb xr : Found Range} {ids : Found Bool} {tb : Found (rust.Option FoundTable)}
     → Ends (tag (bytes "SequenceData")) anything s at a → FindsAttribute (bytes "sequenceIDNumber") s a xn → Ends entering (Not is_blank) s xn.next b
     → Ends (tag (bytes "INSDSeq")) anything s b c → Ends entering (Not is_blank) s c d
     → Finds (child (leaf (bytes "INSDSeq_length"))) (Not is_blank) s d xd → Finds (child (leaf (bytes "INSDSeq_moltype"))) (Not is_blank) s xd.next xm
@@ -165,7 +166,7 @@ pub sequence_found : {s : List ℕ} {at a b c d g h : ℕ} {xn xd xm xb xr : Fou
     → Finds (child (leaf (bytes "INSDSeq_sequence"))) (Not is_blank) s tb.next xr
     → Ends (leaving (bytes "INSDSeq")) (Not is_blank) s xr.next g → Ends (leaving (bytes "SequenceData")) (Not is_blank) s g h
     → MeetsSequence s at
-    (record { number = xn.part; declared = xd.part; moltype = xm.part; division = xb.part; ids = ids.present; table = tb; residues = xr.part; next = h })
+    (record { number = xn.part; declared = xd.part; moltype = xm.part; division = xb.part; ids = ids.part; table = tb.part; residues = xr.part; next = h })
 sequence_found {s} {xn = xn} p pn i p' i' fd fm fb fi ft fr l l' q e st fol =
     let A = attribute (bytes "sequenceIDNumber") q.number in
     let u = part (sequence q) blanks st in
@@ -196,7 +197,7 @@ sequence_found {s} {xn = xn} p pn i p' i' fd fm fb fi ft fr l l' q e st fol =
       declared = rd.part;
       moltype = rm.part;
       division = rb.part;
-      ids = ri.present;
+      ids = ri.part;
       table = rt.table;
       residues = rr.part;
       next = l'.is e (from eg o.leaves) fol;

@@ -1,5 +1,6 @@
 -- What is promised of a walk along the items of a listing: qualifiers, features and sequences.
-use Rattle.std.specs.Prelude.{ℕ, ◌+◌, ◌≤◌, ◌<◌, ◌≡◌, Bool, true, false, List, [], ◌∷◌, length, drop, get_or}
+use Rattle.std.specs.Prelude.{ℕ, ◌+◌, ◌≤◌, ◌<◌, ◌≡◌, Bool, true, false, List, [], ◌∷◌, length, drop, get_or, Some, None}
+use Rattle.std.specs.Prelude as rust
 use Rattle.std.proofs.Math.Option.{Option, none, some}
 use Rattle.paper.specs.Bytes.{bytes, is_blank}
 use Rattle.paper.specs.Form.{Form, ◌·◌, each}
@@ -8,10 +9,10 @@ use Rattle.paper.specs.Layout.{child, child?, qualifier, quals, feature, table, 
 use Rattle.read_steps.specs.Follow.{Not, Starts, closing}
 use Rattle.walk_steps.specs.Stands.{Stands, IsPart, MaybeIs, leaving, shutting, is_there}
 use Rattle.walk_steps.specs.declared.Range.{Range}
+use Rattle.walk_steps.specs.declared.Found.{Found}
 use Rattle.walk_items.specs.declared.FoundQualifier.{FoundQualifier}
 use Rattle.walk_items.specs.declared.FoundFeature.{FoundFeature}
 use Rattle.walk_items.specs.declared.FoundTable.{FoundTable}
-use Rattle.walk_items.specs.declared.FoundIds.{FoundIds}
 use Rattle.walk_items.specs.declared.FoundSequence.{FoundSequence}
 
 -- ---- qualifiers and features
@@ -89,11 +90,11 @@ residues_next = bytes "<INSDSeq_sequence" ∷ []
 abbrev pub table_next : List (List ℕ)
 table_next = bytes "<INSDSeq_feature-table" ∷ residues_next
 
-pub record IsIds (o : Option (Option (Text ℕ))) (e : ℕ) (r : FoundIds) : Type 0 where
-  pub present : r.present ≡ is_there o
+pub record IsIds (o : Option (Option (Text ℕ))) (e : ℕ) (r : Found Bool) : Type 0 where
+  pub part : r.part ≡ is_there o
   pub next : r.next ≡ e
 
-abbrev pub FindsIds : List ℕ → ℕ → FoundIds → Type 0
+abbrev pub FindsIds : List ℕ → ℕ → Found Bool → Type 0
 FindsIds s at r = (o : Option (Option (Text ℕ))) (e : ℕ) → Stands (child? other_ids o) s at e → Starts table_next (drop e s) → IsIds o e r
 
 -- the features of the table t stand from `at` on, one at least
@@ -104,15 +105,17 @@ pub record TableAt (s : List ℕ) (t : Table ℕ) (place at : ℕ) : Type 0 wher
   pub features : Stands (each (child feature) t.features) s at stop
   pub closes : Starts closing (drop stop s)
 
-abbrev pub TableIs : List ℕ → Option (Table ℕ) → FoundTable → Type 0
-TableIs s none r = r.present ≡ false
-TableIs s (some t) r = (r.present ≡ true) × TableAt s t r.place r.first
+abbrev pub TableIs : List ℕ → Option (Table ℕ) → rust.Option FoundTable → Type 0
+TableIs s none None = Unit {0}
+TableIs s none (Some r) = ⊥
+TableIs s (some t) None = ⊥
+TableIs s (some t) (Some r) = TableAt s t r.place r.first
 
-pub record IsTable (s : List ℕ) (o : Option (Table ℕ)) (e : ℕ) (r : FoundTable) : Type 0 where
-  pub table : TableIs s o r
+pub record IsTable (s : List ℕ) (o : Option (Table ℕ)) (e : ℕ) (r : Found (rust.Option FoundTable)) : Type 0 where
+  pub table : TableIs s o r.part
   pub next : r.next ≡ e
 
-abbrev pub FindsTable : List ℕ → ℕ → FoundTable → Type 0
+abbrev pub FindsTable : List ℕ → ℕ → Found (rust.Option FoundTable) → Type 0
 FindsTable s at r = (o : Option (Table ℕ)) (e : ℕ) → Stands (child? table o) s at e → Starts residues_next (drop e s) → IsTable s o e r
 
 pub record IsSequence (s : List ℕ) (q : Sequence ℕ) (e : ℕ) (r : FoundSequence) : Type 0 where

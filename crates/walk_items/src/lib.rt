@@ -11,14 +11,14 @@ ghost use Rattle.read_steps.specs.Follow.{Not, Starts, closing};
 ghost use Rattle.walk_steps.specs.Stands.{Ends, Over};
 ghost use Rattle.walk_items.specs.Items.{MeetsQualifier, MeetsFeature, FeatureRest, FeatureFrom, PassesFeature, feature_tail, Ending, Endings, FirstEnding, table_closing, FindsTable, FindsIds, MeetsSequence};
 
-use walk_steps::{Found, FoundMaybe, Maybe, Opened, Range};
+use walk_steps::{Found, Opened, Range};
 
 // ---- qualifiers and features
 
 #[derive(Clone, Copy)]
 pub struct FoundQualifier {
     pub name: Range,
-    pub value: Maybe,
+    pub value: Option<Range>,
     pub next: usize,
 }
 
@@ -31,7 +31,7 @@ pub fn qualifier(s: &[u8], at: usize) -> FoundQualifier
         part: name,
         next: c,
     } = walk_steps::leaf(s, b, b"INSDQualifier_name");
-    let FoundMaybe {
+    let Found {
         part: value,
         next: d,
     } = walk_steps::last_leaf(s, c, b"INSDQualifier_value");
@@ -55,11 +55,12 @@ pub struct FoundFeature {
 fn feature_rest(s: &[u8], key: Range, location: Range, at: usize) -> FoundFeature
     ensures { FeatureRest s.now key location at result }
 {
-    let Opened {
-        present: _,
-        long,
-        first: quals,
-    } = walk_steps::children(s, at, b"INSDFeature_quals", walk_steps::child_here(s, at));
+    let Opened { long, first: quals } = walk_steps::children(
+        s,
+        at,
+        b"INSDFeature_quals",
+        walk_steps::child_here(s, at),
+    );
     FoundFeature {
         key,
         location,
@@ -97,34 +98,27 @@ pub fn feature_end(s: &[u8], at: usize, long: bool) -> usize
     walk_steps::leave(s, a, b"INSDFeature")
 }
 
-// Past the qualifiers that stand here.
+// Past the qualifiers that stand here. Only a qualifier says where the next one starts, so it is a while; that each is longer than
+// nothing is asked so that the loop ends, whatever the bytes are.
 pub fn qualifiers_over(s: &[u8], first: usize) -> usize
     ensures { Over (each (Form.child Form.qualifier)) (Starts closing) s.now first result }
 {
     let mut at = first;
-    loop {
-        if walk_steps::child_here(s, at) {
-            let FoundQualifier {
-                name: _,
-                value: _,
-                next,
-            } = qualifier(s, at);
-            if next <= at {
-                return at;
-            }
-            at = next;
-        } else {
+    while walk_steps::child_here(s, at) {
+        let next = qualifier(s, at).next;
+        if next <= at {
             return at;
         }
+        at = next;
     }
+    at
 }
 
 // Past a feature that was found.
 pub fn feature_past(s: &[u8], feature: FoundFeature) -> usize
     ensures { PassesFeature s.now feature result }
 {
-    let a = qualifiers_over(s, feature.quals);
-    feature_end(s, a, feature.long)
+    feature_end(s, qualifiers_over(s, feature.quals), feature.long)
 }
 
 // Past a feature.
@@ -141,12 +135,7 @@ pub fn feature_over(s: &[u8], at: usize) -> usize
 fn ending(a: u8, b: u8) -> u8
     ensures { Ending a b result }
 {
-    if a == b'<' {
-        if b == b'S' {
-            return 1;
-        }
-    }
-    0
+    u8::from(a == b'<' && b == b'S')
 }
 
 // 0 only where the table ends at none of 64 places. With no branch, and no sum: so it is compiled to plain vector code.
@@ -154,11 +143,9 @@ fn endings(s: &[u8], at: usize) -> u8
     requires { at + 70 ≤ length s.now }
     ensures { Endings s.now at result }
 {
-    let mut any: u8 = 0;
-    let mut j: usize = 0;
-    while j < 64 {
-        any = any | ending(s[at + j], s[at + j + 6]);
-        j += 1;
+    let mut any = 0;
+    for j in 0..64 {
+        any |= ending(s[at + j], s[at + j + 6]);
     }
     any
 }
@@ -168,17 +155,16 @@ fn ending_from(s: &[u8], at: usize) -> usize
     requires { at ≤ length s.now }
     ensures { FirstEnding s.now at result }
 {
-    let mut i = at;
-    while 6 < s.len() - i {
+    for i in at..s.len().saturating_sub(6) {
         if ending(s[i], s[i + 6]) != 0 {
             return i;
         }
-        i += 1;
     }
-    i
+    s.len()
 }
 
-// Past the features that stand here: they aren't read, only their end is sought.
+// Past the features that stand here: they aren't read, only their end is sought, by 64 places. A test reads six bytes behind its
+// places, so chunks of s don't fit.
 fn table_end(s: &[u8], first: usize) -> usize
     ensures { Over (each (Form.child Form.feature)) (Starts table_closing) s.now first result }
 {
@@ -197,60 +183,42 @@ fn table_end(s: &[u8], first: usize) -> usize
 
 // ---- sequences
 
-// A feature table that may be missing: its place, and where its features stand.
+// A feature table: its place, and where its features stand.
 #[derive(Clone, Copy)]
 pub struct FoundTable {
-    pub present: bool,
     pub place: usize,
     pub first: usize,
-    pub next: usize,
 }
 
-fn table(s: &[u8], at: usize) -> FoundTable
+// A feature table that may be missing.
+fn table(s: &[u8], at: usize) -> Found<Option<FoundTable>>
     ensures { FindsTable s.now at result }
 {
     if walk_steps::opens(s, at, b"INSDSeq_feature-table") {
         let a = walk_steps::tag(s, at, b"INSDSeq_feature-table");
         let first = walk_steps::enter(s, a);
         let b = table_end(s, first);
-        return FoundTable {
-            present: true,
-            place: at,
-            first,
+        Found {
+            part: Some(FoundTable { place: at, first }),
             next: walk_steps::leave(s, b, b"INSDSeq_feature-table"),
-        };
-    }
-    FoundTable {
-        present: false,
-        place: at,
-        first: at,
-        next: at,
+        }
+    } else {
+        Found {
+            part: None,
+            next: at,
+        }
     }
 }
 
-// Past other-seqids, and whether they are there.
-#[derive(Clone, Copy)]
-pub struct FoundIds {
-    pub present: bool,
-    pub next: usize,
-}
-
-fn other_ids(s: &[u8], at: usize) -> FoundIds
+// Whether other-seqids are there.
+fn other_ids(s: &[u8], at: usize) -> Found<bool>
     ensures { FindsIds s.now at result }
 {
-    let Opened {
-        present,
-        long,
-        first,
-    } = walk_steps::children(
-        s,
-        at,
-        b"INSDSeq_other-seqids",
-        walk_steps::opens(s, at, b"INSDSeq_other-seqids"),
-    );
-    let FoundMaybe { part: _, next } = walk_steps::leaf_maybe(s, first, b"INSDSeqid");
-    FoundIds {
-        present,
+    let present = walk_steps::opens(s, at, b"INSDSeq_other-seqids");
+    let Opened { long, first } = walk_steps::children(s, at, b"INSDSeq_other-seqids", present);
+    let Found { part: _, next } = walk_steps::leaf_maybe(s, first, b"INSDSeqid");
+    Found {
+        part: present,
         next: walk_steps::shut(s, next, b"INSDSeq_other-seqids", long),
     }
 }
@@ -262,7 +230,7 @@ pub struct FoundSequence {
     pub moltype: Range,
     pub division: Range,
     pub ids: bool,
-    pub table: FoundTable,
+    pub table: Option<FoundTable>,
     pub residues: Range,
     pub next: usize,
 }
@@ -290,14 +258,9 @@ pub fn sequence(s: &[u8], at: usize) -> FoundSequence
         part: division,
         next: h,
     } = walk_steps::leaf(s, g, b"INSDSeq_division");
-    let FoundIds {
-        present: ids,
-        next: i,
-    } = other_ids(s, h);
-    let FoundTable {
-        present,
-        place,
-        first,
+    let Found { part: ids, next: i } = other_ids(s, h);
+    let Found {
+        part: table,
         next: j,
     } = table(s, i);
     let Found {
@@ -311,12 +274,7 @@ pub fn sequence(s: &[u8], at: usize) -> FoundSequence
         moltype,
         division,
         ids,
-        table: FoundTable {
-            present,
-            place,
-            first,
-            next: j,
-        },
+        table,
         residues,
         next: walk_steps::leave(s, l, b"SequenceData"),
     }

@@ -1,11 +1,12 @@
 -- The item of a number: what is left of the list at the place that the loop has reached, and how many of it are still to be passed.
-use Prim.Native.Nat.{ℕ, zero, suc, ◌≤◌}
+use Prim.Native.Nat.{ℕ, zero, suc}
 use native.Mathlib.Omega.{arith}
 use mathlib.Core.Path.{◌≡◌, refl, subst}
 use mathlib.Core.Bool.{Bool, true, false}
 use mathlib.Core.Logic.{◌↔◌}
 use mathlib.Core.List.{List, ◌∷◌}
 use lib.ListN.{drop}
+use Rattle.std.specs.Prelude.{Some, None}
 use Rattle.paper.specs.Bytes.{is_blank}
 use Rattle.paper.specs.Lists.{Nth, Numbered}
 use Rattle.paper.specs.Form.{Form, each}
@@ -24,7 +25,6 @@ use Rattle.walk_items.proofs.Sequences.{sequence_leads, feature_leads}
 use Rattle.walk_seek.specs.Items.{Asked, name_of, form_of, Seeks}
 use Rattle.walk_seek.specs.declared.Item.{Item}
 use Rattle.walk_seek.specs.declared.Item.TheVariants.{Sequence, Feature, Qualifier}
-use Rattle.walk_seek.specs.declared.Place.TheVariants.{Missing, At}
 
 pub sequence_over : {s : List ℕ} {at : ℕ} {r : FoundSequence} → MeetsSequence s at r → Over (child layout.sequence) (Not is_blank) s at r.next
 sequence_over f = record { is = λ q e d fol. (f q e d fol).next }
@@ -63,7 +63,7 @@ front em en = rw (em, en) (0, refl, refl)
 
 module _ (item : Item) {s : List ℕ} {first k : ℕ} where
   -- numbers count from 1
-  pub none_zero : k ≡ 0 → Seeks item s first k Missing
+  pub none_zero : k ≡ 0 → Seeks item s first k None
   none_zero h = record { says = λ l e d fol x y. omega (arith, h, y.1) }
 
   pub ahead_all : {n : ℕ} → k ≡ suc n → Ahead item s first k first n
@@ -77,7 +77,7 @@ module _ (item : Item) {s : List ℕ} {first k : ℕ} where
         let r = w.says l e d fol in
         left_some (name_of item) (form_of item) (leads item) closing (apart item) h (there.tells (name_of item) (apart item).clash) fol r.rest r.stands
 
-    pub ahead_none : t ≡ false → Seeks item s first k Missing
+    pub ahead_none : t ≡ false → Seeks item s first k None
     ahead_none h =
         record {
           says =
@@ -86,7 +86,7 @@ module _ (item : Item) {s : List ℕ} {first k : ℕ} where
               (subst (λ (m : List (Asked item)). Numbered m (suc ahead) x) (left_none (name_of item) (form_of item) (leads item) closing h (there.tells (name_of item) (apart item).clash) r.rest r.stands).0 ((r.same x).0 y)).2;
         }
 
-    pub ahead_here : t ≡ true → ahead ≡ 0 → Seeks item s first k (At at)
+    pub ahead_here : t ≡ true → ahead ≡ 0 → Seeks item s first k (Some at)
     ahead_here h z =
         record {
           says =
@@ -102,27 +102,16 @@ module _ (item : Item) {s : List ℕ} {first k : ℕ} where
               };
         }
 
-    module _ {n : ℕ} (h : t ≡ true) (over : Over (form_of item) (Not is_blank) s at n) where
-      pub ahead_next : {b : ℕ} → ahead ≡ suc b → Ahead item s first k n b
-      ahead_next less =
-          record {
-            says =
-                λ l e d fol.
-                let r = w.says l e d fol in
-                let i = first_item h l e d fol in
-                record {
-                  rest = i.others;
-                  stands = from (over.is i.item i.end i.here i.follows) i.behind;
-                  same = λ x. let f = further i.is less x in (λ y. f.0 ((r.same x).0 y), λ y. (r.same x).1 (f.1 y));
-                };
-          }
-
-      -- an item is never empty
-      pub ahead_stuck : n ≤ at → Seeks item s first k Missing
-      ahead_stuck stuck =
-          record {
-            says =
-                λ l e d fol.
-                let i = first_item h l e d fol in
-                absurd (omega (arith, stuck, i.onward, over.is i.item i.end i.here i.follows));
-          }
+    pub ahead_next : {n : ℕ} → t ≡ true → Over (form_of item) (Not is_blank) s at n → {b : ℕ} → ahead ≡ suc b → Ahead item s first k n b
+    ahead_next h over less =
+        record {
+          says =
+              λ l e d fol.
+              let r = w.says l e d fol in
+              let i = first_item h l e d fol in
+              record {
+                rest = i.others;
+                stands = from (over.is i.item i.end i.here i.follows) i.behind;
+                same = λ x. let f = further i.is less x in (λ y. f.0 ((r.same x).0 y), λ y. (r.same x).1 (f.1 y));
+              };
+        }

@@ -1,16 +1,13 @@
 -- What is promised of the feature of a sequence that was found, and of the qualifier of a feature that was found: which of the paper's
 -- tree it is.
-use Rattle.std.specs.Prelude.{ℕ, ◌≡◌, List}
+use Rattle.std.specs.Prelude.{ℕ, ◌≡◌, Result, Ok, Err, List}
+use Rattle.paper.specs.declared.Refused.{Refused}
 use Rattle.paper.specs.Lists.{Numbered}
 use Rattle.paper.specs.Tree.{Qualifier, Feature, Sequence, features_of, qualifiers_of}
 use Rattle.walk_items.specs.Items.{IsSequence, IsFeature, IsQualifier}
 use Rattle.walk_items.specs.declared.FoundSequence.{FoundSequence}
 use Rattle.walk_items.specs.declared.FoundFeature.{FoundFeature}
 use Rattle.walk_items.specs.declared.FoundQualifier.{FoundQualifier}
-use Rattle.walk_seek.specs.declared.FeatureAt.{FeatureAt}
-use Rattle.walk_seek.specs.declared.FeatureAt.TheVariants as feature
-use Rattle.walk_seek.specs.declared.QualifierAt.{QualifierAt}
-use Rattle.walk_seek.specs.declared.QualifierAt.TheVariants as qualifier
 
 -- ---- a feature
 
@@ -22,12 +19,12 @@ pub record FeatureHere (w : List ℕ) (q : Sequence ℕ) (j : ℕ) (f : FoundFea
   pub is : IsFeature w asked end f
 
 -- in whichever sequence was found so
-abbrev pub FeatureIn : List ℕ → Sequence ℕ → FoundSequence → ℕ → FeatureAt → Type 0
-FeatureIn w q r j (feature.Refused n p) = (n ≡ 32) × (p ≡ 0) × ((f : Feature ℕ) → ¬ Numbered (features_of q) j f)
-FeatureIn w q r j (feature.Found s f) = (s ≡ r) × FeatureHere w q j f
+abbrev pub FeatureIn : List ℕ → Sequence ℕ → ℕ → Result FoundFeature Refused → Type 0
+FeatureIn w q j (Err x) = (x.rule ≡ 32) × (x.place ≡ 0) × ((f : Feature ℕ) → ¬ Numbered (features_of q) j f)
+FeatureIn w q j (Ok f) = FeatureHere w q j f
 
-pub record FeatureFound (w : List ℕ) (r : FoundSequence) (j : ℕ) (y : FeatureAt) : Type 0 where
-  pub says : (q : Sequence ℕ) (e : ℕ) → IsSequence w q e r → FeatureIn w q r j y
+pub record FeatureFound (w : List ℕ) (r : FoundSequence) (j : ℕ) (y : Result FoundFeature Refused) : Type 0 where
+  pub says : (q : Sequence ℕ) (e : ℕ) → IsSequence w q e r → FeatureIn w q j y
 
 -- ---- a qualifier
 
@@ -37,9 +34,9 @@ pub record QualifierHere (w : List ℕ) (f : Feature ℕ) (i : ℕ) (r : FoundQu
   pub end : ℕ
   pub is : IsQualifier w asked end r
 
-abbrev pub QualifierIn : List ℕ → Feature ℕ → ℕ → QualifierAt → Type 0
-QualifierIn w f i (qualifier.Refused n p) = (n ≡ 33) × (p ≡ 0) × ((q : Qualifier ℕ) → ¬ Numbered (qualifiers_of f) i q)
-QualifierIn w f i (qualifier.Found r) = QualifierHere w f i r
+abbrev pub QualifierIn : List ℕ → Feature ℕ → ℕ → Result FoundQualifier Refused → Type 0
+QualifierIn w f i (Err x) = (x.rule ≡ 33) × (x.place ≡ 0) × ((q : Qualifier ℕ) → ¬ Numbered (qualifiers_of f) i q)
+QualifierIn w f i (Ok r) = QualifierHere w f i r
 
-pub record QualifierFound (w : List ℕ) (g : FoundFeature) (i : ℕ) (y : QualifierAt) : Type 0 where
+pub record QualifierFound (w : List ℕ) (g : FoundFeature) (i : ℕ) (y : Result FoundQualifier Refused) : Type 0 where
   pub says : (f : Feature ℕ) (e : ℕ) → IsFeature w f e g → QualifierIn w f i y

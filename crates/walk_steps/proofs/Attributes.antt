@@ -1,5 +1,6 @@
 -- An attribute, and one that may be missing, found again.
 use Rattle.std.proofs.Common.{◌≡◌, ℕ, ◌+◌, ◌<◌, Bool, true, false, List, [], ◌∷◌, ◌++◌, length, drop, sym, refl, ap, ◌∙◌, arith, drop-drop}
+use Rattle.std.specs.Prelude.{Some, None}
 use mathlib.Core.Option.{Option}
 use lib.Seq.{drop-append_seam}
 use Rattle.paper.specs.Bytes.{bytes, is_blank, is_printed, all}
@@ -13,8 +14,8 @@ use Rattle.read_steps.specs.Texts.{Scanned}
 use Rattle.read_steps.proofs.Fronts.{leads_all, leads_sharp, named_sharp, gap_blank}
 use Rattle.read_tags.proofs.Tags.{attribute_leads}
 use Rattle.walk_steps.specs.Stands.{Stands, Past, others, IsMaybe, FindsAttribute, FindsAttributeMaybe}
+use Rattle.walk_steps.specs.declared.Range.{Range}
 use Rattle.walk_steps.specs.declared.Found.{Found}
-use Rattle.walk_steps.specs.declared.Maybe.TheVariants.{Absent, Present}
 use Rattle.walk_steps.proofs.Places.{part, these_inside, before, from, past_these, split, scan_end}
 use Rattle.walk_steps.proofs.Leaves.{no_blank, text_found, free_quote}
 use Rattle.walk_steps.proofs.Elements.{absent_by, present_by, starts_by}
@@ -63,15 +64,15 @@ named_long [] n = absurd n
 named_long (b ∷ x) n = omega arith
 
 module _ (name : List ℕ) {s : List ℕ} {at h : ℕ} (c : Scanned is_blank s at (length s) h) where
-  pub attribute_absent : {q : Bool} → q ≡ false → There name s h q → FindsAttributeMaybe name s at (record { part = Absent; next = at })
+  pub attribute_absent : {q : Bool} → q ≡ false → There name s h q → FindsAttributeMaybe name s at (record { part = None; next = at })
   attribute_absent k t named l other o e d fol =
-      absent_by skip name (attribute name) (attribute_leads name (named_sharp name named)) (λ (i : Option (Text ℕ)) (j : ℕ). IsMaybe s i j (record { part = Absent; next = at }))
+      absent_by skip name (attribute name) (attribute_leads name (named_sharp name named)) (λ (i : Option (Text ℕ)) (j : ℕ). IsMaybe s i j (record { part = None; next = at }))
       (λ y g. t.no k (stands_long (named_long name named) y (sym (skip_at c) ∙ g))) (record { part = tt; next = refl }) o e d
 
-  pub attribute_present : {q : Bool} {r : Found} → q ≡ true → There name s h q → FindsAttribute name s at r
-      → FindsAttributeMaybe name s at (record { part = Present r.part; next = r.next })
+  pub attribute_present : {q : Bool} {r : Found Range} → q ≡ true → There name s h q → FindsAttribute name s at r
+      → FindsAttributeMaybe name s at (record { part = Some r.part; next = r.next })
   attribute_present {r = r} k t finds named l other =
-      present_by skip name (attribute name) (attribute_leads name (named_sharp name named)) (λ (i : Option (Text ℕ)) (j : ℕ). IsMaybe s i j (record { part = Present r.part; next = r.next }))
+      present_by skip name (attribute name) (attribute_leads name (named_sharp name named)) (λ (i : Option (Text ℕ)) (j : ℕ). IsMaybe s i j (record { part = Some r.part; next = r.next }))
       l other (drop (h + length name) s, skip_at c ∙ (t.yes k).here) (λ a j d n. let f = finds named a j d tt in record { part = f.part; next = f.next })
 
 pub attribute_starts : (name : List ℕ) → sharp is_blank (name ∷ []) ≡ true → (l : List (List ℕ)) (o : Option (Text ℕ)) {s : List ℕ} {at e : ℕ}

@@ -1,5 +1,7 @@
 -- Elements that hold elements: where their children stand, and where they end.
-use Rattle.std.proofs.Common.{◌≡◌, ℕ, ◌+◌, ◌<◌, ◌≤◌, Bool, true, false, cond, ◌&&◌, eqb, List, [], ◌∷◌, ◌++◌, length, get_or, drop, sym, refl, ap, ◌∙◌, subst, inl, inr, true≢false, append_assoc, arith, get_or-drop, eq-eqb}
+use Rattle.std.specs.Prelude as rust
+use Rattle.std.proofs.Common.{◌≡◌, ℕ, ◌+◌, ◌<◌, Bool, true, false, not, cond, ◌&&◌, eqb, List, [], ◌∷◌, ◌++◌, length, get_or, drop, sym, refl, ap, ◌∙◌, subst, inl, inr, true≢false, append_assoc, arith, get_or-drop, eq-eqb, eqb-true}
+use Rattle.std.specs.Prelude.{Some, None}
 use mathlib.Core.Option.{Option, none, some}
 use Rattle.paper.specs.Bytes.{bytes, is_blank}
 use Rattle.paper.specs.Form.{Form, lit, run, ◌·◌, ◌∪◌, given, maybe}
@@ -13,9 +15,8 @@ use Rattle.read_steps.specs.Texts.{Scanned}
 use Rattle.read_steps.proofs.Fronts.{Leads, LeadsBy, leads_all, leads_seq, leads_by, leads_sharp, whole, maybe_starts, starts_sharp, starts_apart}
 use Rattle.read_tags.proofs.Tags.{close_leads, leaf_element}
 use Rattle.walk_steps.specs.Stands.{Stands, Past, tag_of, TellsTag, TellsChild, is_there, Ends, Finds, FindsIf, FindsMaybe, FindsLast, entering, leaving, shutting, OpensSo, missing, empty, holds}
+use Rattle.walk_steps.specs.declared.Range.{Range}
 use Rattle.walk_steps.specs.declared.Found.{Found}
-use Rattle.walk_steps.specs.declared.FoundMaybe.{FoundMaybe}
-use Rattle.walk_steps.specs.declared.Maybe.TheVariants.{Absent, Present}
 use Rattle.walk_steps.specs.declared.Opened.{Opened}
 use Rattle.walk_steps.proofs.Places.{part, join, wider, before, from, nothing_stands, past_these, run_ends}
 use Rattle.walk_steps.proofs.Leaves.{starts_at, no_blank, first_byte}
@@ -109,49 +110,51 @@ there_tells {name} {s} {at} l c t =
 second : (s : List ℕ) (at : ℕ) (x y : List ℕ) {p : ℕ} → p ≡ get_or s (at + 1) 0 → drop at s ≡ x ++ y → get_or (x ++ y) 1 0 ≡ p
 second s at x y byte e = sym (ap (λ (u : List ℕ). get_or u 1 0) e) ∙ get_or-drop at s 1 0 ∙ sym byte
 
-pub child_tells : {s : List ℕ} {at p : ℕ} → p ≡ get_or s (at + 1) 0 → at < length s → ¬ (p ≡ 47) → TellsChild s at true
-child_tells {s} {at} {p} byte i n =
-    record { inside = λ h. i; tells = λ name c. record { other = λ h st. ends (drop at s) refl st; none = λ h. absurd (true≢false h) } }
+pub child_tells : {s : List ℕ} {at p : ℕ} → p ≡ get_or s (at + 1) 0 → at < length s → TellsChild s at (not (eqb p 47))
+child_tells {s} {at} {p} byte i = by (eqb p 47) refl
   where
-    ends : (z : List ℕ) → drop at s ≡ z → Starts closing z → ⊥
-    ends z e (later x4) = elim x4 [ ]
-    ends z e (first y g) = n (sym (second s at (bytes "</") y byte (e ∙ g)))
-
-pub end_tells : {s : List ℕ} {at p : ℕ} → p ≡ get_or s (at + 1) 0 → p ≡ 47 → TellsChild s at false
-end_tells {s} {at} byte e =
-    record {
-      inside = λ h. absurd (true≢false (sym h));
-      tells = λ name c. record { other = λ h. absurd (true≢false (sym h)); none = λ h st. go name (drop (at + length (tag_of name)) s) c st.here };
-    }
-  where
-    go : (name y : List ℕ) → clashes (tag_of name) closing ≡ true → drop at s ≡ tag_of name ++ y → ⊥
-    go [] y c g = true≢false (sym c)
-    go (b ∷ x) y c g = by x (eqb b 47) (eq-eqb b 47 (second s at (tag_of (b ∷ x)) y byte g ∙ e)) c
+    -- the end tag's byte is no name's first
+    named : (name y : List ℕ) → clashes (tag_of name) closing ≡ true → drop at s ≡ tag_of name ++ y → p ≡ 47 → ⊥
+    named [] y c g e = true≢false (sym c)
+    named (b ∷ x) y c g e = by_byte x (eqb b 47) (eq-eqb b 47 (second s at (tag_of (b ∷ x)) y byte g ∙ e)) c
       where
-        by : (x : List ℕ) (q : Bool) → q ≡ true → cond q (clash x []) true && true ≡ true → ⊥
-        by [] true h c = true≢false (sym c)
-        by (a ∷ x) true h c = true≢false (sym c)
-        by x false h c = true≢false (sym h)
+        by_byte : (x : List ℕ) (q : Bool) → q ≡ true → cond q (clash x []) true && true ≡ true → ⊥
+        by_byte [] true h c = true≢false (sym c)
+        by_byte (a ∷ x) true h c = true≢false (sym c)
+        by_byte x false h c = true≢false (sym h)
 
-pub none_tells : {s : List ℕ} {at : ℕ} → length s ≤ at → TellsChild s at false
-none_tells n = record { inside = λ h. absurd (true≢false (sym h)); tells = λ name c. record { other = λ h. absurd (true≢false (sym h)); none = λ h st. omega (arith, n, st.inside) } }
+    ends : (z : List ℕ) → drop at s ≡ z → Starts closing z → p ≡ 47
+    ends z e (later x4) = elim x4 [ ]
+    ends z e (first y g) = sym (second s at (bytes "</") y byte (e ∙ g))
+
+    by : (q : Bool) → eqb p 47 ≡ q → TellsChild s at (not q)
+    by true h =
+        record {
+          inside = λ t. absurd (true≢false (sym t));
+          tells = λ name c. record { other = λ t. absurd (true≢false (sym t)); none = λ t st. named name (drop (at + length (tag_of name)) s) c st.here (eqb-true p 47 h) };
+        }
+    by false h =
+        record {
+          inside = λ t. i;
+          tells = λ name c. record { other = λ t st. true≢false (sym (eq-eqb p 47 (ends (drop at s) refl st)) ∙ h); none = λ t. absurd (true≢false t) };
+        }
 
 module _ {name s : List ℕ} {at : ℕ} {here : Bool} where
-  pub leaf_absent : here ≡ false → FindsIf name here s at (record { part = Absent; next = at })
+  pub leaf_absent : here ≡ false → FindsIf name here s at (record { part = None; next = at })
   leaf_absent h l t b o e d fol =
       let k = missing_none name (child (leaf name)) (leaf_leads name) (t.none h) o d in
       record { part = rw k.0 tt; next = k.1 }
 
-  pub leaf_present : {r : Found} → here ≡ true → Finds (child (leaf name)) (Not is_blank) s at r → FindsIf name here s at (record { part = Present r.part; next = r.next })
+  pub leaf_present : {r : Found Range} → here ≡ true → Finds (child (leaf name)) (Not is_blank) s at r → FindsIf name here s at (record { part = Some r.part; next = r.next })
   leaf_present h finds l t b o e d fol =
       let k = there_some name (child (leaf name)) (leaf_leads name) l fol (t.other h) o d in
       let y = finds k.0 e k.2 (starts_sharp is_blank l b (drop e s) fol) in
       record { part = rw k.1 y.part; next = y.next }
 
-  pub leaf_before : {r : FoundMaybe} → There (tag_of name) s at here → FindsIf name here s at r → FindsMaybe name s at r
+  pub leaf_before : {r : Found (rust.Option Range)} → There (tag_of name) s at here → FindsIf name here s at r → FindsMaybe name s at r
   leaf_before t f l b = f l (there_tells l b.clash t) b.sharps
 
-  pub leaf_last : {r : FoundMaybe} → TellsChild s at here → FindsIf name here s at r → FindsLast name s at r
+  pub leaf_last : {r : Found (rust.Option Range)} → TellsChild s at here → FindsIf name here s at r → FindsLast name s at r
   leaf_last t f b = f closing (t.tells name b.clash) b.sharps
 
 -- ---- an element that holds elements
@@ -254,14 +257,14 @@ module _ {A : Type 0} (name : List ℕ) (nothing : A → Type 0) (C : A → Form
         head_sharp x i m w (inr k) q = subst (Not is_blank) (sym q) (leads_sharp is_blank (bytes ">") (Full x) refl (full_leads x) i w (drop m s) k)
 
     empty_at : {h i n : ℕ} (x : A) (m : ℕ) → get_or s h 0 ≡ 47 → Past s h 2 i → Scanned is_blank s i (length s) n
-        → Stands (given (nothing x) (lit "/>") ∪ Full x) s h m → Stands blanks s m e → Within name (D (some x)) l s (record { present = true; long = false; first = n }) e
+        → Stands (given (nothing x) (lit "/>") ∪ Full x) s h m → Stands blanks s m e → Within name (D (some x)) l s (record { long = false; first = n }) e
     empty_at {h} {i} {n} x m byte p c d after = by_kind d.word d.laid d.size d.here
       where
         by_kind : (w : List ℕ) → (given (nothing x) (lit "/>") ∪ Full x) h w → m ≡ h + length w → drop h s ≡ w ++ drop m s
-            → Within name (D (some x)) l s (record { present = true; long = false; first = n }) e
+            → Within name (D (some x)) l s (record { long = false; first = n }) e
         by_kind w (inl k) z q =
             let ei = past_these (bytes "/>") refl p (record { word = w; laid = k.1; size = z; here = q }) in
-            none_at (D (some x)) (record { present = true; long = false; first = n }) refl (void x k.0)
+            none_at (D (some x)) (record { long = false; first = n }) refl (void x k.0)
             ((run_ends is_blank c).is e (from ei after) (starts_sharp is_blank l sharps (drop e s) fol))
         by_kind w (inr k) z q =
             let g = first_byte 62 [] {F = Full x} (full_leads x) (record { word = w; laid = k; size = z; here = q }) in
@@ -269,11 +272,11 @@ module _ {A : Type 0} (name : List ℕ) (nothing : A → Type 0) (C : A → Form
             absurd (omega arith)
 
     holds_at : {h i n : ℕ} (x : A) (m : ℕ) → ¬ (get_or s h 0 ≡ 47) → Past s h 1 i → Scanned is_blank s i (length s) n
-        → Stands (given (nothing x) (lit "/>") ∪ Full x) s h m → Stands blanks s m e → Within name (D (some x)) l s (record { present = true; long = true; first = n }) e
+        → Stands (given (nothing x) (lit "/>") ∪ Full x) s h m → Stands blanks s m e → Within name (D (some x)) l s (record { long = true; first = n }) e
     holds_at {h} {i} {n} x m byte p c d after = by_kind d.word d.laid d.size d.here
       where
         by_kind : (w : List ℕ) → (given (nothing x) (lit "/>") ∪ Full x) h w → m ≡ h + length w → drop h s ≡ w ++ drop m s
-            → Within name (D (some x)) l s (record { present = true; long = true; first = n }) e
+            → Within name (D (some x)) l s (record { long = true; first = n }) e
         by_kind w (inl k) z q =
             absurd (byte (first_byte 47 (bytes ">") {F = lit "/>"} (leads_all (bytes "/>")) (record { word = w; laid = k.1; size = z; here = q })))
         by_kind w (inr k) z q =
@@ -290,15 +293,15 @@ module _ {A : Type 0} (name : List ℕ) (nothing : A → Type 0) (C : A → Form
             closing_first z (first y h) = first y h
 
     pub within : {at : ℕ} {here : Bool} {r : Opened} → TellsTag name l s at here → OpensSo name here s at r → (o : Option A) → Stands (maybe (child E) o) s at e
-        → Within name (D o) l s r e × (r.present ≡ is_there o)
+        → Within name (D o) l s r e × (here ≡ is_there o)
     within {at} t (missing q) o d =
         let k = missing_none name (child E) leads (t.none q) o d in
-        rw k.0 (none_at (D none) (record { present = false; long = false; first = at }) refl absent k.1, refl)
+        rw k.0 (none_at (D none) (record { long = false; first = at }) refl absent k.1, q)
     within t (empty g p c byte q n) o d =
         let k = there_some name (child E) leads l fol (t.other g) o d in
         let h = at_head k.0 p c k.2 in
-        rw k.1 (empty_at k.0 h.0 byte q n h.1 h.2, refl)
+        rw k.1 (empty_at k.0 h.0 byte q n h.1 h.2, g)
     within t (holds g p c byte q n) o d =
         let k = there_some name (child E) leads l fol (t.other g) o d in
         let h = at_head k.0 p c k.2 in
-        rw k.1 (holds_at k.0 h.0 byte q n h.1 h.2, refl)
+        rw k.1 (holds_at k.0 h.0 byte q n h.1 h.2, g)

@@ -1,17 +1,15 @@
 -- A tag, a text and a leaf found again, each from what is promised of its parts.
-use Rattle.std.proofs.Common.{◌≡◌, ℕ, ◌+◌, ◌≤◌, Bool, true, false, not, List, [], ◌∷◌, ◌++◌, length, get_or, drop, sym, refl, ap, ◌∙◌, inl, inr, arith, get_or-drop, drop-drop}
+use Rattle.std.proofs.Common.{◌≡◌, ℕ, ◌+◌, ◌≤◌, Bool, true, false, not, List, [], ◌∷◌, ◌++◌, length, get_or, drop, sym, refl, ap, ◌∙◌, inl, inr, arith, get_or-drop}
 use Rattle.paper.specs.Bytes.{bytes, all, raw, spell, is_blank}
 use Rattle.paper.specs.Form.{Form, these, lit, ◌·◌}
 use Rattle.paper.specs.Tree.{Text}
 use Rattle.paper.specs.Layout.{blanks, text, tag, close, content, leaf, child}
 use Rattle.paper.proofs.Texts.{spell_cases, raw_all}
-use Rattle.read_bytes.specs.Words.{StandsAt, There}
-use Rattle.read_bytes.proofs.Words.{stands_here, stands_long, not_there}
 use Rattle.read_steps.specs.Follow.{Not, Starts, anything, sharp}
 use Rattle.read_steps.specs.Texts.{allowed_in, Scanned}
 use Rattle.read_steps.proofs.Fronts.{Leads, leads_all, leads_starts, leads_sharp}
 use Rattle.read_tags.proofs.Tags.{Body, Long, body_sharp, close_leads, long_leads}
-use Rattle.walk_steps.specs.Stands.{Stands, Past, others, tag_of, Ends, Finds, FindsContent, IsPart, IsFound, leaving}
+use Rattle.walk_steps.specs.Stands.{Stands, Past, others, Ends, Finds, FindsContent, IsPart, IsFound, leaving}
 use Rattle.walk_steps.specs.declared.Range.{Range}
 use Rattle.walk_steps.specs.declared.Found.{Found}
 use Rattle.walk_steps.proofs.Places.{part, join, these_inside, before, from, past_these, pasts, scan_end, run_ends}
@@ -33,18 +31,6 @@ first_byte b k {F} {s} {at} {e} l d =
     ap (λ (i : ℕ). get_or s i 0) (omega arith) ∙ sym (get_or-drop at s 0 0) ∙ ap (λ (u : List ℕ). get_or u 0 0) (d.here ∙ ap (λ (u : List ℕ). u ++ drop e s) y.1)
 
 -- ---- tags
-
--- a tag opens here if its `<` stands here and its name behind it
-module _ (name : List ℕ) {s : List ℕ} {at : ℕ} where
-  pub opens_not : ¬ StandsAt (bytes "<") s at → There (tag_of name) s at false
-  opens_not n = not_there (λ h. n (stands_long (omega arith) (name ++ drop (at + length (tag_of name)) s) h.here))
-
-  pub opens_so : StandsAt (bytes "<") s at → {r : Bool} → There name s (at + 1) r → There (tag_of name) s at r
-  opens_so p t =
-      record {
-        yes = λ e. stands_long (omega arith) (drop (at + 1 + length name) s) (p.here ∙ ap (λ (u : List ℕ). bytes "<" ++ u) (t.yes e).here);
-        no = λ e h. t.no e (stands_here p.inside (drop (at + length (tag_of name)) s) (sym (drop-drop 1 at s) ∙ ap (drop 1) h.here));
-      }
 
 pub tag_ends : {name s : List ℕ} {at a r : ℕ} → Past s at 1 a → Past s a (length name) r → Ends (tag name) anything s at r
 tag_ends {name} p q = record { is = λ e d f. pasts (bytes "<") name refl p q d }
@@ -152,7 +138,7 @@ leaf_parts name t {at = at} d =
     let v = part (tag name) (content name (allowed_in false) at t) (record { word = w.word; laid = w.laid; size = w.size; here = w.here }) in
     (v.0, u.0, v.1, v.2, u.2)
 
-pub leaf_found : {name s : List ℕ} {at a n : ℕ} {r : Found} → Ends (tag name) anything s at a → FindsContent name (allowed_in false) at s a r
+pub leaf_found : {name s : List ℕ} {at a n : ℕ} {r : Found Range} → Ends (tag name) anything s at a → FindsContent name (allowed_in false) at s a r
     → Scanned is_blank s r.next (length s) n → Finds (child (leaf name)) (Not is_blank) s at (record { part = r.part; next = n })
 leaf_found {name} p finds q t e d fol =
     let u = leaf_parts name t d in

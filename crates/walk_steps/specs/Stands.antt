@@ -1,5 +1,6 @@
 -- Texts that are known to stand in a listing: what is promised of a walk along them.
-use Rattle.std.specs.Prelude.{◌≡◌, ℕ, ◌+◌, ◌<◌, ◌≤◌, Bool, true, false, not, List, ◌++◌, length, drop, ◌==◌, slice_index}
+use Rattle.std.specs.Prelude.{◌≡◌, ℕ, ◌+◌, ◌<◌, ◌≤◌, Bool, true, false, not, List, ◌++◌, length, drop, ◌==◌, slice_index, Some, None}
+use Rattle.std.specs.Prelude as rust
 use Rattle.std.proofs.Math.Option.{Option, none, some}
 use Rattle.paper.specs.Bytes.{bytes, raw, is_blank}
 use Rattle.paper.specs.Form.{Form, lit, ◌·◌, maybe}
@@ -10,9 +11,6 @@ use Rattle.read_steps.specs.Follow.{Starts, StandsBefore, NoBlankFirst, anything
 use Rattle.read_steps.specs.Texts.{Scanned}
 use Rattle.walk_steps.specs.declared.Range.{Range}
 use Rattle.walk_steps.specs.declared.Found.{Found}
-use Rattle.walk_steps.specs.declared.Maybe.{Maybe}
-use Rattle.walk_steps.specs.declared.Maybe.TheVariants.{Absent, Present}
-use Rattle.walk_steps.specs.declared.FoundMaybe.{FoundMaybe}
 use Rattle.walk_steps.specs.declared.Opened.{Opened}
 
 -- from `at` to `next` stands a text of the form F
@@ -49,16 +47,16 @@ pub record IsPart (s : List ℕ) (x : Text ℕ) (p : Range) : Type 0 where
   pub inside : p.from ≤ length s
   pub here : drop p.from s ≡ raw x.read ++ drop p.to s
 
-pub record IsFound (s : List ℕ) (x : Text ℕ) (e : ℕ) (r : Found) : Type 0 where
+pub record IsFound (s : List ℕ) (x : Text ℕ) (e : ℕ) (r : Found Range) : Type 0 where
   pub part : IsPart s x r.part
   pub next : r.next ≡ e
 
 -- whichever text of the form F x stands here, before what may follow: it is found, and where it ends
-abbrev pub Finds : (Text ℕ → Form) → (List ℕ → Type 0) → List ℕ → ℕ → Found → Type 0
+abbrev pub Finds : (Text ℕ → Form) → (List ℕ → Type 0) → List ℕ → ℕ → Found Range → Type 0
 Finds F Fol s at r = (x : Text ℕ) (e : ℕ) → Stands (F x) s at e → Fol (drop e s) → IsFound s x e r
 
 -- of an element that starts within s
-pub record FindsContent (name : List ℕ) (allowed : ℕ → Bool) (start : ℕ) (s : List ℕ) (at : ℕ) (r : Found) : Type 0 where
+pub record FindsContent (name : List ℕ) (allowed : ℕ → Bool) (start : ℕ) (s : List ℕ) (at : ℕ) (r : Found Range) : Type 0 where
   pub says : start ≤ length s → Finds (content name allowed start) anything s at r
 
 -- ---- what may be missing
@@ -78,29 +76,29 @@ pub record TellsChild (s : List ℕ) (at : ℕ) (t : Bool) : Type 0 where
   pub tells : (name : List ℕ) → clashes (tag_of name) closing ≡ true → TellsTag name closing s at t
 
 -- a text that may be missing
-abbrev pub MaybeIs : List ℕ → Option (Text ℕ) → Maybe → Type 0
-MaybeIs s none Absent = Unit {0}
-MaybeIs s none (Present p) = ⊥
-MaybeIs s (some x) Absent = ⊥
-MaybeIs s (some x) (Present p) = IsPart s x p
+abbrev pub MaybeIs : List ℕ → Option (Text ℕ) → rust.Option Range → Type 0
+MaybeIs s none None = Unit {0}
+MaybeIs s none (Some p) = ⊥
+MaybeIs s (some x) None = ⊥
+MaybeIs s (some x) (Some p) = IsPart s x p
 
-pub record IsMaybe (s : List ℕ) (o : Option (Text ℕ)) (e : ℕ) (r : FoundMaybe) : Type 0 where
+pub record IsMaybe (s : List ℕ) (o : Option (Text ℕ)) (e : ℕ) (r : Found (rust.Option Range)) : Type 0 where
   pub part : MaybeIs s o r.part
   pub next : r.next ≡ e
 
 -- a leaf that may be missing stands here, before the words l
-abbrev pub FindsBefore : List (List ℕ) → List ℕ → List ℕ → ℕ → FoundMaybe → Type 0
+abbrev pub FindsBefore : List (List ℕ) → List ℕ → List ℕ → ℕ → Found (rust.Option Range) → Type 0
 FindsBefore l name s at r = (o : Option (Text ℕ)) (e : ℕ) → Stands (maybe (child (leaf name)) o) s at e → Starts l (drop e s) → IsMaybe s o e r
 
 -- `here` tells whether it does
-abbrev pub FindsIf : List ℕ → Bool → List ℕ → ℕ → FoundMaybe → Type 0
+abbrev pub FindsIf : List ℕ → Bool → List ℕ → ℕ → Found (rust.Option Range) → Type 0
 FindsIf name here s at r = (l : List (List ℕ)) → TellsTag name l s at here → sharp is_blank l ≡ true → FindsBefore l name s at r
 
-abbrev pub FindsMaybe : List ℕ → List ℕ → ℕ → FoundMaybe → Type 0
+abbrev pub FindsMaybe : List ℕ → List ℕ → ℕ → Found (rust.Option Range) → Type 0
 FindsMaybe name s at r = (l : List (List ℕ)) → StandsBefore name l → FindsBefore l name s at r
 
 -- the last of its element
-abbrev pub FindsLast : List ℕ → List ℕ → ℕ → FoundMaybe → Type 0
+abbrev pub FindsLast : List ℕ → List ℕ → ℕ → Found (rust.Option Range) → Type 0
 FindsLast name s at r = StandsBefore name closing → FindsBefore closing name s at r
 
 -- ---- elements that hold elements
@@ -120,11 +118,11 @@ shutting name false = lit ""
 
 -- where the children of such an element start; `here` says whether it is there
 pub data OpensSo (name : List ℕ) (here : Bool) (s : List ℕ) (at : ℕ) : Opened → Type 0 where
-  missing : here ≡ false → OpensSo name here s at (record { present = false; long = false; first = at })
+  missing : here ≡ false → OpensSo name here s at (record { long = false; first = at })
   empty : {a h b n : ℕ} → here ≡ true → Ends (tag name) anything s at a → Scanned is_blank s a (length s) h → slice_index s h ≡ 47
-      → Past s h 2 b → Scanned is_blank s b (length s) n → OpensSo name here s at (record { present = true; long = false; first = n })
+      → Past s h 2 b → Scanned is_blank s b (length s) n → OpensSo name here s at (record { long = false; first = n })
   holds : {a h b n : ℕ} → here ≡ true → Ends (tag name) anything s at a → Scanned is_blank s a (length s) h → ¬ (slice_index s h ≡ 47)
-      → Past s h 1 b → Scanned is_blank s b (length s) n → OpensSo name here s at (record { present = true; long = true; first = n })
+      → Past s h 1 b → Scanned is_blank s b (length s) n → OpensSo name here s at (record { long = true; first = n })
 
 -- whether something that may be missing is there
 abbrev pub is_there : {A : Type 0} → Option A → Bool
@@ -133,9 +131,9 @@ is_there (some a) = true
 
 -- ---- attributes
 
-abbrev pub FindsAttribute : List ℕ → List ℕ → ℕ → Found → Type 0
+abbrev pub FindsAttribute : List ℕ → List ℕ → ℕ → Found Range → Type 0
 FindsAttribute name s at r = NoBlankFirst name → Finds (attribute name) anything s at r
 
-abbrev pub FindsAttributeMaybe : List ℕ → List ℕ → ℕ → FoundMaybe → Type 0
+abbrev pub FindsAttributeMaybe : List ℕ → List ℕ → ℕ → Found (rust.Option Range) → Type 0
 FindsAttributeMaybe name s at r =
     NoBlankFirst name → (l : List (List ℕ)) → clashes name l ≡ true → (o : Option (Text ℕ)) (e : ℕ) → Stands (attribute? name o) s at e → Starts l (skip (drop e s)) → IsMaybe s o e r

@@ -19,10 +19,10 @@ pub struct Range {
     pub to: usize,
 }
 
-// A text, and where what follows it starts.
+// What was found, and where what follows it starts.
 #[derive(Clone, Copy)]
-pub struct Found {
-    pub part: Range,
+pub struct Found<T> {
+    pub part: T,
     pub next: usize,
 }
 
@@ -30,7 +30,7 @@ pub struct Found {
 fn peek(s: &[u8], at: usize) -> u8
     ensures { result ≡ slice_index s.now at }
 {
-    if at < s.len() { s[at] } else { 0 }
+    s.get(at).copied().unwrap_or(0)
 }
 
 // The place n bytes further, where s has so many. It isn't compared with the end: whoever reads there does that.
@@ -42,17 +42,16 @@ pub fn past(s: &[u8], at: usize, n: usize) -> usize
 
 // The first place from here on, before `end`, where this byte stands.
 fn seek(s: &[u8], at: usize, end: usize, stop: u8) -> usize
-    requires { end ≤ length s.now }
+    requires before { at ≤ end }
+    requires inside { end ≤ length s.now }
     ensures { Scanned (others stop) s.now at end result }
 {
-    let mut i = at;
-    while i < end {
+    for i in at..end {
         if s[i] == stop {
             return i;
         }
-        i += 1;
     }
-    i
+    end
 }
 
 // The same in all of s, for a byte that stands for itself in no text: most texts are short, and a long one is passed by blocks.
@@ -78,15 +77,12 @@ pub fn until(s: &[u8], at: usize, stop: u8) -> usize
 pub fn blanks(s: &[u8], at: usize) -> usize
     ensures { Scanned is_blank s.now at (length s.now) result }
 {
-    let mut i = at;
-    while i < s.len() {
-        if read_steps::is_blank(s[i]) {
-            i += 1;
-        } else {
+    for i in at..s.len() {
+        if !read_steps::is_blank(s[i]) {
             return i;
         }
     }
-    i
+    at.max(s.len())
 }
 
 // Past `<name`.
@@ -100,12 +96,11 @@ pub fn tag(s: &[u8], at: usize, name: &[u8]) -> usize
 fn close(s: &[u8], at: usize, name: &[u8]) -> usize
     ensures { Ends (Form.close name.now) anything s.now at result }
 {
-    let a = past(s, past(s, at, 2), name.len());
-    past(s, blanks(s, a), 1)
+    past(s, blanks(s, past(s, past(s, at, 2), name.len())), 1)
 }
 
 // The text between the rest of a start tag and the end tag. `start` is where the element starts.
-pub fn content(s: &[u8], at: usize, start: usize, name: &[u8], high: bool) -> Found
+pub fn content(s: &[u8], at: usize, start: usize, name: &[u8], high: bool) -> Found<Range>
     ensures { FindsContent name.now (allowed_in high) start s.now at result }
 {
     let h = blanks(s, at);
@@ -127,7 +122,7 @@ pub fn content(s: &[u8], at: usize, start: usize, name: &[u8], high: bool) -> Fo
 }
 
 // A leaf and the blanks after it.
-pub fn leaf(s: &[u8], at: usize, name: &[u8]) -> Found
+pub fn leaf(s: &[u8], at: usize, name: &[u8]) -> Found<Range>
     ensures { Finds (Form.child (Form.leaf name.now)) (Not is_blank) s.now at result }
 {
     let Found { part, next } = content(s, tag(s, at, name), at, name, false);
@@ -137,68 +132,47 @@ pub fn leaf(s: &[u8], at: usize, name: &[u8]) -> Found
     }
 }
 
-// A text that may be missing.
-#[derive(Clone, Copy)]
-pub enum Maybe {
-    Absent,
-    Present(Range),
-}
-
-#[derive(Clone, Copy)]
-pub struct FoundMaybe {
-    pub part: Maybe,
-    pub next: usize,
-}
-
 // Whether an element whose name starts so starts here.
 pub fn opens(s: &[u8], at: usize, name: &[u8]) -> bool
     ensures { There (tag_of name.now) s.now at result }
 {
-    if read_bytes::begins(s, at, b"<") {
-        return read_bytes::begins(s, at + 1, name);
-    }
-    false
+    read_bytes::begins(s, at, b"<") && read_bytes::begins(s, at + 1, name)
 }
 
 // Whether an element starts here, and not the end tag of the one that holds it: one of them does, so one byte tells.
 pub fn child_here(s: &[u8], at: usize) -> bool
     ensures { TellsChild s.now at result }
 {
-    if s.len() <= at {
-        return false;
-    }
-    if peek(s, at + 1) == b'/' {
-        return false;
-    }
-    true
+    at < s.len() && peek(s, at + 1) != b'/'
 }
 
 // A leaf and the blanks after it, if it is here.
-fn leaf_if(s: &[u8], at: usize, name: &[u8], here: bool) -> FoundMaybe
+fn leaf_if(s: &[u8], at: usize, name: &[u8], here: bool) -> Found<Option<Range>>
     ensures { FindsIf name.now here s.now at result }
 {
     if here {
         let Found { part, next } = leaf(s, at, name);
-        return FoundMaybe {
-            part: Maybe::Present(part),
+        Found {
+            part: Some(part),
             next,
-        };
-    }
-    FoundMaybe {
-        part: Maybe::Absent,
-        next: at,
+        }
+    } else {
+        Found {
+            part: None,
+            next: at,
+        }
     }
 }
 
 // A leaf that may be missing, and the blanks after it.
-pub fn leaf_maybe(s: &[u8], at: usize, name: &[u8]) -> FoundMaybe
+pub fn leaf_maybe(s: &[u8], at: usize, name: &[u8]) -> Found<Option<Range>>
     ensures { FindsMaybe name.now s.now at result }
 {
     leaf_if(s, at, name, opens(s, at, name))
 }
 
 // The same where the leaf is the last of its element.
-pub fn last_leaf(s: &[u8], at: usize, name: &[u8]) -> FoundMaybe
+pub fn last_leaf(s: &[u8], at: usize, name: &[u8]) -> Found<Option<Range>>
     ensures { FindsLast name.now s.now at result }
 {
     leaf_if(s, at, name, child_here(s, at))
@@ -210,22 +184,20 @@ pub fn last_leaf(s: &[u8], at: usize, name: &[u8]) -> FoundMaybe
 pub fn enter(s: &[u8], at: usize) -> usize
     ensures { Ends entering (Not is_blank) s.now at result }
 {
-    let a = past(s, blanks(s, at), 1);
-    blanks(s, a)
+    blanks(s, past(s, blanks(s, at), 1))
 }
 
 // Past an end tag and the blanks after it.
 pub fn leave(s: &[u8], at: usize, name: &[u8]) -> usize
     ensures { Ends (leaving name.now) (Not is_blank) s.now at result }
 {
-    let a = close(s, at, name);
-    blanks(s, a)
+    blanks(s, close(s, at, name))
 }
 
-// An element that may be missing, or written `<X/>`: where its children stand if it is `long`, and what follows it if it isn't.
+// An element that may be missing, or written `<X/>`. Its children are sought at `first`, whichever it is: where it holds none, what
+// follows it stands there. `long` says whether its end tag is to be passed behind them: so it is no Option, the place is always there.
 #[derive(Clone, Copy)]
 pub struct Opened {
-    pub present: bool,
     pub long: bool,
     pub first: usize,
 }
@@ -234,28 +206,22 @@ pub struct Opened {
 pub fn children(s: &[u8], at: usize, name: &[u8], here: bool) -> Opened
     ensures { OpensSo name.now here s.now at result }
 {
-    if here {
-        let a = tag(s, at, name);
-        let h = blanks(s, a);
-        if peek(s, h) == b'/' {
-            let b = past(s, h, 2);
-            return Opened {
-                present: true,
-                long: false,
-                first: blanks(s, b),
-            };
-        }
-        let b = past(s, h, 1);
+    if !here {
         return Opened {
-            present: true,
-            long: true,
-            first: blanks(s, b),
+            long: false,
+            first: at,
+        };
+    }
+    let h = blanks(s, tag(s, at, name));
+    if peek(s, h) == b'/' {
+        return Opened {
+            long: false,
+            first: blanks(s, past(s, h, 2)),
         };
     }
     Opened {
-        present: false,
-        long: false,
-        first: at,
+        long: true,
+        first: blanks(s, past(s, h, 1)),
     }
 }
 
@@ -263,20 +229,16 @@ pub fn children(s: &[u8], at: usize, name: &[u8], here: bool) -> Opened
 pub fn shut(s: &[u8], at: usize, name: &[u8], long: bool) -> usize
     ensures { Ends (shutting name.now long) (Not is_blank) s.now at result }
 {
-    if long {
-        return leave(s, at, name);
-    }
-    at
+    if long { leave(s, at, name) } else { at }
 }
 
 // ---- attributes
 
 // An attribute.
-pub fn attribute(s: &[u8], at: usize, name: &[u8]) -> Found
+pub fn attribute(s: &[u8], at: usize, name: &[u8]) -> Found<Range>
     ensures { FindsAttribute name.now s.now at result }
 {
-    let a = past(s, blanks(s, at), name.len());
-    let from = past(s, a, 2);
+    let from = past(s, past(s, blanks(s, at), name.len()), 2);
     let to = until(s, from, b'"');
     Found {
         part: Range { from, to },
@@ -285,18 +247,19 @@ pub fn attribute(s: &[u8], at: usize, name: &[u8]) -> Found
 }
 
 // An attribute that may be missing.
-pub fn attribute_maybe(s: &[u8], at: usize, name: &[u8]) -> FoundMaybe
+pub fn attribute_maybe(s: &[u8], at: usize, name: &[u8]) -> Found<Option<Range>>
     ensures { FindsAttributeMaybe name.now s.now at result }
 {
     if read_bytes::begins(s, blanks(s, at), name) {
         let Found { part, next } = attribute(s, at, name);
-        return FoundMaybe {
-            part: Maybe::Present(part),
+        Found {
+            part: Some(part),
             next,
-        };
-    }
-    FoundMaybe {
-        part: Maybe::Absent,
-        next: at,
+        }
+    } else {
+        Found {
+            part: None,
+            next: at,
+        }
     }
 }

@@ -1,24 +1,18 @@
 -- `ask_check::check` meets its contract.
-use mathlib.Core.Path.{refl, subst}
-use Rattle.read_layout.specs.Says.{ShapeSays}
+use mathlib.Core.Path.{refl}
+use Rattle.std.proofs.lemmas.Result.{err_from_is_err_and}
 use Rattle.ask_check.proofs.Verdicts.{refused_so, broken_so, accepted_so}
 use Rattle.ask_check.proofs.check.Goals as goal
 
-pub returns-in-Refused : goal.returns-in-Refused
-returns-in-Refused c =
-    let args = c.args in
-    refused_so (subst (ShapeSays args.listing.now) c.in-Refused.is c.layout.ensures)
+pub returns-in_err-layout : goal.returns-in_err-layout
+returns-in_err-layout c =
+    let p = err_from_is_err_and c.from_residual.result c.from_residual.ensures.1 in
+    rw (p.1, p.2) (refused_so c.in_err-layout.ensures)
 
-pub returns-in-Clean : goal.returns-in-Clean
-returns-in-Clean c =
-    let args = c.args in
-    let layout = c.layout in
-    accepted_so (subst (ShapeSays args.listing.now) c.in-Laid.is layout.ensures)
-    c.judge-fault.ensures refl c.in-Clean.is
+pub returns-in-None : goal.returns-in-None
+returns-in-None c =
+    accepted_so c.in_ok-layout.ensures c.judge-judged.ensures refl c.in-None.is
 
-pub returns-in-At : goal.returns-in-At
-returns-in-At c =
-    let args = c.args in
-    let layout = c.layout in
-    broken_so (subst (ShapeSays args.listing.now) c.in-Laid.is layout.ensures)
-    c.judge-fault.ensures refl c.in-At.is
+pub returns-in-Some : goal.returns-in-Some
+returns-in-Some c =
+    broken_so c.in_ok-layout.ensures c.judge-judged.ensures refl c.in-Some.is

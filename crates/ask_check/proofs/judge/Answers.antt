@@ -4,8 +4,5 @@ use Rattle.ask_check.proofs.judge.Goals as goal
 
 pub returns : goal.returns
 returns c =
-    let judge-header = c.judge_header-a in
-    let judge-sequences = c.judge_sequences-b in
-    listing_judged c.earlier-d.result c.earlier.result judge-header.ensures judge-sequences.ensures
-    c.bytes_of.ensures c.is_number-ok.ensures
-    c.unless-c.ensures c.earlier-d.ensures c.earlier.ensures
+    listing_judged c.earlier-d.result c.earlier.result c.judge_header-header.ensures c.judge_sequences-b.ensures
+    c.bytes_of-total.ensures c.is_number-ok.ensures c.unless-c.ensures c.earlier-d.ensures c.earlier.ensures

@@ -1,17 +1,10 @@
 -- `ask_find::accepted` meets its contract.
-use mathlib.Core.Path.{subst}
-use Rattle.paper.specs.Answers.{CheckSays}
+use Rattle.std.proofs.lemmas.Result.{err_from_is_err_and}
 use Rattle.ask_find.proofs.Found.{first_found}
 use Rattle.ask_find.proofs.accepted.Goals as goal
 
-pub returns-in-Refused : goal.returns-in-Refused
-returns-in-Refused c =
-    let args = c.args in
-    subst (CheckSays args.listing.now) c.in-Refused.is c.check.ensures
+pub returns-in_err-figures : goal.returns-in_err-figures
+returns-in_err-figures c = let p = err_from_is_err_and c.from_residual.result c.from_residual.ensures.1 in rw (p.1, p.2) c.in_err-figures.ensures
 
-pub returns-in-Accepted : goal.returns-in-Accepted
-returns-in-Accepted c =
-    let args = c.args in
-    first_found
-    (subst (CheckSays args.listing.now) c.in-Accepted.is c.check.ensures)
-    c.judge_header-first.ensures
+pub returns : goal.returns
+returns c = first_found c.in_ok-figures.ensures c.judge_header-headed.ensures

@@ -1,28 +1,24 @@
--- `ask_find::find_sequence` meets its contract: the check's refusal, 30, 31, or the sequence.
-use mathlib.Core.Path.{subst}
+-- `ask_find::find_sequence` meets its contract.
+use Rattle.std.proofs.Common.{rules, ◌≡◌, Err}
+use Rattle.std.proofs.lemmas.Result.{err_from_is_err_and}
 use Rattle.paper.specs.Answers as paper
-use Rattle.ask_find.specs.Finds.{FindsFirst}
-use Rattle.walk_seek.proofs.Within.{placed}
-use Rattle.ask_find.proofs.Found.{no_sequence, sequence_so}
+use Rattle.ask_find.proofs.Found.{no_sequence, skipped_so, sequence_so}
 use Rattle.ask_find.proofs.find_sequence.Goals as goal
 
-pub returns-in-Refused : goal.returns-in-Refused
-returns-in-Refused c =
-    let args = c.args in
-    paper.own (subst (FindsFirst args.listing.now) c.in-Refused.is c.accepted.ensures)
+pub returns-in_err-list : goal.returns-in_err-list
+returns-in_err-list c =
+    let p = err_from_is_err_and c.from_residual.result c.from_residual.ensures.1 in
+    rw (p.1, p.2) (paper.own c.in_err-list.ensures)
 
-pub returns-in-Missing : goal.returns-in-Missing
-returns-in-Missing c =
-    let args = c.args in
-    let accepted = c.accepted in
-    no_sequence (subst (FindsFirst args.listing.now) c.in-At.is accepted.ensures)
-    (placed c.in-Missing.is c.nth.ensures)
+pub returns-in_err-at : goal.returns-in_err-at
+returns-in_err-at c =
+    let e : c.from_residual-in_err-at.result ≡ Err (record { rule = 30; place = 0 }) = search rules in
+    rw e (no_sequence c.in_ok-list.ensures c.nth.ensures c.in_err-at.ensures.ok_part)
 
-pub returns-else-is_skipped : goal.returns-else-is_skipped
-returns-else-is_skipped c =
-    let args = c.args in
-    let accepted = c.accepted in
-    let nth = c.nth in
-    sequence_so (subst (FindsFirst args.listing.now) c.in-At.is accepted.ensures)
-    (placed c.in-At-nth.is nth.ensures) c.sequence-found.ensures
-    c.is_skipped.ensures c.if-is_skipped.false
+pub returns-then-is_skipped : goal.returns-then-is_skipped
+returns-then-is_skipped c =
+    skipped_so c.in_ok-list.ensures c.nth.ensures c.in_ok-at.ensures.ok_part c.sequence-found.ensures c.is_skipped.ensures c.if-is_skipped.true
+
+pub returns : goal.returns
+returns c =
+    sequence_so c.in_ok-list.ensures c.nth.ensures c.in_ok-at.ensures.ok_part c.sequence-found.ensures c.is_skipped.ensures c.if-is_skipped.false

@@ -3,4 +3,4 @@ use Rattle.ask_found.proofs.Located.{sequence_located}
 use Rattle.ask_found.proofs.sequence_answer.Goals as goal
 
 pub returns : goal.returns
-returns c = sequence_located c.kind_number.ensures c.stretch_of.ensures
+returns c = sequence_located c.stretch_of.ensures

@@ -1,26 +1,18 @@
 -- A refusal of the sequence, 32, or the entry.
-use mathlib.Core.Path.{subst}
-use Rattle.ask_indexed.specs.Finds.{BodyAsked}
+use Rattle.std.proofs.Common.{rules, ◌≡◌, Err}
+use Rattle.std.proofs.lemmas.Result.{err_from_is_err_and}
 use Rattle.ask_indexed.proofs.Found.{refused_earlier, entry_missing, entry_found}
 use Rattle.ask_indexed.proofs.find_entry.Goals as goal
 
-pub returns-in-Refused : goal.returns-in-Refused
-returns-in-Refused c =
-    let args = c.args in
-    refused_earlier
-    (subst (BodyAsked args.listing.now args.index.now args.k) c.in-Refused.is c.find_body.ensures)
+pub returns-in_err-body : goal.returns-in_err-body
+returns-in_err-body c =
+    let p = err_from_is_err_and c.from_residual.result c.from_residual.ensures.1 in
+    rw (p.1, p.2) (refused_earlier c.in_err-body.ensures)
 
-pub returns-in-Missing : goal.returns-in-Missing
-returns-in-Missing c =
-    let args = c.args in
-    let find-body = c.find_body in
-    entry_missing
-    (subst (BodyAsked args.listing.now args.index.now args.k) c.in-Found.is find-body.ensures)
-    c.in-Missing.is c.entry_of.ensures
+pub returns-in_err-entry : goal.returns-in_err-entry
+returns-in_err-entry c =
+    let e : c.from_residual-in_err-entry.result ≡ Err (record { rule = 32; place = 0 }) = search rules in
+    rw e (entry_missing c.in_ok-body.ensures c.entry_of.ensures c.in_err-entry.ensures.ok_part)
 
-pub returns-in-Found-entry_of : goal.returns-in-Found-entry_of
-returns-in-Found-entry_of c =
-    let args = c.args in
-    let find-body = c.find_body in
-    entry_found (subst (BodyAsked args.listing.now args.index.now args.k) c.in-Found.is find-body.ensures)
-    c.in-Found-entry_of.is c.entry_of.ensures
+pub returns : goal.returns
+returns c = entry_found c.in_ok-body.ensures c.entry_of.ensures c.in_ok-entry.ensures.ok_part

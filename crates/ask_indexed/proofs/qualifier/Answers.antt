@@ -1,6 +1,11 @@
 -- Where its parts stand, and then they themselves.
+use Rattle.paper.specs.Index.{IndexedQualifierSays}
 use Rattle.ask_show.proofs.Views.{shows_qualifier}
 use Rattle.ask_indexed.proofs.qualifier.Goals as goal
 
 pub returns : goal.returns
-returns c = shows_qualifier _ (c.locate_qualifier-n.ensures.indexed_qualifier_says, c.locate_qualifier-n.ensures.lies) c.shown.ensures c.shown-2.ensures
+returns c =
+    let args = c.args in
+    let w = args.listing in
+    shows_qualifier w.now w.ref_ptr (IndexedQualifierSays w.now args.index.now args.k args.j args.i) _ _ c.locate_qualifier.ensures
+    c.show_qualifier.ensures

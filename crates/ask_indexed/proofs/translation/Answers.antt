@@ -1,21 +1,13 @@
 -- A refusal, or its answer.
-use mathlib.Core.Path.{subst}
-use Rattle.ask_indexed.specs.Finds.{EntryAsked}
+use Rattle.std.proofs.lemmas.Result.{err_from_is_err_and}
 use Rattle.ask_indexed.proofs.Answered.{translation_refused, translation_answered}
 use Rattle.ask_indexed.proofs.translation.Goals as goal
 
-pub returns-in-Refused : goal.returns-in-Refused
-returns-in-Refused c =
-    let args = c.args in
-    translation_refused
-    (subst (EntryAsked args.listing.now args.index.now args.k args.j) c.in-Refused.is c.find_entry.ensures)
-    c.nothing_lent.ensures
+pub returns-in_err-body : goal.returns-in_err-body
+returns-in_err-body c =
+    let p = err_from_is_err_and c.from_residual.result c.from_residual.ensures.1 in
+    rw (p.1, p.2) (translation_refused c.in_err-body.ensures)
 
-pub returns-in-Found : goal.returns-in-Found
-returns-in-Found c =
-    let args = c.args in
-    let find-entry = c.find_entry in
-    let Known-of = c.known_of-known in
-    translation_answered
-    (subst (EntryAsked args.listing.now args.index.now args.k args.j) c.in-Found.is find-entry.ensures)
-    c.feature_from-feature.ensures Known-of.ensures c.translation_answer.ensures
+pub returns : goal.returns
+returns c =
+    translation_answered c.in_ok-body.ensures c.feature_from-feature.ensures c.known_of-known.ensures c.translation_answer.ensures

@@ -1,8 +1,10 @@
 -- `ask_lookups::feature` meets its contract.
+use Rattle.paper.specs.Answers.{FeatureSays}
 use Rattle.ask_show.proofs.Views.{shows_feature}
 use Rattle.ask_lookups.proofs.feature.Goals as goal
 
 pub returns : goal.returns
 returns c =
-    let locate-feature = c.locate_feature-n in
-    shows_feature _ (locate-feature.ensures.feature_says, locate-feature.ensures.lies) c.shown.ensures c.shown-2.ensures
+    let args = c.args in
+    let w = args.listing in
+    shows_feature w.now w.ref_ptr (FeatureSays w.now args.k args.j args.out.now) _ _ _ c.locate_feature.ensures c.show_feature.ensures

@@ -1,31 +1,17 @@
 -- `ask_lookups::translations` meets its contract: the refusal, no line, or the lines.
-use borrow.Author.Tests.{not-true, not-false}
+use Rattle.std.proofs.lemmas.Result.{err_from_is_err_and}
 use Rattle.ask_found.proofs.Translated.{translations_refused}
 use Rattle.ask_lookups.proofs.Asked.{no_lines, translations_answered}
-use Rattle.ask_find.specs.Finds.{SequenceAsked}
-use mathlib.Core.Path.{subst}
 use Rattle.ask_lookups.proofs.translations.Goals as goal
 
-pub returns-then-not-table : goal.returns-then-not-table
-returns-then-not-table c =
-    let args = c.args in
-    let find-sequence = c.find_sequence in
-    no_lines
-    (subst (SequenceAsked args.listing.now args.k) c.in-Found.is find-sequence.ensures)
-    (not-true _ c.if-not-table.true)
+pub returns-in_err-sequence : goal.returns-in_err-sequence
+returns-in_err-sequence c =
+    let p = err_from_is_err_and c.from_residual.result c.from_residual.ensures.1 in
+    rw (p.1, p.2) (translations_refused c.in_err-sequence.ensures)
 
-pub returns-in-Refused : goal.returns-in-Refused
-returns-in-Refused c =
-    let args = c.args in
-    translations_refused c.nothing_lent.ensures
-    (subst (SequenceAsked args.listing.now args.k) c.in-Refused.is c.find_sequence.ensures)
+pub returns-in-None : goal.returns-in-None
+returns-in-None c = no_lines c.in_ok-sequence.ensures c.in-None.is
 
-pub returns-else-not-table : goal.returns-else-not-table
-returns-else-not-table c =
-    let args = c.args in
-    let find-sequence = c.find_sequence in
-    let if1 = c.if-not-table in
-    let Known-of = c.known_of-known in
-    translations_answered (subst (SequenceAsked args.listing.now args.k) c.in-Found.is find-sequence.ensures)
-    (not-false _ if1.false) Known-of.ensures c.feature-first.ensures
-    c.translations_answer.ensures
+pub returns-in-Some : goal.returns-in-Some
+returns-in-Some c =
+    translations_answered c.in_ok-sequence.ensures c.in-Some.is c.known_of-known.ensures c.feature-first.ensures c.translations_answer.ensures

@@ -4,8 +4,8 @@ use lib.ListN.{length}
 use Rattle.ask_translations.proofs.AllLines.{LayingLines}
 use Rattle.ask_translations.proofs.lay_rest.Given as goal
 
-abbrev pub invariant-loop-feature : goal.invariant-loop-feature
-invariant-loop-feature l = LayingLines l.s l.first l.at l.known l.initial.laid l.writing l.initial.out l.laid l.out
+abbrev pub invariant-loop-s : goal.invariant-loop-s
+invariant-loop-s l = LayingLines l.s l.first l.at l.translator.known l.initial.laid l.writing l.initial.out l.laid l.out
 
-abbrev pub decreases-loop-feature : goal.decreases-loop-feature
-decreases-loop-feature l = length l.s - l.at
+abbrev pub decreases-loop-s : goal.decreases-loop-s
+decreases-loop-s l = length l.s - l.at

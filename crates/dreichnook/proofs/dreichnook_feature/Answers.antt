@@ -2,7 +2,6 @@
 use Rattle.paper.specs.Answers.{FeatureSays}
 use Rattle.paper.proofs.Demands.{demand1, demand2}
 use Rattle.dreichnook.proofs.Handed.{feature_handed}
-use Rattle.dreichnook.proofs.Operators.{operator_most}
 use Rattle.dreichnook.proofs.dreichnook_feature.Goals as goal
 
 pub returns : goal.returns
@@ -11,4 +10,4 @@ returns c =
     let args = c.args in
     let w = args.listing.now in
     let out = args.out.now in
-    let p = feature_handed w out (FeatureSays args.listing.now args.sequence args.feature out) (λ n p x after. demand1.feature args.listing.now args.sequence args.feature n p x out after) (λ n p x after. demand2.feature args.listing.now args.sequence args.feature n p x out after) (λ n p x after. operator_most) locate-feature.ensures.feature_says c.hand_feature.ensures in record { feature_says = p.0; in_listing = p.1 }
+    let p = feature_handed w out (FeatureSays args.listing.now args.sequence args.feature out) (λ n p x after. demand1.feature args.listing.now args.sequence args.feature n p x out after) (λ n p x after. demand2.feature args.listing.now args.sequence args.feature n p x out after) locate-feature.ensures c.hand_feature.ensures in record { feature_says = p.0; in_listing = p.1 }

@@ -2,7 +2,6 @@
 use Rattle.paper.specs.Index.{IndexedFeatureSays}
 use Rattle.paper.proofs.Demands.{demand1, demand2}
 use Rattle.dreichnook.proofs.Handed.{feature_handed}
-use Rattle.dreichnook.proofs.Operators.{indexed_operator_most}
 use Rattle.dreichnook.proofs.dreichnook_indexed_feature.Goals as goal
 
 pub returns : goal.returns
@@ -11,4 +10,4 @@ returns c =
     let args = c.args in
     let w = args.listing.now in
     let out = args.out.now in
-    let p = feature_handed w out (IndexedFeatureSays args.listing.now args.index.now args.sequence args.feature out) (λ n p x after. demand1.indexed_feature args.listing.now args.index.now args.sequence args.feature n p x out after) (λ n p x after. demand2.indexed_feature args.listing.now args.index.now args.sequence args.feature n p x out after) (λ n p x after. indexed_operator_most) locate-feature.ensures.indexed_feature_says c.hand_feature.ensures in record { indexed_feature_says = p.0; in_listing = p.1 }
+    let p = feature_handed w out (IndexedFeatureSays args.listing.now args.index.now args.sequence args.feature out) (λ n p x after. demand1.indexed_feature args.listing.now args.index.now args.sequence args.feature n p x out after) (λ n p x after. demand2.indexed_feature args.listing.now args.index.now args.sequence args.feature n p x out after) locate-feature.ensures c.hand_feature.ensures in record { indexed_feature_says = p.0; in_listing = p.1 }

@@ -12,4 +12,4 @@ returns c =
     (IndexedQualifierSays args.listing.now args.index.now args.sequence args.feature args.qualifier)
     (demand1.indexed_qualifier args.listing.now args.index.now args.sequence args.feature args.qualifier)
     (demand2.indexed_qualifier args.listing.now args.index.now args.sequence args.feature args.qualifier)
-    locate-qualifier.ensures.indexed_qualifier_says c.hand_qualifier.ensures
+    locate-qualifier.ensures c.hand_qualifier.ensures

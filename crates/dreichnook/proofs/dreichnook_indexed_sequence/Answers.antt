@@ -8,4 +8,4 @@ pub returns : goal.returns
 returns c =
     let args = c.args in
     let locate-sequence = c.locate_sequence in
-    let p = sequence_handed args.listing.now (IndexedSequenceSays args.listing.now args.index.now args.sequence) (demand1.indexed_sequence args.listing.now args.index.now args.sequence) (demand2.indexed_sequence args.listing.now args.index.now args.sequence) locate-sequence.ensures.indexed_sequence_says c.hand_sequence.ensures in record { indexed_sequence_says = p.0; in_listing = p.1 }
+    let p = sequence_handed args.listing.now (IndexedSequenceSays args.listing.now args.index.now args.sequence) (demand1.indexed_sequence args.listing.now args.index.now args.sequence) (demand2.indexed_sequence args.listing.now args.index.now args.sequence) locate-sequence.ensures c.hand_sequence.ensures in record { indexed_sequence_says = p.0; in_listing = p.1 }

@@ -10,5 +10,5 @@ returns c =
     let locate-qualifier = c.locate_qualifier in
     qualifier_handed args.listing.now (QualifierSays args.listing.now args.sequence args.feature args.qualifier)
     (demand1.qualifier args.listing.now args.sequence args.feature args.qualifier)
-    (demand2.qualifier args.listing.now args.sequence args.feature args.qualifier) locate-qualifier.ensures.qualifier_says
+    (demand2.qualifier args.listing.now args.sequence args.feature args.qualifier) locate-qualifier.ensures
     c.hand_qualifier.ensures

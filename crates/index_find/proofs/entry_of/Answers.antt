@@ -2,19 +2,17 @@
 use native.Mathlib.Omega.{arith}
 use Rattle.index_find.proofs.Entries.{entry_zero, entry_above, entry_outside, entry_found}
 use Rattle.index_find.proofs.entry_of.Goals as goal
+use Rattle.index_find.proofs.entry_of.Goals.{then-j-eq0-via-then-j-eq0, then-j-eq0-via-else-j-eq0+then-body-j, then-j-eq0-via-else-j-eq0+else-body-j+then-index-j}
 
 pub returns-then-j-eq0 : goal.returns-then-j-eq0
-returns-then-j-eq0 c = entry_zero c.if-j-eq0.true
-
-pub returns-then-body-j : goal.returns-then-body-j
-returns-then-body-j c = entry_above c.if-body-j.true
-
-pub returns-then-index-j : goal.returns-then-index-j
-returns-then-index-j c = entry_outside c.if-index-j.true
+returns-then-j-eq0 c =
+    elim c.then-j-eq0.branch [
+      | then-j-eq0-via-then-j-eq0 w ↦ entry_zero w.if-j-eq0.true
+      | then-j-eq0-via-else-j-eq0+then-body-j w ↦ entry_above w.if-body-j.true
+      | then-j-eq0-via-else-j-eq0+else-body-j+then-index-j w ↦ entry_outside w.if-index-j.true
+    ]
 
 pub returns : goal.returns
 returns c =
-    let if1 = c.if-j-eq0 in
-    let if2 = c.if-body-j in
-    entry_found if1.false if2.false c.past-at.ensures (omega arith) c.past.ensures (omega arith)
-    c.part_at-key.ensures c.part_at-location.ensures
+    entry_found c.if-j-eq0.false c.if-body-j.false c.past-at.ensures (omega arith) c.past.ensures (omega arith) c.part_at-key.ensures
+    c.part_at-location.ensures

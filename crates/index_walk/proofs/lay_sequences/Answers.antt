@@ -1,46 +1,24 @@
 use Rattle.std.proofs.Common.{arith}
-use Rattle.index_walk.proofs.Whole.{indexing_none, indexing_stuck, indexing_next, indexing_on, indexing_off}
+use Rattle.index_walk.proofs.Whole.{indexing_none, indexing_stuck, indexing_next, indexing_done}
 use Rattle.index_walk.proofs.lay_sequences.Goals as goal
+use Rattle.index_walk.proofs.lay_sequences.Goals.{else-loop-pass-test, then-loop-pass-test+then-next-at}
 
-pub loop-sequence-init : goal.loop-sequence-init
-loop-sequence-init c = indexing_none
+pub loop-pass-init : goal.loop-pass-init
+loop-pass-init c = indexing_none
 
-pub shape_of-room-then-next-at : goal.shape_of-room-then-next-at
-shape_of-room-then-next-at c = c.loop-sequence.invariant.kept
+pub loop-pass-preserved : goal.loop-pass-preserved
+loop-pass-preserved c =
+    indexing_next c.child_here.ensures c.loop-pass.invariant c.loop-pass-test.true c.sequence-sequence.ensures c.lay_body-body.ensures
+    c.word.ensures c.word-in-loop-pass.ensures c.lay_more-contents.ensures c.wrapping_add_usize-start.ensures.value
 
-pub returns-then-next-at : goal.returns-then-next-at
-returns-then-next-at c =
-    indexing_stuck c.child_here.ensures c.loop-sequence.invariant
-    c.if-child_here.true c.sequence-sequence.ensures c.if-next-at.true
+pub loop-pass-smaller : goal.loop-pass-smaller
+loop-pass-smaller c = omega (arith, c.child_here.ensures.inside c.loop-pass-test.true, c.if-next-at.false)
 
-pub loop-sequence-smaller : goal.loop-sequence-smaller
-loop-sequence-smaller c =
-    let child-here = c.child_here in
-    let if1 = c.if-child_here in
-    let if2 = c.if-next-at in
-    omega (arith, child-here.ensures.inside if1.true, if2.false)
-
-pub loop-sequence-preserved : goal.loop-sequence-preserved
-loop-sequence-preserved c =
-    let loop' = c.loop-sequence in
-    let child-here = c.child_here in
-    let if1 = c.if-child_here in
-    let sequence = c.sequence-sequence in
-    let lay-body = c.lay_body-size in
-    let word = c.word in
-    let word2 = c.word-then-child_here in
-    indexing_next child-here.ensures loop'.invariant if1.true sequence.ensures lay-body.ensures word.ensures word2.ensures
-    c.lay_more-contents.ensures c.wrapping_add_usize-start.ensures.value
-
-pub shape_of-room-then-contents : goal.shape_of-room-then-contents
-shape_of-room-then-contents c = c.loop-sequence.invariant.kept
-
-pub returns-then-contents : goal.returns-then-contents
-returns-then-contents c = indexing_on c.child_here.ensures c.loop-sequence.invariant c.if-child_here.false c.if-contents.true
-
-pub shape_of-room-else-child_here : goal.shape_of-room-else-child_here
-shape_of-room-else-child_here c = c.loop-sequence.invariant.kept
-
-pub returns-else-child_here : goal.returns-else-child_here
-returns-else-child_here c =
-    indexing_off c.child_here.ensures c.loop-sequence.invariant c.if-child_here.false c.if-contents.false
+pub returns : goal.returns
+returns c =
+    rw c.and.ensures
+    (elim c.loop-pass-test.branch [
+      | else-loop-pass-test w ↦ indexing_done c.child_here.ensures c.loop-pass.invariant w.loop-pass-test.false
+      | then-loop-pass-test+then-next-at w ↦
+          indexing_stuck c.child_here.ensures c.loop-pass.invariant w.loop-pass-test.true w.sequence-sequence.ensures w.if-next-at.true
+    ])

@@ -4,7 +4,7 @@ use Rattle.judge_features.proofs.judge_feature.Goals as goal
 
 pub returns-then-is_source : goal.returns-then-is_source
 returns-then-is_source c =
-    let feature = c.feature-quals in
+    let feature = c.feature-feature in
     let judge-location = c.judge_location-verdict in
     let bytes_of = c.bytes_of-name in
     let row_of = c.row_of-row in
@@ -20,12 +20,11 @@ returns-then-is_source c =
 
 pub judge_coding-fault-requires : goal.judge_coding-fault-requires
 judge_coding-fault-requires c =
-    let pre' = c.requires in
-    pre'.code_table
+    c.args.tables.now.code_table
 
 pub returns-then-is_coding : goal.returns-then-is_coding
 returns-then-is_coding c =
-    let feature = c.feature-quals in
+    let feature = c.feature-feature in
     let judge-location = c.judge_location-verdict in
     let bytes_of = c.bytes_of-name in
     let row_of = c.row_of-row in
@@ -45,7 +44,7 @@ returns-then-is_coding c =
 
 pub returns : goal.returns
 returns c =
-    let feature = c.feature-quals in
+    let feature = c.feature-feature in
     let judge-location = c.judge_location-verdict in
     let bytes_of = c.bytes_of-name in
     let row_of = c.row_of-row in

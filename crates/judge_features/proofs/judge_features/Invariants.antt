@@ -5,8 +5,8 @@ use lib.ListN.{length}
 use Rattle.judge_features.proofs.Sums.{Adding}
 use Rattle.judge_features.proofs.judge_features.Given as goal
 
-abbrev pub invariant-loop-x : goal.invariant-loop-x
-invariant-loop-x l = Adding l.s l.first l.at l.known l.tally
+abbrev pub invariant-loop-known : goal.invariant-loop-known
+invariant-loop-known l = Adding l.s l.first l.at l.known l.tally
 
-abbrev pub decreases-loop-x : goal.decreases-loop-x
-decreases-loop-x l = length l.s - l.at
+abbrev pub decreases-loop-known : goal.decreases-loop-known
+decreases-loop-known l = length l.s - l.at

@@ -4,4 +4,4 @@ use Rattle.judge_qualifiers.proofs.with_word.Goals as goal
 use borrow.Author.Rules.{rules}
 
 pub returns : goal.returns
-returns c = rw (c.either.ensures, c.either-2.ensures) (word_passed (search rules))
+returns c = word_passed (search rules)

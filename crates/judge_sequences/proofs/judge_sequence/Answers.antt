@@ -4,14 +4,14 @@ use Rattle.judge_sequences.proofs.judge_sequence.Goals as goal
 
 pub returns-then-is_skipped : goal.returns-then-is_skipped
 returns-then-is_skipped c =
-    let sequence = c.sequence-ids in
+    let sequence = c.sequence-found in
     let judge-number = c.judge_number-a in
     skipped_one sequence.ensures judge-number.ensures c.is_skipped.ensures c.earlier.result
     c.if-is_skipped.true c.is_empty-ok.ensures c.unless-b.ensures c.earlier.ensures
 
 pub returns : goal.returns
 returns c =
-    let sequence = c.sequence-ids in
+    let sequence = c.sequence-found in
     let judge-number = c.judge_number-a in
     let is_skipped_lem = c.is_skipped in
     let if1 = c.if-is_skipped in

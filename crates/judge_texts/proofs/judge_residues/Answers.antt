@@ -1,19 +1,16 @@
 -- `judge_texts::judge_residues` meets its contract, by kinds.
-use Rattle.std.proofs.Common.{refl}
+use Rattle.std.proofs.Common.{refl, inl, inr}
 use Rattle.paper.specs.Rules.{dna, rna, aa}
-use Rattle.judge_texts.proofs.Sums.{residues_of_lem, residues_other}
+use Rattle.judge_texts.proofs.Sums.{residues_of_lem}
 use Rattle.judge_texts.proofs.judge_residues.Goals as goal
 
 pub returns-in-Dna : goal.returns-in-Dna
-returns-in-Dna c = residues_of_lem dna c.in-Dna.is refl refl (λ v h. h) c.bytes_of-w.ensures c.judge_symbols.ensures
-
-pub returns-in-Rna : goal.returns-in-Rna
-returns-in-Rna c =
-    residues_of_lem rna c.in-Rna.is refl refl (λ v h. h) c.bytes_of-w.ensures c.judge_symbols-in-Rna.ensures
+returns-in-Dna c =
+    elim c.in-Dna.is [
+      | inl e ↦ residues_of_lem dna e refl refl (λ v h. h) c.bytes_of-w.ensures c.judge_symbols.ensures
+      | inr e ↦ residues_of_lem rna e refl refl (λ v h. h) c.bytes_of-w.ensures c.judge_symbols.ensures
+    ]
 
 pub returns-in-Aa : goal.returns-in-Aa
 returns-in-Aa c =
     residues_of_lem aa c.in-Aa.is refl refl (λ v h. h) c.bytes_of-w.ensures c.judge_symbols-in-Aa.ensures
-
-pub returns-in-Other : goal.returns-in-Other
-returns-in-Other c = residues_other c.in-Other.is

@@ -11,4 +11,4 @@ returns-then-row-eq0 c = row_unknown c.if-row-eq0.true
 pub returns : goal.returns
 returns c =
     let args = c.args in
-    row_known c.if-row-eq0.false (subst (λ (n : ℕ). HasAll n args.words.first args.words.second c.has_all-met.result) c.needs.ensures c.has_all-met.ensures) c.unless.ensures c.earlier.ensures
+    row_known c.if-row-eq0.false (subst (λ (n : ℕ). HasAll n args.words.first args.words.second c.has_all-met.result) c.needs-needs.ensures c.has_all-met.ensures) c.unless.ensures c.earlier.ensures

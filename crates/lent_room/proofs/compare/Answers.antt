@@ -1,35 +1,31 @@
 use native.Mathlib.Omega.{arith}
-use mathlib.Core.Path.{◌≡◌, refl}
+use mathlib.Core.Path.{◌≡◌}
 use lib.ListN.{length}
 use Rattle.lent_room.proofs.Leaves.{agrees_end, agrees_other, agrees_more, agrees_all}
 use Rattle.lent_room.proofs.compare.Goals as goal
-
-pub loop-i-init : goal.loop-i-init
-loop-i-init c = (omega arith, omega arith, refl)
+use Rattle.lent_room.proofs.compare.Goals.{then-given-k-via-then-given-k, then-given-k-via-else-given-k+then-given-k-2}
 
 pub returns-then-given-k : goal.returns-then-given-k
 returns-then-given-k c =
-    agrees_end c.args.text.now c.args.given.now
-    c.args.at c.loop-i.i c.loop-i-test.true c.loop-i.invariant.2
-    c.loop-i.invariant.1 c.if-given-k.true
+    let text = c.args.text.now in
+    let given = c.args.given.now in
+    let l = c.loop-b in
+    elim c.then-given-k.branch [
+      | then-given-k-via-then-given-k w ↦
+          agrees_end text given c.args.at l.b-index c.loop-b-test.true l.invariant.1 l.invariant.0 w.if-given-k.true
+      | then-given-k-via-else-given-k+then-given-k-2 w ↦
+          agrees_other text given c.args.at l.b-index c.loop-b-test.true l.invariant.1 l.invariant.0 w.if-given-k.false w.if-given-k-2.true
+    ]
 
-pub returns-then-given-k-2 : goal.returns-then-given-k-2
-returns-then-given-k-2 c =
-    let args = c.args in
-    let loop' = c.loop-i in
-    agrees_other args.text.now args.given.now args.at loop'.i c.loop-i-test.true
-    loop'.invariant.2 loop'.invariant.1 c.if-given-k.false c.if-given-k-2.true
-
-pub loop-i-preserved : goal.loop-i-preserved
-loop-i-preserved c =
-    let args = c.args in
-    let loop' = c.loop-i in (
-      omega arith,
-      omega (arith, loop'.invariant.1),
-      agrees_more args.text.now args.given.now args.at loop'.i c.loop-i-test.true loop'.invariant.2 loop'.invariant.1 c.if-given-k.false c.if-given-k-2.false,
+pub loop-b-preserved : goal.loop-b-preserved
+loop-b-preserved c =
+    let l = c.loop-b in (
+      omega (arith, l.invariant.0),
+      agrees_more c.args.text.now c.args.given.now c.args.at l.b-index c.loop-b-test.true l.invariant.1 l.invariant.0 c.if-given-k.false c.if-given-k-2.false,
     )
 
 pub returns : goal.returns
 returns c =
-    let e : c.loop-i.i ≡ length c.args.text.now = omega (arith, c.loop-i.invariant.0, c.loop-i-test.false) in
-    agrees_all c.args.text.now c.args.given.now c.args.at e c.loop-i.invariant.2 c.loop-i.invariant.1
+    let l = c.loop-b in
+    let e : l.b-index ≡ length c.args.text.now = omega (arith, l.auto.b-index-end, c.loop-b-test.false) in
+    agrees_all c.args.text.now c.args.given.now c.args.at e l.invariant.1 l.invariant.0

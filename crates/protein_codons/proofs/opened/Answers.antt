@@ -6,7 +6,4 @@ pub returns-then-x : goal.returns-then-x
 returns-then-x c = opens_none c.args.x c.args.walk c.if-x.true
 
 pub returns : goal.returns
-returns c =
-    let args = c.args in
-    let pre' = c.requires in
-    opens_some args.x args.walk (pre') c.if-x.false
+returns c = opens_some c.args.x c.args.walk c.requires c.if-x.false

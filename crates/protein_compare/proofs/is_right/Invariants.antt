@@ -6,7 +6,7 @@ use Rattle.protein_compare.proofs.Values.{Comparing}
 use Rattle.protein_compare.proofs.is_right.Given as goal
 
 abbrev pub invariant-loop-c : goal.invariant-loop-c
-invariant-loop-c l = Comparing (code_of l.code) l.r l.loc l.top l.initial.x l.value l.x l.i
+invariant-loop-c l = Comparing (code_of l.coding.code.now) l.coding.r.now l.coding.loc.now l.coding.top l.initial.x l.value l.x l.i
 
 abbrev pub decreases-loop-c : goal.decreases-loop-c
-decreases-loop-c l = residues_left (length l.r) (length l.loc) l.x
+decreases-loop-c l = residues_left (length l.coding.r.now) (length l.coding.loc.now) l.x

@@ -1,32 +1,24 @@
 use native.Mathlib.Omega.{arith}
-use Rattle.protein_code.specs.Tables.{code_of}
-use Rattle.protein_codons.specs.Reading.{span_letters}
+use mathlib.Core.Path.{refl}
+use Rattle.protein_codons.specs.Letters.{letters_in}
 use Rattle.protein_compare.proofs.Runs.{same_start, same_are}
 use Rattle.protein_compare.proofs.same_blocks.Goals as goal
 
-pub returns-then-whole-lt64 : goal.returns-then-whole-lt64
-returns-then-whole-lt64 c =
-    let a = c.args in
-    same_start (span_letters (code_of a.code.now) a.r.now a.low a.high a.turned) (omega arith) (omega arith)
+pub loop-block-init : goal.loop-block-init
+loop-block-init c = same_start (letters_in c.args.x.now) (omega arith) (omega arith)
 
-pub loop-k-init : goal.loop-k-init
-loop-k-init c =
-    let a = c.args in
-    (omega arith, same_start (span_letters (code_of a.code.now) a.r.now a.low a.high a.turned) (omega arith) (omega arith))
+pub same_each-n-requires : goal.same_each-n-requires
+same_each-n-requires c =
+    record {
+      start_le_end = omega arith;
+      end_bound = omega arith;
+      end_in_bounds = omega arith;
+      plain = λ e. (refl, c.plain_block.ensures c.if-not-plain_block.false);
+      same = c.loop-block.invariant;
+    }
 
-pub returns-then-not-plain_block : goal.returns-then-not-plain_block
-returns-then-not-plain_block c = c.loop-k.invariant.1
-
-pub same_plain-n-requires : goal.same_plain-n-requires
-same_plain-n-requires c =
-    let pre' = c.requires in
-    let plain = c.plain_block.ensures (c.if-not-plain_block.false) in record { start_bound = omega arith; high_in_bounds = pre'.high_in_bounds; plain_block = plain; start_in_bounds = omega arith; same = c.loop-k.invariant.1; coded = pre'.coded }
-
-pub returns-then-n-k : goal.returns-then-n-k
-returns-then-n-k c = c.same_plain-n.ensures
-
-pub loop-k-preserved : goal.loop-k-preserved
-loop-k-preserved c = (omega arith, same_are c.same_plain-n.ensures c.if-n-k.false)
+pub loop-block-preserved : goal.loop-block-preserved
+loop-block-preserved c = same_are c.same_each-n.ensures (omega (arith, c.if-n-k.false))
 
 pub returns : goal.returns
-returns c = c.loop-k.invariant.1
+returns c = same_are c.loop-block.invariant (omega arith)

@@ -1,12 +1,8 @@
 -- Block by block. Invariant: the codons passed are the value's letters.
-use Prim.Native.Nat.{◌≤◌, ◌-◌}
-use Rattle.protein_code.specs.Tables.{code_of}
-use Rattle.protein_codons.specs.Reading.{span_letters}
+use Prim.Native.Nat.{◌*◌}
+use Rattle.protein_codons.specs.Letters.{letters_in}
 use Rattle.protein_compare.specs.Comparing.{Same}
 use Rattle.protein_compare.proofs.same_blocks.Given as goal
 
-abbrev pub invariant-loop-k : goal.invariant-loop-k
-invariant-loop-k l = (l.k ≤ l.whole) × Same l.low l.high (span_letters (code_of l.code) l.r l.low l.high l.turned) l.value l.from l.k
-
-abbrev pub decreases-loop-k : goal.decreases-loop-k
-decreases-loop-k l = l.whole - l.k
+abbrev pub invariant-loop-block : goal.invariant-loop-block
+invariant-loop-block l = Same l.x.span.low l.x.span.high (letters_in l.x) l.value l.from (64 * l.block)

@@ -1,23 +1,20 @@
 use native.Mathlib.Omega.{arith}
-use Rattle.protein_compare.proofs.Runs.{same_more}
+use Rattle.protein_codons.proofs.Blocks.{plain_nth}
+use Rattle.protein_compare.proofs.Runs.{same_more, same_are}
 use Rattle.protein_compare.proofs.same_each.Goals as goal
 
-pub loop-k-init : goal.loop-k-init
-loop-k-init c = c.requires.same
-
-pub returns-then-a-eq42 : goal.returns-then-a-eq42
-returns-then-a-eq42 c = c.loop-k.invariant
-
-pub returns-then-value-from : goal.returns-then-value-from
-returns-then-value-from c =
-    let loop' = c.loop-k in
-    loop'.invariant
+pub letter_at-a-requires : goal.letter_at-a-requires
+letter_at-a-requires g c =
+    record {
+      k_bound = omega arith;
+      plain = λ e.
+          let x = c.args.x.now in
+          let p = c.requires.plain e in
+          plain_nth x.r.now x.span.low x.span.high x.span.turned c.args.start (omega (arith, p.0)) p.1 c.loop-k.k (omega arith) (omega (arith, p.0));
+    }
 
 pub loop-k-preserved : goal.loop-k-preserved
-loop-k-preserved c =
-    let loop' = c.loop-k in
-    same_more loop'.invariant (omega arith) (omega arith) c.letter_at-a.ensures c.if-a-eq42.false
-    c.if-value-from.false
+loop-k-preserved g c = same_more c.loop-k.invariant (omega arith) (omega arith) c.letter_at-a.ensures c.if-a-eq42.false c.if-value-from.false
 
 pub returns : goal.returns
-returns c = c.loop-k.invariant
+returns g c = same_are c.loop-k.invariant (omega arith)

@@ -1,12 +1,7 @@
 -- Codon by codon. Invariant: those passed are the value's letters.
-use Prim.Native.Nat.{◌-◌}
-use Rattle.protein_code.specs.Tables.{code_of}
-use Rattle.protein_codons.specs.Reading.{span_letters}
+use Rattle.protein_codons.specs.Letters.{letters_in}
 use Rattle.protein_compare.specs.Comparing.{Same}
 use Rattle.protein_compare.proofs.same_each.Given as goal
 
 abbrev pub invariant-loop-k : goal.invariant-loop-k
-invariant-loop-k l = Same l.low l.high (span_letters (code_of l.code) l.r l.low l.high l.turned) l.value l.from l.k
-
-abbrev pub decreases-loop-k : goal.decreases-loop-k
-decreases-loop-k l = l.end - l.k
+invariant-loop-k g l = Same l.x.span.low l.x.span.high (letters_in l.x) l.value l.from l.k

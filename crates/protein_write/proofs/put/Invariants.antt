@@ -5,7 +5,7 @@ use Rattle.protein_write.proofs.Putting.{Putting}
 use Rattle.protein_write.proofs.put.Given as goal
 
 abbrev pub invariant-loop-passed : goal.invariant-loop-passed
-invariant-loop-passed l = Putting (code_of l.code) l.r l.loc l.top l.initial.x l.count l.initial.out l.out l.x l.k
+invariant-loop-passed l = Putting (code_of l.text.of.code.now) l.text.of.r.now l.text.of.loc.now l.text.of.top l.initial.x l.count l.initial.out l.out l.x l.k
 
 abbrev pub decreases-loop-passed : goal.decreases-loop-passed
 decreases-loop-passed l = l.count - l.k

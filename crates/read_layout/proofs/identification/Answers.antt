@@ -7,5 +7,5 @@ returns c =
     let tag = c.tag in
     let enter = c.enter-a in
     let leaf-maybe = c.leaf_maybe-b in
-    identification_reads _ tag.ensures enter.ensures leaf-maybe.ensures c.leaf_on-c.ensures
+    identification_reads _ tag.ensures enter.ensures leaf-maybe.ensures c.leaf-c.ensures
     c.leaf_maybe-d.ensures c.leave.ensures

@@ -1,4 +1,4 @@
--- `read_layout::layout` meets its contract: rule 1 by the length, rule 2 by the reading of the whole.
+-- `read_layout::layout` meets its contract: what the whole text says of the layout.
 use native.Mathlib.Omega.{arith}
 use mathlib.Core.Path.{subst}
 use Rattle.read_steps.specs.Reads.{AtEnd}
@@ -14,5 +14,5 @@ returns-in-Ok c =
     let x = accepted _ _ (step_is d.0 h) (subst (AtEnd _) h d.1) in
     record { short = omega arith; listing = x.0; laid = x.1 }
 
-pub returns-in-Fail : goal.returns-in-Fail
-returns-in-Fail c = strays (omega arith) (refused _ (step_is c.document.ensures.0 c.in-Fail.is))
+pub returns-in-Err : goal.returns-in-Err
+returns-in-Err c = strays (omega arith) (refused _ (step_is c.document.ensures.0 c.in-Err.is))

@@ -1,15 +1,18 @@
 -- `read_layout::root` meets its contract: the element from its parts.
-use Rattle.read_layout.proofs.Wholes.{root_reads, titles_reads, sequences_reads}
+use Rattle.paper.specs.Bytes.{bytes}
+use Rattle.read_tags.proofs.Tags.{spoken_element}
+use Rattle.read_layout.proofs.Header.{sequence_element}
+use Rattle.read_layout.proofs.Wholes.{root_reads, titles_next, titles_reads, sequences_last, sequences_reads}
 use Rattle.read_layout.proofs.root.Goals as goal
+
+pub many-d-requires : goal.many-d-requires
+many-d-requires c = record { class_table = c.requires; element = spoken_element (bytes "InventionTitle"); last = titles_next }
+
+pub many-f-requires : goal.many-f-requires
+many-f-requires c = record { class_table = c.requires; element = sequence_element; last = sequences_last }
 
 pub returns : goal.returns
 returns c =
-    let tag = c.tag-a in
-    let attributes = c.attributes in
-    let enter = c.enter-b in
-    let introduction = c.introduction-c in
-    let title-on = c.title_on in
-    let titles = c.titles-d in
-    root_reads tag.ensures attributes.ensures enter.ensures introduction.ensures
-    (titles_reads title-on.ensures titles.ensures) c.leaf_on-e.ensures
-    (sequences_reads c.sequence_on.ensures c.sequences-f.ensures) c.close.ensures
+    root_reads c.tag-a.ensures c.attributes.ensures c.enter-b.ensures c.introduction-c.ensures
+    (titles_reads c.read.ensures c.many-d.ensures) c.leaf-e.ensures
+    (sequences_reads c.read-2.ensures c.many-f.ensures) c.close.ensures

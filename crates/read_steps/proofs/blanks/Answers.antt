@@ -1,58 +1,39 @@
+-- `read_steps::blanks` meets its contract: blanks, up to a byte that is none, or to the end.
 use Prim.Native.Nat.{suc, ◌<◌}
 use native.Mathlib.Omega.{arith}
 use mathlib.Core.Path.{sym, ap, ◌∙◌}
 use lib.ListN.{length, drop, length-drop}
 use Rattle.paper.specs.Bytes.{is_blank}
 use Rattle.read_steps.proofs.Leaves.{run_more, run_stops, run_ends, at_drop}
-use Rattle.read_steps.proofs.Steps.{failed_again}
+use Rattle.read_steps.proofs.Steps.{found}
 use Rattle.read_steps.proofs.blanks.Goals as goal
 
-pub returns-in_default : goal.returns-in_default
-returns-in_default c = failed_again _ c.in_default.is c.again.ensures
-
-pub loop-at-init : goal.loop-at-init
-loop-at-init c = (0, omega arith, omega arith, tt)
+pub returns-then-not-is_blank : goal.returns-then-not-is_blank
+returns-then-not-is_blank c =
+    let i = c.loop-at.invariant in
+    let s = c.args.s.now in
+    let p = c.in_ok-next.field-0.next in
+    found c.in_ok-next.was i.1 c.max.ensures
+    (run_stops is_blank (drop p s) p i.0 i.2 i.3
+    (ap is_blank (at_drop s p c.loop-at.at i.0 i.1) ∙ sym c.is_blank.ensures ∙ c.if-not-is_blank.true))
 
 pub loop-at-preserved : goal.loop-at-preserved
 loop-at-preserved c =
-    let args = c.args in
-    let l = c.loop-at in
-    let s = args.s.now in
-    let h : l.invariant.0 < length (drop c.in-Ok.next s) = omega (arith, l.invariant.1, length-drop c.in-Ok.next s) in (
-      suc l.invariant.0,
-      omega (arith, l.invariant.1),
+    let i = c.loop-at.invariant in
+    let s = c.args.s.now in
+    let p = c.in_ok-next.field-0.next in
+    let h : i.0 < length (drop p s) = omega (arith, i.1, length-drop p s) in (
+      suc i.0,
+      omega (arith, i.1),
       h,
-      run_more is_blank (drop c.in-Ok.next s) l.invariant.0 h l.invariant.3
-          (ap is_blank (at_drop s c.in-Ok.next l.at l.invariant.0 l.invariant.1) ∙ sym c.is_blank.ensures ∙ c.if-is_blank.true),
+      run_more is_blank (drop p s) i.0 h i.3
+          (ap is_blank (at_drop s p c.loop-at.at i.0 i.1) ∙ sym c.is_blank.ensures ∙ c.if-not-is_blank.false),
     )
-
-pub returns-else-is_blank : goal.returns-else-is_blank
-returns-else-is_blank c =
-    let args = c.args in
-    let l = c.loop-at in
-    let s = args.s.now in
-    record {
-      is = rw c.in-Ok.is (
-        l.invariant.0,
-        l.invariant.0,
-        l.invariant.1,
-        omega (arith, l.invariant.1, c.most.ensures),
-        run_stops is_blank (drop c.in-Ok.next s) c.in-Ok.next l.invariant.0 l.invariant.2 l.invariant.3
-            (ap is_blank (at_drop s c.in-Ok.next l.at l.invariant.0 l.invariant.1) ∙ sym c.is_blank.ensures ∙ c.if-is_blank.false),
-      );
-    }
 
 pub returns : goal.returns
 returns c =
-    let args = c.args in
-    let l = c.loop-at in
-    let s = args.s.now in
-    record {
-      is = rw c.in-Ok.is (
-        l.invariant.0,
-        l.invariant.0,
-        l.invariant.1,
-        omega (arith, l.invariant.1, c.most-2.ensures),
-        run_ends is_blank (drop c.in-Ok.next s) c.in-Ok.next l.invariant.0 l.invariant.2 l.invariant.3 (omega (arith, l.invariant.1, length-drop c.in-Ok.next s)),
-      );
-    }
+    let i = c.loop-at.invariant in
+    let s = c.args.s.now in
+    let p = c.in_ok-next.field-0.next in
+    found c.in_ok-next.was (omega (arith, i.1, i.2, length-drop p s, c.max-end.ensures)) c.max-2.ensures
+    (run_ends is_blank (drop p s) p i.0 i.2 i.3 (omega (arith, i.1, length-drop p s)))

@@ -1,6 +1,5 @@
--- `read_steps::blanks` meets its contract. The loop's invariant: the bytes from `next` to `at` are blanks. The measure is what is left of
--- the text.
-use Prim.Native.Nat.{ℕ, ◌+◌, ◌-◌, ◌≤◌}
+-- The loop's invariant: the bytes from `next` to `at` are blanks.
+use Prim.Native.Nat.{ℕ, ◌+◌, ◌≤◌}
 use mathlib.Core.Path.{◌≡◌}
 use lib.ListN.{length, take, drop}
 use Rattle.paper.specs.Bytes.{all, is_blank}
@@ -8,6 +7,3 @@ use Rattle.read_steps.proofs.blanks.Given as goal
 
 abbrev pub invariant-loop-at : goal.invariant-loop-at
 invariant-loop-at l = (n : ℕ) × (l.at ≡ l.next + n) × (n ≤ length (drop l.next l.s)) × all is_blank (take n (drop l.next l.s))
-
-abbrev pub decreases-loop-at : goal.decreases-loop-at
-decreases-loop-at l = length l.s - l.at

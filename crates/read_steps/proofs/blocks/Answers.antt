@@ -2,7 +2,7 @@ use Prim.Native.Nat.{◌+◌}
 use native.Mathlib.Omega.{arith}
 use mathlib.Core.Bool.{false}
 use Rattle.read_steps.specs.Texts.{is_plain}
-use Rattle.read_steps.proofs.Scans.{upto_none, upto_join}
+use Rattle.read_steps.proofs.Scans.{upto_none, upto_join, upto_part}
 use Rattle.read_steps.proofs.blocks.Goals as goal
 
 pub loop-at-init : goal.loop-at-init
@@ -15,7 +15,7 @@ pub loop-at-preserved-then-block-eq0 : goal.loop-at-preserved-then-block-eq0
 loop-at-preserved-then-block-eq0 c =
     let l = c.loop-at in
     let a = c.args in
-    (omega arith, upto_join (is_plain false) a.s.now a.start l.at (l.at + 64) l.invariant.1 (c.block.ensures.none c.if-block-eq0.true))
+    (omega arith, upto_join (is_plain false) a.s.now a.start l.at (l.at + 64) l.invariant.1 (upto_part (is_plain false) a.s.now l.at (l.at + 64) (omega arith) (omega arith) (c.block.ensures.none c.if-block-eq0.true)))
 
 pub returns-then-block-ne0 : goal.returns-then-block-ne0
 returns-then-block-ne0 c = let l = c.loop-at in record { onward = l.invariant.0; each = l.invariant.1 }
@@ -24,7 +24,7 @@ pub loop-at-preserved : goal.loop-at-preserved
 loop-at-preserved c =
     let l = c.loop-at in
     let a = c.args in
-    (omega arith, upto_join (is_plain false) a.s.now a.start l.at (l.at + 32) l.invariant.1 (c.block-else-block-eq0.ensures.none c.if-block-ne0.false))
+    (omega arith, upto_join (is_plain false) a.s.now a.start l.at (l.at + 32) l.invariant.1 (upto_part (is_plain false) a.s.now l.at (l.at + 32) (omega arith) (omega arith) (c.block-else-block-eq0.ensures.none c.if-block-ne0.false)))
 
 pub returns : goal.returns
 returns c = let l = c.loop-at in record { onward = l.invariant.0; each = l.invariant.1 }

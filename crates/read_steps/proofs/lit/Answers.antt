@@ -1,63 +1,41 @@
+-- `read_steps::lit` meets its contract: the text goes on with the word, or differs from it, or ends.
+use Prim.Native.Nat.{◌+◌}
 use native.Mathlib.Numerals.{add-one}
 use native.Mathlib.Omega.{arith}
-use mathlib.Core.Path.{◌≡◌, sym, ◌∙◌}
+use mathlib.Core.Path.{◌≡◌, refl, sym, ◌∙◌}
 use lib.ListN.{length, drop, length-drop}
 use Rattle.read_steps.proofs.Leaves.{same_more, these_took, these_differ, these_end, at_drop}
-use Rattle.read_steps.proofs.Steps.{failed_again}
+use Rattle.read_steps.proofs.Steps.{found, lacks}
+use Rattle.read_steps.proofs.lit.Goals.{then-at-s-via-then-at-s, then-at-s-via-else-at-s+then-s-at}
 use Rattle.read_steps.proofs.lit.Goals as goal
-
-pub returns-in_default : goal.returns-in_default
-returns-in_default c = failed_again _ c.in_default.is c.again.ensures
 
 pub returns-then-at-s : goal.returns-then-at-s
 returns-then-at-s c =
     let l = c.loop-i in
-    let a = c.args in
-    record {
-      is = rw c.in-Ok.is (
-        l.i,
-        omega (arith, c.most.ensures, l.invariant.0),
-        these_end a.x.now (drop c.in-Ok.next a.s.now) c.in-Ok.next l.i (omega arith) l.invariant.2
-            (omega (arith, length-drop c.in-Ok.next a.s.now)),
-      );
-    }
-
-pub returns-then-s-at : goal.returns-then-s-at
-returns-then-s-at c =
-    let l = c.loop-i in
-    let a = c.args in
-    record {
-      is = rw c.in-Ok.is (
-        l.i,
-        omega (arith, c.most-then-s-at.ensures, l.invariant.0),
-        these_differ a.x.now (drop c.in-Ok.next a.s.now) c.in-Ok.next l.i (omega arith) l.invariant.2
-            (λ e. c.if-s-at.true (sym (at_drop a.s.now c.in-Ok.next l.at l.i l.invariant.0) ∙ e)),
-      );
-    }
+    let x = c.args.x.now in
+    let s = c.args.s.now in
+    let p = c.in_ok-next.field-0.next in
+    lacks c.in_ok-next.was c.max.ensures
+    (elim c.then-at-s.branch [
+      | then-at-s-via-then-at-s w ↦ these_end x (drop p s) p l.i (omega arith) l.invariant.1 (omega (arith, w.if-at-s.true, length-drop p s))
+      | then-at-s-via-else-at-s+then-s-at w ↦
+          these_differ x (drop p s) p l.i (omega arith) l.invariant.1 (λ e. w.if-s-at.true (sym (at_drop s p (p + l.i) l.i refl) ∙ e))
+    ])
 
 pub loop-i-preserved : goal.loop-i-preserved
 loop-i-preserved c =
     let l = c.loop-i in
-    let a = c.args in (
-      omega arith,
+    let s = c.args.s.now in
+    let p = c.in_ok-next.field-0.next in (
       omega arith,
       rw add-one
-          (same_more (drop c.in-Ok.next a.s.now) a.x.now l.i (omega arith)
-          (omega (arith, length-drop c.in-Ok.next a.s.now)) l.invariant.2
-          (at_drop a.s.now c.in-Ok.next l.at l.i l.invariant.0 ∙ c.if-s-at.false)),
+          (same_more (drop p s) c.args.x.now l.i (omega arith) (omega (arith, length-drop p s)) l.invariant.1
+          (at_drop s p (p + l.i) l.i refl ∙ c.if-s-at.false)),
     )
 
 pub returns : goal.returns
 returns c =
-    let l = c.loop-i in
-    let a = c.args in
-    let e : length a.x.now ≡ l.i = omega arith in
-    record {
-      is = rw c.in-Ok.is (
-        length a.x.now,
-        length a.x.now,
-        omega arith,
-        omega (arith, c.most-2.ensures),
-        these_took a.x.now (drop c.in-Ok.next a.s.now) c.in-Ok.next (rw e l.invariant.2),
-      );
-    }
+    let s = c.args.s.now in
+    let p = c.in_ok-next.field-0.next in
+    let e : length c.args.x.now ≡ c.loop-i.i = omega arith in
+    found c.in_ok-next.was refl c.max-2.ensures (these_took c.args.x.now (drop p s) p (rw e c.loop-i.invariant.1))

@@ -4,8 +4,8 @@ use Rattle.read_layout.specs.Says.{ShapeSays}
 use Rattle.trial.specs.Numbers.{laid, refused}
 use Rattle.trial.proofs.trial_layout.Goals as goal
 
-pub returns-in-Laid : goal.returns-in-Laid
-returns-in-Laid c = laid (subst (ShapeSays _) c.in-Laid.is c.layout.ensures)
+pub returns-in-Ok : goal.returns-in-Ok
+returns-in-Ok c = laid (subst (ShapeSays _) c.in-Ok.is c.layout.ensures)
 
-pub returns-in-Refused : goal.returns-in-Refused
-returns-in-Refused c = refused (subst (ShapeSays _) c.in-Refused.is c.layout.ensures)
+pub returns-in-Err : goal.returns-in-Err
+returns-in-Err c = refused (subst (ShapeSays _) c.in-Err.is c.layout.ensures)

@@ -1,26 +1,14 @@
 use Rattle.value_residues.proofs.Residues.{between_more}
 use Rattle.paper.proofs.Bits.{or_none}
 use Rattle.value_residues.specs.Residues.{Between}
-use Rattle.std.proofs.Common.{◌≡◌, ℕ, ◌+◌, subst, arith}
+use Rattle.std.proofs.Common.{◌≡◌, ◌+◌, subst, arith}
 use Rattle.value_residues.proofs.block.Goals as goal
-
-pub loop-j-init : goal.loop-j-init
-loop-j-init c = (omega arith, λ h i l m. absurd (omega arith))
 
 pub loop-j-preserved : goal.loop-j-preserved
 loop-j-preserved c =
     let l = c.loop-j in
     let a = c.args in
     let o = c.strange-bad in
-    let q : a.at + l.j + 1 ≡ a.at + (l.j + 1) = omega arith in (
-      omega arith,
-      λ h. let b = or_none l.bad o.result h in subst (Between a.w.now a.class a.at) q
-          (between_more a.w.now a.class a.at (a.at + l.j) (l.invariant.1 b.0) (o.ensures.none b.1)),
-    )
-
-pub returns : goal.returns
-returns c =
-    let l = c.loop-j in
-    let a = c.args in
-    let q : l.j ≡ 64 = omega arith in
-    record { none = λ h. subst (λ (k : ℕ). Between a.w.now a.class a.at (a.at + k)) q (l.invariant.1 h) }
+    let q : a.at + l.j + 1 ≡ a.at + (l.j + 1) = omega arith in
+    λ h. let b = or_none l.bad o.result h in subst (Between a.w.now a.class a.at) q
+    (between_more a.w.now a.class a.at (a.at + l.j) (l.invariant b.0) (o.ensures.none b.1))

@@ -2,10 +2,8 @@
 use Rattle.value_vocabulary.proofs.Keyed.{no_row, has_row}
 use Rattle.value_vocabulary.proofs.row_in.Goals as goal
 
-pub returns-then-k-eq255 : goal.returns-then-k-eq255
-returns-then-k-eq255 c = no_row c.args.rows c.find-k.ensures.0 c.if-k-eq255.true
+pub returns-in-None : goal.returns-in-None
+returns-in-None c = no_row c.args.rows (rw c.in-None.is at c.find.ensures.0)
 
-pub returns : goal.returns
-returns c =
-    let args = c.args in
-    has_row args.rows c.find-k.ensures.0 c.if-k-eq255.false c.pair_at.ensures.0
+pub returns-in-Some : goal.returns-in-Some
+returns-in-Some c = has_row c.args.rows (rw c.in-Some.is at c.find.ensures.0) c.pair_at.ensures.0

@@ -8,19 +8,18 @@ pub returns-then-same : goal.returns-then-same
 returns-then-same c = let x = c.same in record { says = named dna (tells_true x.result c.if-same.true x.ensures) }
 
 pub returns-then-same-2 : goal.returns-then-same-2
-returns-then-same-2 c = let y = c.same-2 in record { says = named rna (tells_true y.result c.if-same-2.true y.ensures) }
+returns-then-same-2 c = let y = c.same-else-same in record { says = named rna (tells_true y.result c.if-same-2.true y.ensures) }
 
 pub returns-then-same-3 : goal.returns-then-same-3
-returns-then-same-3 c = let z = c.same-3 in record { says = named aa (tells_true z.result c.if-same-3.true z.ensures) }
+returns-then-same-3 c = let z = c.same-else-same-2 in record { says = named aa (tells_true z.result c.if-same-3.true z.ensures) }
 
-pub returns : goal.returns
-returns c =
-    let if1 = c.if-same in
+pub returns-else-same-3 : goal.returns-else-same-3
+returns-else-same-3 c =
     let x = c.same in
-    let y = c.same-2 in
-    let z = c.same-3 in
+    let y = c.same-else-same in
+    let z = c.same-else-same-2 in
     record {
-      says = unnamed (tells_false x.result if1.false x.ensures)
+      says = unnamed (tells_false x.result c.if-same.false x.ensures)
           (tells_false y.result c.if-same-2.false y.ensures)
           (tells_false z.result c.if-same-3.false z.ensures);
     }

@@ -7,4 +7,4 @@ returns c =
     let line-over = c.line_over-a in
     let line-over2 = c.line_over-b in
     header_found line-over.ensures line-over2.ensures c.tag-c.ensures
-    c.attributes-produced.ensures c.enter-e.ensures c.parties-office.ensures
+    c.attributes-produced.ensures c.enter-e.ensures c.parties-applicant.ensures

@@ -3,4 +3,4 @@ use Rattle.walk_header.proofs.Root.{heading_found}
 use Rattle.walk_header.proofs.heading.Goals as goal
 
 pub returns : goal.returns
-returns c = heading_found c.identification_maybe-office.ensures c.leaf_maybe-next.ensures
+returns c = heading_found c.identification_maybe-a.ensures c.leaf_maybe.ensures

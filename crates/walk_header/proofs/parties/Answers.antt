@@ -4,7 +4,7 @@ use Rattle.walk_header.proofs.parties.Goals as goal
 
 pub returns : goal.returns
 returns c =
-    let heading = c.heading-office in
-    let identification-maybe = c.identification_maybe-first_office in
+    let heading = c.heading-a in
+    let identification-maybe = c.identification_maybe-b in
     parties_found heading.ensures identification-maybe.ensures c.party_maybe-applicant.ensures
     c.party_maybe-inventor.ensures

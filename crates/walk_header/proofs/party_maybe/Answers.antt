@@ -5,7 +5,7 @@ use Rattle.walk_header.proofs.party_maybe.Goals as goal
 pub returns-then-opens : goal.returns-then-opens
 returns-then-opens c =
     party_present c.if-opens.true c.opens.ensures
-    c.spoken-a.ensures c.leaf_maybe-next.ensures
+    c.spoken-a.ensures c.leaf_maybe.ensures
 
-pub returns : goal.returns
-returns c = party_absent c.if-opens.false c.opens.ensures
+pub returns-else-opens : goal.returns-else-opens
+returns-else-opens c = party_absent c.if-opens.false c.opens.ensures

@@ -13,15 +13,15 @@ loop-next-init c = record { is = λ l e d fol. (l, d) }
 
 pub returns-then-next-at : goal.returns-then-next-at
 returns-then-next-at c =
-    over_stuck (bytes "INSDQualifier") (child qualifier) qualifier_leads closing (record { clash = refl; sharps = refl }) c.if-child_here.true (c.child_here.ensures.tells (bytes "INSDQualifier") refl) c.loop-next.invariant (qualifier_over c.qualifier-next.ensures) c.if-next-at.true
+    over_stuck (bytes "INSDQualifier") (child qualifier) qualifier_leads closing (record { clash = refl; sharps = refl }) c.loop-next-test.true (c.child_here.ensures.tells (bytes "INSDQualifier") refl) c.loop-next.invariant (qualifier_over c.qualifier-next.ensures) c.if-next-at.true
 
 pub loop-next-smaller : goal.loop-next-smaller
-loop-next-smaller c = omega (arith, c.child_here.ensures.inside c.if-child_here.true)
+loop-next-smaller c = omega (arith, c.child_here.ensures.inside c.loop-next-test.true)
 
 pub loop-next-preserved : goal.loop-next-preserved
 loop-next-preserved c =
-    over_next (bytes "INSDQualifier") (child qualifier) qualifier_leads closing (record { clash = refl; sharps = refl }) c.if-child_here.true (c.child_here.ensures.tells (bytes "INSDQualifier") refl) c.loop-next.invariant (qualifier_over c.qualifier-next.ensures)
+    over_next (bytes "INSDQualifier") (child qualifier) qualifier_leads closing (record { clash = refl; sharps = refl }) c.loop-next-test.true (c.child_here.ensures.tells (bytes "INSDQualifier") refl) c.loop-next.invariant (qualifier_over c.qualifier-next.ensures)
 
-pub returns-else-child_here : goal.returns-else-child_here
-returns-else-child_here c =
-    over_done (bytes "INSDQualifier") (child qualifier) qualifier_leads closing (record { clash = refl; sharps = refl }) c.if-child_here.false (c.child_here.ensures.tells (bytes "INSDQualifier") refl) c.loop-next.invariant
+pub returns : goal.returns
+returns c =
+    over_done (bytes "INSDQualifier") (child qualifier) qualifier_leads closing (record { clash = refl; sharps = refl }) c.loop-next-test.false (c.child_here.ensures.tells (bytes "INSDQualifier") refl) c.loop-next.invariant

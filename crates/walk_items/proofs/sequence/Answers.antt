@@ -13,7 +13,7 @@ returns c =
     let leaf2 = c.leaf-g in
     let leaf3 = c.leaf-h in
     let other-ids = c.other_ids-ids in
-    let table = c.table-present in
+    let table = c.table-table in
     let leaf4 = c.leaf-k in
     sequence_found tag.ensures attribute.ensures enter.ensures tag2.ensures enter2.ensures leaf.ensures leaf2.ensures
     leaf3.ensures other-ids.ensures table.ensures leaf4.ensures c.leave-l.ensures c.leave.ensures

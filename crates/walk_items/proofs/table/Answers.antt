@@ -9,5 +9,5 @@ returns-then-opens c =
     table_present if1.true opens.ensures c.tag-a.ensures
     c.enter-first.ensures c.table_end-b.ensures c.leave.ensures
 
-pub returns : goal.returns
-returns c = table_absent c.if-opens.false c.opens.ensures
+pub returns-else-opens : goal.returns-else-opens
+returns-else-opens c = table_absent c.if-opens.false c.opens.ensures

@@ -1,14 +1,17 @@
 -- `walk_seek::feature_in` meets its contract: 32, or the feature.
-use Rattle.walk_seek.proofs.Within.{placed, no_table, no_feature, feature_so}
+use Rattle.std.proofs.Common.{rules, ◌≡◌, Err}
+use Rattle.walk_seek.proofs.Within.{no_table, no_feature, feature_so}
 use Rattle.walk_seek.proofs.feature_in.Goals as goal
 
-pub returns-then-not-sequence : goal.returns-then-not-sequence
-returns-then-not-sequence c = no_table c.if-not-sequence.true
+pub returns-in_err-table : goal.returns-in_err-table
+returns-in_err-table c =
+    let e : c.from_residual.result ≡ Err (record { rule = 32; place = 0 }) = search rules in
+    rw e (no_table c.in_err-table.ensures.ok_part)
 
-pub returns-in-Missing : goal.returns-in-Missing
-returns-in-Missing c = no_feature c.if-not-sequence.false (placed c.in-Missing.is c.nth.ensures)
+pub returns-in_err-at : goal.returns-in_err-at
+returns-in_err-at c =
+    let e : c.from_residual-in_err-at.result ≡ Err (record { rule = 32; place = 0 }) = search rules in
+    rw e (no_feature c.in_ok-table.ensures.ok_part c.nth.ensures c.in_err-at.ensures.ok_part)
 
-pub returns-in-At : goal.returns-in-At
-returns-in-At c =
-    let if1 = c.if-not-sequence in
-    feature_so if1.false (placed c.in-At.is c.nth.ensures) c.feature.ensures
+pub returns : goal.returns
+returns c = feature_so c.in_ok-table.ensures.ok_part c.nth.ensures c.in_ok-at.ensures.ok_part c.feature.ensures

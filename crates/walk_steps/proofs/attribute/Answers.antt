@@ -5,5 +5,5 @@ use Rattle.walk_steps.proofs.attribute.Goals as goal
 pub returns : goal.returns
 returns c =
     let args = c.args in
-    attribute_found args.name.now c.blanks.ensures c.past-a.ensures
-    c.past-from.ensures c.until-to.ensures c.past.ensures
+    attribute_found args.name.now c.blanks.ensures c.past.ensures
+    c.past-from.ensures c.until-to.ensures c.past-2.ensures

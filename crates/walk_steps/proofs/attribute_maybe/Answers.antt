@@ -8,7 +8,7 @@ returns-then-begins c =
     attribute_present args.name.now c.blanks.ensures c.if-begins.true
     c.begins.ensures c.attribute-next.ensures
 
-pub returns : goal.returns
-returns c =
+pub returns-else-begins : goal.returns-else-begins
+returns-else-begins c =
     let args = c.args in
     attribute_absent args.name.now c.blanks.ensures c.if-begins.false c.begins.ensures

@@ -1,11 +1,7 @@
--- `walk_steps::blanks` meets its contract. The loop's invariant: the bytes so far are blanks. The measure is what is left.
-use Rattle.std.proofs.Common.{◌-◌, ◌≤◌, length}
+-- `walk_steps::blanks` meets its contract. The loop's invariant: the bytes so far are blanks.
 use Rattle.paper.specs.Bytes.{is_blank}
 use Rattle.read_steps.specs.Texts.{Upto}
 use Rattle.walk_steps.proofs.blanks.Given as goal
 
 abbrev pub invariant-loop-i : goal.invariant-loop-i
-invariant-loop-i l = (l.at ≤ l.i) × Upto is_blank l.s l.at l.i
-
-abbrev pub decreases-loop-i : goal.decreases-loop-i
-decreases-loop-i l = length l.s - l.i
+invariant-loop-i l = Upto is_blank l.s l.at l.i

@@ -3,21 +3,13 @@ use Rattle.std.proofs.Common.{sym, ◌∙◌}
 use Rattle.walk_steps.specs.Stands.{missing, empty, holds}
 use Rattle.walk_steps.proofs.children.Goals as goal
 
+pub returns-then-not-here : goal.returns-then-not-here
+returns-then-not-here c = missing c.if-not-here.true
+
 pub returns-then-peek-eq47 : goal.returns-then-peek-eq47
 returns-then-peek-eq47 c =
-    let if1 = c.if-here in
-    let tag = c.tag-a in
-    let peek = c.peek in
-    empty if1.true tag.ensures c.blanks-h.ensures (sym peek.ensures ∙ c.if-peek-eq47.true)
-    c.past-b.ensures c.blanks.ensures
-
-pub returns-then-here : goal.returns-then-here
-returns-then-here c =
-    let if1 = c.if-here in
-    let tag = c.tag-a in
-    let peek = c.peek in
-    holds if1.true tag.ensures c.blanks-h.ensures (λ h. c.if-peek-eq47.false (peek.ensures ∙ h))
-    c.past-b-then-here.ensures c.blanks-then-here.ensures
+    empty c.if-not-here.false c.tag.ensures c.blanks-h.ensures (sym c.peek.ensures ∙ c.if-peek-eq47.true) c.past.ensures c.blanks.ensures
 
 pub returns : goal.returns
-returns c = missing c.if-here.false
+returns c =
+    holds c.if-not-here.false c.tag.ensures c.blanks-h.ensures (λ h. c.if-peek-eq47.false (c.peek.ensures ∙ h)) c.past-2.ensures c.blanks-2.ensures

@@ -3,4 +3,4 @@ use Rattle.walk_steps.proofs.Elements.{enter_ends}
 use Rattle.walk_steps.proofs.enter.Goals as goal
 
 pub returns : goal.returns
-returns c = enter_ends c.blanks.ensures c.past-a.ensures c.blanks-2.ensures
+returns c = enter_ends c.blanks.ensures c.past.ensures c.blanks-2.ensures

@@ -5,5 +5,5 @@ use Rattle.walk_steps.proofs.leaf_if.Goals as goal
 pub returns-then-here : goal.returns-then-here
 returns-then-here c = leaf_present c.if-here.true c.leaf-next.ensures
 
-pub returns : goal.returns
-returns c = leaf_absent c.if-here.false
+pub returns-else-here : goal.returns-else-here
+returns-else-here c = leaf_absent c.if-here.false

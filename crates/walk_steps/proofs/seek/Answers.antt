@@ -4,16 +4,20 @@ use Rattle.walk_steps.specs.Stands.{others}
 use Rattle.walk_steps.proofs.seek.Goals as goal
 
 pub loop-i-init : goal.loop-i-init
-loop-i-init c = (omega arith, upto_none (others c.args.stop) c.args.s.now c.args.at)
+loop-i-init c = upto_none (others c.args.stop) c.args.s.now c.args.at
 
 pub returns-then-s-i : goal.returns-then-s-i
 returns-then-s-i c =
-    record { onward = c.loop-i.invariant.0; each = c.loop-i.invariant.1; ends = λ h. ap not (eq-eqb _ _ c.if-s-i.true) }
+    record { onward = c.loop-i.auto.i; each = c.loop-i.invariant; ends = λ h. ap not (eq-eqb _ _ c.if-s-i.true) }
 
 pub loop-i-preserved : goal.loop-i-preserved
 loop-i-preserved c =
-    (omega (arith, c.loop-i.invariant.0), upto_more (others c.args.stop) c.args.s.now c.args.at c.loop-i.i c.loop-i.invariant.1 (omega arith) (ap not (ne_eqb _ _ c.if-s-i.false)))
+    upto_more (others c.args.stop) c.args.s.now c.args.at c.loop-i.i c.loop-i.invariant (omega arith) (ap not (ne_eqb _ _ c.if-s-i.false))
 
 pub returns : goal.returns
 returns c =
-    record { onward = c.loop-i.invariant.0; each = c.loop-i.invariant.1; ends = λ h. absurd (omega arith) }
+    record {
+      onward = c.requires.before;
+      each = λ k h j. c.loop-i.invariant k h (omega (arith, j));
+      ends = λ h. absurd (omega (arith, h));
+    }

@@ -5,5 +5,5 @@ use Rattle.walk_steps.proofs.shut.Goals as goal
 pub returns-then-long : goal.returns-then-long
 returns-then-long c = rw c.if-long.true c.leave.ensures
 
-pub returns : goal.returns
-returns c = rw c.if-long.false (record { is = λ e d fol. nothing_stands d })
+pub returns-else-long : goal.returns-else-long
+returns-else-long c = rw c.if-long.false (record { is = λ e d fol. nothing_stands d })

@@ -1,156 +1,78 @@
-use Prim.Native.Nat.{◌-◌}
-use mathlib.Core.Bool.{false}
-use Rattle.paper.proofs.Locate.Model.{read}
 use native.Mathlib.Omega.{arith}
+use mathlib.Core.Path.{◌≡◌}
+use Rattle.std.specs.Prelude.{None, Some, eqb}
 use Rattle.paper.specs.Bytes.{bytes}
-use Rattle.location_judge.specs.declared.judging.Out.TheVariants.{Bad, Read}
-use Rattle.location_judge.proofs.Stand.{room}
-use Rattle.location_judge.proofs.Levels.{lists_are, outs_are, no_depth, deep, comp_not, comp_bad, comp_open, comp_good, level_leaf, list_by, list_not}
+use Rattle.location_judge.specs.Readings.{number_of, operator_of}
+use Rattle.location_judge.proofs.Levels.{comp_bad, comp_open, comp_good, level_leaf, list_by, list_not}
 use Rattle.location_judge.proofs.Gather.{run_start, run_bad, run_one, passed_by, run_closed, run_other, run_next}
 use Rattle.location_judge.proofs.judging.+read.Goals as goal
+use Rattle.location_judge.proofs.judging.+read.Goals.{in-Order, in_default-matches}
 
-pub returns-then-depth-eq0 : goal.returns-then-depth-eq0
-returns-then-depth-eq0 t c = no_depth c.args.turn c.args.far c.if-depth-eq0.true c.leaf.ensures
-
-pub overflow_add-at : goal.overflow_add-at
-overflow_add-at t c = omega (arith, room (bytes "complement(") c.complement_at.ensures c.if-complement_at.true)
-
-pub read-requires : goal.read-requires
-read-requires t c = (omega arith, tt)
-
-pub returns-in-Bad : goal.returns-in-Bad
-returns-in-Bad t c =
+pub returns-in_err-inner : goal.returns-in_err-inner
+returns-in_err-inner t c =
     let a = c.args in
-    deep a.depth a.turn a.far c.if-depth-eq0.false
-    (comp_bad c.args.turn c.args.far (read (c.args.depth - 1) false c.args.far) (read (c.args.depth - 1) c.args.turn false) c.complement_at.ensures c.if-complement_at.true
-    c.if-turn.true (outs_are c.read.ensures c.in-Bad.is))
+    rw c.from_residual.ensures
+    (comp_bad a.depth a.turn a.far c.if-depth-eq0.false c.complement_at.ensures c.if-complement_at.true c.if-not-turn.false c.in_err-inner.ensures)
 
-pub overflow_add-result : goal.overflow_add-result
-overflow_add-result t c = omega (arith, room (bytes ")") c.begins.ensures c.if-begins.true)
-
-pub returns-then-begins : goal.returns-then-begins
-returns-then-begins t c =
+pub returns-then-not-begins : goal.returns-then-not-begins
+returns-then-not-begins t c =
     let a = c.args in
-    deep a.depth a.turn a.far c.if-depth-eq0.false
-    (comp_good c.args.turn c.args.far (read (c.args.depth - 1) false c.args.far) (read (c.args.depth - 1) c.args.turn false) c.complement_at.ensures
-    c.if-complement_at.true c.if-turn.true
-    (outs_are c.read.ensures c.in-Read.is) c.begins.ensures
-    c.if-begins.true)
-
-pub returns-in-Read : goal.returns-in-Read
-returns-in-Read t c =
-    let a = c.args in
-    deep a.depth a.turn a.far c.if-depth-eq0.false
-    (comp_open c.args.turn c.args.far (read (c.args.depth - 1) false c.args.far) (read (c.args.depth - 1) c.args.turn false) c.complement_at.ensures
-    c.if-complement_at.true c.if-turn.true
-    (outs_are c.read.ensures c.in-Read.is) c.begins.ensures
-    c.if-begins.false)
+    comp_open a.depth a.turn a.far c.if-depth-eq0.false c.complement_at.ensures c.if-complement_at.true c.if-not-turn.false c.in_ok-inner.ensures
+    c.begins.ensures c.if-not-begins.true
 
 pub returns-then-complement_at : goal.returns-then-complement_at
 returns-then-complement_at t c =
     let a = c.args in
-    deep a.depth a.turn a.far c.if-depth-eq0.false
-    (comp_not c.args.turn c.args.far (read (c.args.depth - 1) false c.args.far) (read (c.args.depth - 1) c.args.turn false) c.complement_at.ensures c.if-complement_at.true c.if-turn.false)
+    comp_good a.depth a.turn a.far c.if-depth-eq0.false c.complement_at.ensures c.if-complement_at.true c.if-not-turn.false c.in_ok-inner.ensures
+    c.begins.ensures c.if-not-begins.false
 
-pub returns-in-No : goal.returns-in-No
-returns-in-No t c =
+pub returns-in_default : goal.returns-in_default
+returns-in_default t c =
     let a = c.args in
-    deep a.depth a.turn a.far c.if-depth-eq0.false
-    (level_leaf c.args.turn c.args.far (read (c.args.depth - 1) false c.args.far) (read (c.args.depth - 1) c.args.turn false) c.complement_at.ensures c.if-complement_at.false
-    (lists_are c.list_at.ensures c.in-No.is) c.leaf-in-No.ensures)
+    level_leaf a.depth a.turn a.far c.if-depth-eq0.false c.complement_at.ensures c.if-complement_at.false c.in_default.ensures c.leaf-in_default.ensures
 
-pub loop-n-init : goal.loop-n-init
-loop-n-init t c = run_start (lists_are c.list_at.ensures c.in-At.is)
-
-pub read-requires-in-loop-n : goal.read-requires-in-loop-n
-read-requires-in-loop-n t c = (omega arith, tt)
-
-pub returns-in-Bad-read : goal.returns-in-Bad-read
-returns-in-Bad-read t c =
+pub returns-then-not-far : goal.returns-then-not-far
+returns-then-not-far t c =
     let a = c.args in
-    deep a.depth a.turn a.far c.if-depth-eq0.false
-    (list_by c.args.turn c.args.far (read (c.args.depth - 1) false c.args.far) (read (c.args.depth - 1) c.args.turn false) (lists_are c.list_at.ensures
-    c.in-At.is)
-    c.if-far.true Bad tt
-    (run_bad c.loop-n.invariant (outs_are c.read-in-loop-n.ensures c.in-Bad-read.is)))
+    list_not a.depth a.turn a.far c.if-depth-eq0.false c.in-Some.ensures c.if-not-far.true
 
-pub returns-then-i-from : goal.returns-then-i-from
-returns-then-i-from t c =
+pub loop-member-init : goal.loop-member-init
+loop-member-init t c =
+    let m : c.match-matches.matches ≡ eqb (number_of (operator_of c.in-Some.list.operator)) 2
+    = elim c.match-matches.branch [
+      | in-Order w ↦ rw (w.matches-is, w.in-Order.is)
+      | in_default-matches w ↦ rw (w.matches-is, w.in_default-matches.is)
+    ] in
+    rw m (run_start c.in-Some.ensures)
+
+pub returns-in_err-member : goal.returns-in_err-member
+returns-in_err-member t c =
     let a = c.args in
-    deep a.depth a.turn a.far
-    c.if-depth-eq0.false
-    (list_by c.args.turn c.args.far (read (c.args.depth - 1) false c.args.far) (read (c.args.depth - 1) c.args.turn false) (lists_are c.list_at.ensures
-    c.in-At.is)
-    c.if-far.true Bad tt
-    (run_one c.loop-n.invariant
-    (outs_are c.read-in-loop-n.ensures
-    c.in-Read-read.is)
-    c.begins-in-Read-read.ensures c.if-begins-2.true (omega (arith, c.if-i-from.true))))
+    rw c.from_residual-in_err-member.ensures
+    (list_by a.depth a.turn a.far c.if-depth-eq0.false c.in-Some.ensures c.if-not-far.false None tt (run_bad c.loop-member.invariant c.in_err-member.ensures))
 
-pub overflow_add-result-then-begins-2 : goal.overflow_add-result-then-begins-2
-overflow_add-result-then-begins-2 t c =
-    omega (
-      arith,
-      c.well_formed,
-      room (bytes ")") c.begins-in-Read-read.ensures c.if-begins-2.true,
-    )
-
-pub returns-then-begins-2 : goal.returns-then-begins-2
-returns-then-begins-2 t c =
-    let h = outs_are c.read-in-loop-n.ensures
-    c.in-Read-read.is in
+pub returns-then-i-list : goal.returns-then-i-list
+returns-then-i-list t c =
     let a = c.args in
-    deep a.depth a.turn a.far
-    c.if-depth-eq0.false
-    (rw c.add_member-all.ensures
-    (list_by c.args.turn c.args.far (read (c.args.depth - 1) false c.args.far) (read (c.args.depth - 1) c.args.turn false) (lists_are c.list_at.ensures
-    c.in-At.is)
-    c.if-far.true (Read _ _)
-    (passed_by c.loop-n.invariant h (bytes ")")
-    c.begins-in-Read-read.ensures c.if-begins-2.true)
-    (run_closed c.loop-n.invariant h
-    c.begins-in-Read-read.ensures c.if-begins-2.true (λ e. omega (arith, c.if-i-from.false)))))
+    list_by a.depth a.turn a.far c.if-depth-eq0.false c.in-Some.ensures c.if-not-far.false None tt
+    (run_one c.loop-member.invariant c.in_ok-member.ensures c.begins-in-loop-member.ensures c.if-begins.true (omega (arith, c.if-i-list.true)))
 
-pub overflow_add-i : goal.overflow_add-i
-overflow_add-i t c =
-    omega (
-      arith,
-      c.well_formed,
-      room (bytes ",") c.begins-in-Read-read-2.ensures c.if-begins-3.true,
-    )
-
-pub loop-n-smaller : goal.loop-n-smaller
-loop-n-smaller t c =
-    omega (
-      arith,
-      (outs_are c.read-in-loop-n.ensures
-          c.in-Read-read.is).within.onward,
-      room (bytes ",") c.begins-in-Read-read-2.ensures c.if-begins-3.true,
-    )
-
-pub loop-n-preserved : goal.loop-n-preserved
-loop-n-preserved t c =
+pub returns-then-begins : goal.returns-then-begins
+returns-then-begins t c =
+    let a = c.args in
     rw c.add_member-all.ensures
-    (run_next c.loop-n.invariant
-    (outs_are c.read-in-loop-n.ensures
-    c.in-Read-read.is)
-    c.begins-in-Read-read.ensures c.begins-in-Read-read-2.ensures c.if-begins-3.true)
+    (list_by a.depth a.turn a.far c.if-depth-eq0.false c.in-Some.ensures c.if-not-far.false (Some _)
+    (passed_by c.loop-member.invariant c.in_ok-member.ensures (bytes ")") c.begins-in-loop-member.ensures c.if-begins.true)
+    (run_closed c.loop-member.invariant c.in_ok-member.ensures c.begins-in-loop-member.ensures c.if-begins.true c.if-i-list.false))
 
-pub returns-else-begins-3 : goal.returns-else-begins-3
-returns-else-begins-3 t c =
+pub returns-then-not-begins-2 : goal.returns-then-not-begins-2
+returns-then-not-begins-2 t c =
     let a = c.args in
-    deep a.depth a.turn a.far
-    c.if-depth-eq0.false
-    (list_by c.args.turn c.args.far (read (c.args.depth - 1) false c.args.far) (read (c.args.depth - 1) c.args.turn false) (lists_are c.list_at.ensures
-    c.in-At.is)
-    c.if-far.true Bad tt
-    (run_other c.loop-n.invariant
-    (outs_are c.read-in-loop-n.ensures
-    c.in-Read-read.is)
-    c.begins-in-Read-read.ensures c.begins-in-Read-read-2.ensures c.if-begins-2.false c.if-begins-3.false))
+    list_by a.depth a.turn a.far c.if-depth-eq0.false c.in-Some.ensures c.if-not-far.false None tt
+    (run_other c.loop-member.invariant c.in_ok-member.ensures c.begins-in-loop-member.ensures c.begins-in-loop-member-2.ensures
+    c.if-begins.false c.if-not-begins-2.true)
 
-pub returns-in-At : goal.returns-in-At
-returns-in-At t c =
-    let a = c.args in
-    deep a.depth a.turn a.far c.if-depth-eq0.false
-    (list_not c.args.turn c.args.far (read (c.args.depth - 1) false c.args.far) (read (c.args.depth - 1) c.args.turn false) (lists_are c.list_at.ensures c.in-At.is) c.if-far.false)
+pub loop-member-preserved : goal.loop-member-preserved
+loop-member-preserved t c =
+    rw c.add_member-all.ensures
+    (run_next c.loop-member.invariant c.in_ok-member.ensures c.begins-in-loop-member.ensures c.begins-in-loop-member-2.ensures c.if-not-begins-2.false)

@@ -1,13 +1,12 @@
 -- The verdict on a whole text.
-use Rattle.location_judge.proofs.Levels.{outs_are}
 use Rattle.location_judge.proofs.Verdicts.{judge_bad, judge_left, judge_is}
 use Rattle.location_judge.proofs.judging.judge.Goals as goal
 
-pub returns-in-Bad : goal.returns-in-Bad
-returns-in-Bad c = judge_bad (outs_are c.read.ensures c.in-Bad.is)
+pub returns-in_err-found : goal.returns-in_err-found
+returns-in_err-found c = rw c.from_residual.ensures (judge_bad c.in_err-found.ensures)
 
-pub returns-then-n-s : goal.returns-then-n-s
-returns-then-n-s c = judge_left (outs_are c.read.ensures c.in-Read.is) c.if-n-s.true
+pub returns-then-found-s : goal.returns-then-found-s
+returns-then-found-s c = judge_left c.in_ok-found.ensures c.if-found-s.true
 
-pub returns-in-Read : goal.returns-in-Read
-returns-in-Read c = judge_is (outs_are c.read.ensures c.in-Read.is) c.if-n-s.false
+pub returns : goal.returns
+returns c = judge_is c.in_ok-found.ensures c.if-found-s.false

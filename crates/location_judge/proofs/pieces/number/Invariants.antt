@@ -1,11 +1,6 @@
 -- A number, byte by byte. Invariant: what is kept of the digits so far.
-use Prim.Native.Nat.{◌-◌}
-use lib.ListN.{length}
 use Rattle.location_judge.proofs.Digits.{Counted}
 use Rattle.location_judge.proofs.pieces.number.Given as goal
 
 abbrev pub invariant-loop-i : goal.invariant-loop-i
-invariant-loop-i l = Counted l.s l.at l.i l.v
-
-abbrev pub decreases-loop-i : goal.decreases-loop-i
-decreases-loop-i l = length l.s - l.i
+invariant-loop-i l = Counted l.s l.at l.i l.value

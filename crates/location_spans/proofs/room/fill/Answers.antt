@@ -6,9 +6,4 @@ pub returns-then-out-count : goal.returns-then-out-count
 returns-then-out-count c = spans_short c.count_spans-count.ensures c.args.out.now c.if-out-count.true
 
 pub returns : goal.returns
-returns c =
-    let args = c.args in
-    let count-spans = c.count_spans-count in
-    let if1 = c.if-out-count in
-    spans_are count-spans.ensures args.out.now if1.false c.start-operator.ensures
-    c.put_spans.ensures
+returns c = spans_are c.count_spans-count.ensures c.args.out.now c.if-out-count.false c.start-operator.ensures c.put_spans.ensures

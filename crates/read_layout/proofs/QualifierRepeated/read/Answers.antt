@@ -1,0 +1,15 @@
+-- An element from its parts, or a tag that is not there.
+use mathlib.Core.Path.{refl}
+use Rattle.read_steps.proofs.Steps.{step_is, step_to, handed, failed, tried_failed}
+use Rattle.read_layout.proofs.Runs.{enters_failed, leaves_failed}
+use Rattle.read_layout.proofs.Elements.{qualifier_reads}
+use Rattle.read_layout.proofs.QualifierRepeated.read.Goals as goal
+
+pub returns-in_err-a : goal.returns-in_err-a
+returns-in_err-a c =
+    step_to (handed _ c.from_residual.ensures.1)
+    (qualifier_reads (step_is c.tag.ensures c.in_err-a.was) (enters_failed _ refl) (failed _ refl) (tried_failed _ refl refl) (leaves_failed _ refl))
+
+pub returns : goal.returns
+returns c =
+    qualifier_reads (step_is c.tag.ensures c.in_ok-a.was) c.enter-b.ensures c.leaf-c.ensures c.leaf_maybe-d.ensures c.leave.ensures

@@ -1,9 +1,0 @@
--- `read_layout::sequence_on` meets its contract: a step that failed passes through.
-use Rattle.read_steps.proofs.Steps.{step_from, failed_at}
-use Rattle.read_layout.proofs.sequence_on.Goals as goal
-
-pub returns-in-Ok : goal.returns-in-Ok
-returns-in-Ok c = step_from c.in-Ok.is c.sequence.ensures
-
-pub returns-in-Fail : goal.returns-in-Fail
-returns-in-Fail c = failed_at c.in-Fail.is
