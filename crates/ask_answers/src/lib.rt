@@ -237,7 +237,7 @@ pub fn hand_lent(answer: LentAnswer, place: &mut usize, size: &mut usize) -> u32
             0
         }
         Err(refused) => {
-            *size = 0;
+            *size = 0; // nothing is lent
             hand_refusal(refused, place)
         }
     }

@@ -29,6 +29,7 @@ pub fn accepted(listing: &[u8]) -> Result<AcceptedAt, Refused>
 }
 
 // The sequence number k, if it isn't skipped.
+#[tactic(auto, using(crate::proofs::Found::skipped_so))]
 pub fn find_sequence(listing: &[u8], k: usize) -> Result<FoundSequence, Refused>
     ensures { SequenceAsked listing.now k result }
 {

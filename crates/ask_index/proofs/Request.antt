@@ -3,6 +3,7 @@ use Prim.Native.Nat.{ℕ, ◌/◌, ◌≤◌}
 use native.Mathlib.Omega.{arith}
 use mathlib.Core.Path.{◌≡◌, refl, sym, ap, ◌∙◌, subst}
 use mathlib.Core.List.{List}
+use Rattle.std.specs.Prelude.{Ok, Err}
 use lib.ListN.{length, take}
 use lib.Seq.{take_at}
 use Rattle.paper.specs.Tree.{Listing}
@@ -14,6 +15,11 @@ use Rattle.paper.proofs.Index.{index_room, same_index}
 use Rattle.paper.proofs.Refusals.{refusal_some, index_refused, index_check_refused}
 use Rattle.paper.proofs.Once as once
 use Rattle.read_layout.proofs.Wholes.{laid_once}
+use Rattle.ask_answers.specs.Stretches.{LentAnswer, IndexVerdict}
+use Rattle.ask_answers.specs.Given.{IndexGiven}
+use Rattle.ask_answers.proofs.Once as given
+use Rattle.ask_index.specs.Takes.{TakesIndex}
+use Rattle.ask_index.proofs.Made.{index_belongs}
 
 -- ---- two allowed answers are equal
 
@@ -22,6 +28,16 @@ index_once = once.index_once laid_once
 
 pub index_check_once : {w x : List ℕ} {n p m q : ℕ} → IndexCheckSays w x n p → IndexCheckSays w x m q → (n ≡ m) × (p ≡ q)
 index_check_once = once.index_check_once laid_once
+
+-- the answers themselves
+pub index_given_once : (w out : List ℕ) (x y : LentAnswer) (a b : List ℕ) → IndexGiven w out x a → IndexGiven w out y b → (x ≡ y) × (a ≡ b)
+index_given_once w out = given.lent_given_once (IndexSays w out) (λ n p z m q j x y. index_once)
+
+pub takes_index_once : (w x : List ℕ) (a b : IndexVerdict) → TakesIndex w x a → TakesIndex w x b → a ≡ b
+takes_index_once w x (Ok a) (Ok b) f g = refl
+takes_index_once w x (Ok a) (Err q) f g = absurd (refusal_some (index_check_refused g) (sym (index_check_once (index_belongs f) (IndexCheckSays.refused g)).0))
+takes_index_once w x (Err r) (Ok b) f g = absurd (refusal_some (index_check_refused f) (index_check_once (IndexCheckSays.refused f) (index_belongs g)).0)
+takes_index_once w x (Err r) (Err q) f g = let z = index_check_once (IndexCheckSays.refused f) (IndexCheckSays.refused g) in given.refusal_once z.0 z.1
 
 -- ---- the request
 

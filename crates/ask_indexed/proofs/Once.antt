@@ -9,6 +9,9 @@ use Rattle.paper.specs.Answers.{Part, FeatureShown}
 use Rattle.paper.specs.Index.{IndexedSequenceSays, IndexedFeatureSays, IndexedQualifierSays, IndexedTranslationSays, IndexedTranslationsSays}
 use Rattle.paper.proofs.Once as once
 use Rattle.read_layout.proofs.Wholes.{laid_once}
+use Rattle.ask_answers.specs.Stretches.{SequenceAnswer, FeatureAnswer, QualifierAnswer, LentAnswer}
+use Rattle.ask_answers.specs.Given.{IndexedSequenceGiven, IndexedFeatureGiven, IndexedQualifierGiven, IndexedTranslationGiven, IndexedTranslationsGiven}
+use Rattle.ask_answers.proofs.Once as given
 use Rattle.ask_show.specs.declared.Sequence.{Sequence}
 use Rattle.ask_show.specs.declared.Feature.{Feature}
 use Rattle.ask_show.specs.declared.Qualifier.{Qualifier}
@@ -38,6 +41,27 @@ module _ {w x : List ℕ} {k : ℕ} where
   pub translations_once : {out : List ℕ} {n p z m q r : ℕ} {y v : List ℕ} → IndexedTranslationsSays w x k out n p z y → IndexedTranslationsSays w x k out m q r v
       → (n ≡ m) × (p ≡ q) × (z ≡ r) × (y ≡ v)
   translations_once = once.indexed_translations_once laid_once
+
+-- ---- the answers themselves
+
+module _ (w x : List ℕ) (k : ℕ) where
+  pub sequence_given_once : (y z : SequenceAnswer) → IndexedSequenceGiven w x k y → IndexedSequenceGiven w x k z → y ≡ z
+  sequence_given_once = given.sequence_given_once w (IndexedSequenceSays w x k) (λ n p d m q e y z. sequence_once)
+
+  pub qualifier_given_once : (j i : ℕ) (y z : QualifierAnswer) → IndexedQualifierGiven w x k j i y → IndexedQualifierGiven w x k j i z → y ≡ z
+  qualifier_given_once j i = given.qualifier_given_once w (IndexedQualifierSays w x k j i) (λ n p m q a v c u b d. qualifier_once)
+
+  pub feature_given_once : (j : ℕ) (out : List ℕ) (y z : FeatureAnswer) (a b : List ℕ) → IndexedFeatureGiven w x k j out y a → IndexedFeatureGiven w x k j out z b
+      → (y ≡ z) × (a ≡ b)
+  feature_given_once j out = given.feature_given_once w (IndexedFeatureSays w x k j out) (λ n p m q y z a b. feature_once)
+
+  pub translation_given_once : (j : ℕ) (out : List ℕ) (y z : LentAnswer) (a b : List ℕ) → IndexedTranslationGiven w x k j out y a
+      → IndexedTranslationGiven w x k j out z b → (y ≡ z) × (a ≡ b)
+  translation_given_once j out = given.lent_given_once (IndexedTranslationSays w x k j out) (λ n p y m q z a b. translation_once)
+
+  pub translations_given_once : (out : List ℕ) (y z : LentAnswer) (a b : List ℕ) → IndexedTranslationsGiven w x k out y a → IndexedTranslationsGiven w x k out z b
+      → (y ≡ z) × (a ≡ b)
+  translations_given_once out = given.lent_given_once (IndexedTranslationsSays w x k out) (λ n p y m q z a b. translations_once)
 
 -- ---- parts of the lent listing, which stands at `at`
 

@@ -8,6 +8,9 @@ use Rattle.paper.specs.declared.Refused.{Refused}
 use Rattle.paper.specs.Answers.{Part, FeatureShown, SequenceSays, FeatureSays, QualifierSays, TranslationSays, TranslationsSays}
 use Rattle.paper.proofs.Once as once
 use Rattle.read_layout.proofs.Wholes.{laid_once}
+use Rattle.ask_answers.specs.Stretches.{SequenceAnswer, FeatureAnswer, QualifierAnswer, LentAnswer}
+use Rattle.ask_answers.specs.Given.{SequenceGiven, FeatureGiven, QualifierGiven, TranslationGiven, TranslationsGiven}
+use Rattle.ask_answers.proofs.Once as given
 use Rattle.ask_show.specs.declared.Sequence.{Sequence}
 use Rattle.ask_show.specs.declared.Feature.{Feature}
 use Rattle.ask_show.specs.declared.Qualifier.{Qualifier}
@@ -37,6 +40,26 @@ module _ {w : List ℕ} {k : ℕ} where
   pub translations_once : {out : List ℕ} {n p z m q r : ℕ} {x y : List ℕ} → TranslationsSays w k out n p z x → TranslationsSays w k out m q r y
       → (n ≡ m) × (p ≡ q) × (z ≡ r) × (x ≡ y)
   translations_once = once.translations_once laid_once
+
+-- ---- the answers themselves
+
+module _ (w : List ℕ) (k : ℕ) where
+  pub sequence_given_once : (x y : SequenceAnswer) → SequenceGiven w k x → SequenceGiven w k y → x ≡ y
+  sequence_given_once = given.sequence_given_once w (SequenceSays w k) (λ n p d m q e x y. sequence_once)
+
+  pub qualifier_given_once : (j i : ℕ) (x y : QualifierAnswer) → QualifierGiven w k j i x → QualifierGiven w k j i y → x ≡ y
+  qualifier_given_once j i = given.qualifier_given_once w (QualifierSays w k j i) (λ n p m q x v y u a b. qualifier_once)
+
+  pub feature_given_once : (j : ℕ) (out : List ℕ) (x y : FeatureAnswer) (a b : List ℕ) → FeatureGiven w k j out x a → FeatureGiven w k j out y b → (x ≡ y) × (a ≡ b)
+  feature_given_once j out = given.feature_given_once w (FeatureSays w k j out) (λ n p m q x y a b. feature_once)
+
+  pub translation_given_once : (j : ℕ) (out : List ℕ) (x y : LentAnswer) (a b : List ℕ) → TranslationGiven w k j out x a → TranslationGiven w k j out y b
+      → (x ≡ y) × (a ≡ b)
+  translation_given_once j out = given.lent_given_once (TranslationSays w k j out) (λ n p z m q r a b. translation_once)
+
+  pub translations_given_once : (out : List ℕ) (x y : LentAnswer) (a b : List ℕ) → TranslationsGiven w k out x a → TranslationsGiven w k out y b
+      → (x ≡ y) × (a ≡ b)
+  translations_given_once out = given.lent_given_once (TranslationsSays w k out) (λ n p z m q r a b. translations_once)
 
 -- ---- parts of the lent listing, which stands at `at`
 

@@ -1,6 +1,6 @@
 -- What a call shows, from an answer that says where its parts stand; and that two views of one answer are equal, the parts by their bytes
 -- and where they stand.
-use Prim.Native.Nat.{ℕ, zero, suc, ◌+◌}
+use Prim.Native.Nat.{ℕ, ◌+◌}
 use native.Mathlib.Omega.{arith}
 use mathlib.Core.Path.{◌≡◌, refl, ap, sym, ◌∙◌}
 use mathlib.Core.Bool.{Bool, true≢false}
@@ -9,51 +9,15 @@ use Rattle.std.specs.Prelude.{Option, Some, None, Result, Ok, Err, is_some}
 use Rattle.std.specs.Borrow.{Bor}
 use Rattle.paper.specs.Answers.{shown, Part, FeatureShown}
 use Rattle.paper.specs.declared.Refused.{Refused}
-use Rattle.location_judge.specs.Readings.{operator_code}
-use Rattle.location_judge.specs.declared.operators.Operator.{Operator}
-use Rattle.location_judge.specs.declared.operators.Operator.TheVariants.{Join, Order}
 use Rattle.value_words.specs.declared.Molecule.{Molecule}
-use Rattle.value_words.specs.declared.Molecule.TheVariants.{Dna, Rna, Aa, Other}
-use Rattle.ask_answers.specs.Stretches.{SequenceAnswer, FeatureAnswer, QualifierAnswer, part_is, value_is, ValueLies, kind_is}
+use Rattle.ask_answers.specs.Stretches.{SequenceAnswer, FeatureAnswer, QualifierAnswer, part_is, value_is, ValueLies}
 use Rattle.ask_answers.specs.Given.{SequenceGivenBy, FeatureGivenBy, QualifierGivenBy}
 use Rattle.ask_answers.specs.declared.Stretch.{Stretch}
+use Rattle.ask_answers.proofs.Once.{kind_once, operator_once, refusal_once}
 use Rattle.ask_show.specs.declared.Sequence.{Sequence}
 use Rattle.ask_show.specs.declared.Feature.{Feature}
 use Rattle.ask_show.specs.declared.Qualifier.{Qualifier}
 use Rattle.ask_show.specs.Shown.{Points, SequenceIn, FeatureIn, QualifierIn, ValuePoints, ValuePointsAt, SequencePoints, ShowsSequenceBy, ShowsFeatureBy, ShowsQualifierBy}
-
--- a kind by its number
-kind_once : (c d : Molecule) → kind_is c ≡ kind_is d → c ≡ d
-kind_once c d e = sym (same c) ∙ ap back e ∙ same d
-  where
-    back : ℕ → Molecule
-    back zero = Other
-    back (suc zero) = Dna
-    back (suc (suc zero)) = Rna
-    back (suc (suc (suc n))) = Aa
-
-    same : (c : Molecule) → back (kind_is c) ≡ c
-    same Dna = refl
-    same Rna = refl
-    same Aa = refl
-    same Other = refl
-
--- an operator, or none, by its number
-operator_once : (a b : Option Operator) → operator_code a ≡ operator_code b → a ≡ b
-operator_once a b e = sym (same a) ∙ ap back e ∙ same b
-  where
-    back : ℕ → Option Operator
-    back zero = None
-    back (suc zero) = Some Join
-    back (suc (suc n)) = Some Order
-
-    same : (a : Option Operator) → back (operator_code a) ≡ a
-    same None = refl
-    same (Some Join) = refl
-    same (Some Order) = refl
-
-refusal_once : {A : Type 0} {r q : Refused} → r.rule ≡ q.rule → r.place ≡ q.place → ◌≡◌ {A = Result A Refused} (Err r) (Err q)
-refusal_once n p = λ i. Err (record { rule = n i; place = p i })
 
 part_once : {w : List ℕ} {at : ℕ × ℕ} {x y : Part} (a b : Bor (List ℕ)) → Points w at x a.now a.ref_ptr → Points w at y b.now b.ref_ptr → x ≡ y → a ≡ b
 part_once {w} {at} a b f g e =

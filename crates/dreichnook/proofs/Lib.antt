@@ -1,2 +1,3 @@
+pub mod Operators
 pub mod Handed
 pub mod Once

@@ -45,9 +45,12 @@ const UPPER_MOL_TYPE: usize = 83;
 pub fn is_coding(key: &[u8], kind: Molecule) -> bool
     ensures { NamesCoding key.now kind result }
 {
+    // An arm for each kind, so that an edit can take one alone.
     match kind {
-        Molecule::Dna | Molecule::Rna => same(key, b"CDS"),
-        Molecule::Aa | Molecule::Other => false,
+        Molecule::Dna => same(key, b"CDS"),
+        Molecule::Rna => same(key, b"CDS"),
+        Molecule::Aa => false,
+        Molecule::Other => false,
     }
 }
 

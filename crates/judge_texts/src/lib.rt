@@ -106,8 +106,10 @@ fn judge_residues(s: &[u8], known: Known) -> Fault
 {
     let kind = known.kind;
     let w = read_steps::bytes_of(s, known.residues.from, known.residues.to);
+    // An arm for each kind, so that an edit can take one alone.
     match kind {
-        Molecule::Dna | Molecule::Rna => judge_symbols(w, known, b'n', 10),
+        Molecule::Dna => judge_symbols(w, known, b'n', 10),
+        Molecule::Rna => judge_symbols(w, known, b'n', 10),
         Molecule::Aa => judge_symbols(w, known, b'X', 4),
         Molecule::Other => None,
     }

@@ -116,58 +116,43 @@ turned_facts_lem (many c order ms) h = record { wrong = h.wrong; complemented = 
 pub no_depth : {s : List ℕ} {at top depth : ℕ} (c l : Bool) {r : Option Located} → depth ≡ 0 → Outs s at top (leaf l) r → Outs s at top (read depth c l) r
 no_depth {s} {at} {top} {depth} c l {r} e h = subst (λ (d : ℕ). Outs s at top (read d c l) r) (sym e) h
 
--- behind a word, what the model reads there
-module _ {s : List ℕ} {at : ℕ} (depth : ℕ) (c l : Bool) where
+-- behind a word, what is read there: by `fc` inside a complement, by `fl` each member of a list
+module _ {s : List ℕ} {at : ℕ} (c l : Bool) (fc fl : List ℕ → Got Location) where
   turns : {t : Bool} → There (raw (bytes "complement(")) s at t → t ≡ true → {w : List ℕ} → RestIs s at w → {b : Bool} → c ≡ b
-      → (z : List ℕ) × RestIs s (at + 11) z
-      × (within (read (depth - 1) false l) (read (depth - 1) c false) c l w ≡ cond b (then (read (depth - 1) false l z) close) none)
+      → (z : List ℕ) × RestIs s (at + 11) z × (within fc fl c l w ≡ cond b (then (fc z) close) none)
   turns word e st k =
-      let p = begun (bytes "complement(") word st e in (
-        p.0,
-        p.2,
-        ap (within (read (depth - 1) false l) (read (depth - 1) c false) c l) p.1
-            ∙ ap (λ (b : Bool). cond b (then (read (depth - 1) false l p.0) close) none) k,
-      )
+      let p = begun (bytes "complement(") word st e in
+      (p.0, p.2, ap (within fc fl c l) p.1 ∙ ap (λ (b : Bool). cond b (then (fc p.0) close) none) k)
 
   lists : {x : Opening} → Lists s at (Some x) → {w : List ℕ} → RestIs s at w → {b : Bool} → l ≡ b
-      → (z : List ℕ) × RestIs s x.first z
-      × (within (read (depth - 1) false l) (read (depth - 1) c false) c l w ≡ cond b (gather (read (depth - 1) c false) (operator_of x.operator) z) none)
+      → (z : List ℕ) × RestIs s x.first z × (within fc fl c l w ≡ cond b (gather fl (operator_of x.operator) z) none)
   lists {x} h {w} st k =
       let p = h.says w st in
-      let o = operator_of x.operator in (
-        p.0,
-        p.2,
-        ap (within (read (depth - 1) false l) (read (depth - 1) c false) c l) p.1
-            ∙ within_list (read (depth - 1) false l) (read (depth - 1) c false) c l o p.0
-            ∙ ap (λ (b : Bool). cond b (gather (read (depth - 1) c false) o p.0) none) k,
-      )
+      let o = operator_of x.operator in
+      (p.0, p.2, ap (within fc fl c l) p.1 ∙ within_list fc fl c l o p.0 ∙ ap (λ (b : Bool). cond b (gather fl o p.0) none) k)
 
--- a level that is not the last
-module _ {s : List ℕ} {at top : ℕ} (depth : ℕ) (c l : Bool) (n : depth ≡ 0 → ⊥) where
-  deep : {r : Option Located} → Outs s at top (within (read (depth - 1) false l) (read (depth - 1) c false) c l) r → Outs s at top (read depth c l) r
-  deep {r} h = let e : depth ≡ suc (depth - 1) = omega arith in subst (λ (d : ℕ). Outs s at top (read d c l) r) (sym e) h
-
+module _ {s : List ℕ} {at top : ℕ} (c l : Bool) (fc fl : List ℕ → Got Location) where
   module _ {t : Bool} (word : There (raw (bytes "complement(")) s at t) (e : t ≡ true) where
-    pub comp_not : c ≡ false → Outs s at top (read depth c l) None
-    comp_not k = deep (record { within = tt; says = λ w st. (turns depth c l word e st k).2 })
+    pub comp_not : c ≡ false → Outs s at top (within fc fl c l) None
+    comp_not k = record { within = tt; says = λ w st. (turns c l fc fl word e st k).2 }
 
     -- what is read inside, and `)`
-    comp_by : c ≡ true → (r : Option Located) → out_within s at r
-        → ((z : List ℕ) → RestIs s (at + 11) z → OutSays s top (then (read (depth - 1) false l z) close) r) → Outs s at top (read depth c l) r
-    comp_by k r i f = deep (record { within = i; says = λ w st. let p = turns depth c l word e st k in out_by s top r p.2 (f p.0 p.1) })
+    comp_by : c ≡ true → (r : Option Located) → out_within s at r → ((z : List ℕ) → RestIs s (at + 11) z → OutSays s top (then (fc z) close) r)
+        → Outs s at top (within fc fl c l) r
+    comp_by k r i f = record { within = i; says = λ w st. let p = turns c l fc fl word e st k in out_by s top r p.2 (f p.0 p.1) }
 
-    pub comp_bad : c ≡ true → Outs s (at + 11) top (read (depth - 1) false l) None → Outs s at top (read depth c l) None
+    pub comp_bad : c ≡ true → Outs s (at + 11) top fc None → Outs s at top (within fc fl c l) None
     comp_bad k h = comp_by k None tt (λ z st. ap (λ (g : Got Location). then g close) (h.says z st))
 
-    module _ (k : c ≡ true) {x : Located} (h : Outs s (at + 11) top (read (depth - 1) false l) (Some x)) {u : Bool} (bracket : There (raw (bytes ")")) s x.end u) where
-      pub comp_open : u ≡ false → Outs s at top (read depth c l) None
+    module _ (k : c ≡ true) {x : Located} (h : Outs s (at + 11) top fc (Some x)) {u : Bool} (bracket : There (raw (bytes ")")) s x.end u) where
+      pub comp_open : u ≡ false → Outs s at top (within fc fl c l) None
       comp_open b =
           comp_by k None tt
           (λ z st.
           let m = h.says z st in
           ap (λ (g : Got Location). then g close) m.is ∙ close_else m.value m.rest (not_begun (bytes ")") bracket m.stands b))
 
-      pub comp_good : u ≡ true → Outs s at top (read depth c l) (Some (record { end = x.end + 1; facts = turned_facts x.facts }))
+      pub comp_good : u ≡ true → Outs s at top (within fc fl c l) (Some (record { end = x.end + 1; facts = turned_facts x.facts }))
       comp_good b =
           comp_by k (Some (record { end = x.end + 1; facts = turned_facts x.facts })) (complement_stretch word e h.within bracket b)
           (λ z st.
@@ -183,22 +168,24 @@ module _ {s : List ℕ} {at top : ℕ} (depth : ℕ) (c l : Bool) (n : depth ≡
 
   -- no word
   pub level_leaf : {t : Bool} → There (raw (bytes "complement(")) s at t → t ≡ false → Lists s at None
-      → {r : Option Located} → Outs s at top (leaf l) r → Outs s at top (read depth c l) r
+      → {r : Option Located} → Outs s at top (leaf l) r → Outs s at top (within fc fl c l) r
   level_leaf word e h {r} k =
-      deep
-      (record {
+      record {
         within = k.within;
-        says = λ w st.
-            out_by s top r
-            (within_else (read (depth - 1) false l) (read (depth - 1) c false) c l w (not_begun (bytes "complement(") word st e) (h.says w st))
-            (k.says w st);
-      })
+        says = λ w st. out_by s top r (within_else fc fl c l w (not_begun (bytes "complement(") word st e) (h.says w st)) (k.says w st);
+      }
 
   module _ {x : Opening} (h : Lists s at (Some x)) where
     pub list_by : l ≡ true → (r : Option Located) → out_within s at r
-        → ((z : List ℕ) → RestIs s x.first z → OutSays s top (gather (read (depth - 1) c false) (operator_of x.operator) z) r)
-        → Outs s at top (read depth c l) r
-    list_by k r i f = deep (record { within = i; says = λ w st. let p = lists depth c l h st k in out_by s top r p.2 (f p.0 p.1) })
+        → ((z : List ℕ) → RestIs s x.first z → OutSays s top (gather fl (operator_of x.operator) z) r) → Outs s at top (within fc fl c l) r
+    list_by k r i f = record { within = i; says = λ w st. let p = lists c l fc fl h st k in out_by s top r p.2 (f p.0 p.1) }
 
-    pub list_not : l ≡ false → Outs s at top (read depth c l) None
-    list_not k = deep (record { within = tt; says = λ w st. (lists depth c l h st k).2 })
+    pub list_not : l ≡ false → Outs s at top (within fc fl c l) None
+    list_not k = record { within = tt; says = λ w st. (lists c l fc fl h st k).2 }
+
+-- a level that is not the last
+pub deep : {s : List ℕ} {at top : ℕ} (depth : ℕ) (c l : Bool) {r : Option Located} → (depth ≡ 0 → ⊥)
+    → Outs s at top (within (read (depth - 1) false l) (read (depth - 1) c false) c l) r → Outs s at top (read depth c l) r
+deep {s} {at} {top} depth c l {r} n h =
+    let e : depth ≡ suc (depth - 1) = omega arith in
+    subst (λ (d : ℕ). Outs s at top (read d c l) r) (sym e) h

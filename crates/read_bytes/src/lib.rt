@@ -9,7 +9,16 @@ ghost use Rattle.read_bytes.specs.Numbers.{LowFirst, flag};
 pub fn begins(s: &[u8], at: usize, x: &[u8]) -> bool
     ensures { There x.now s.now at result }
 {
-    at <= s.len() && s[at..].starts_with(x)
+    if s.len() < at || s.len() - at < x.len() {
+        return false;
+    }
+    // By index, so that it is compiled into its callers: `starts_with` was tried, and isn't.
+    for i in 0..x.len() {
+        if s[at + i] != x[i] {
+            return false;
+        }
+    }
+    true
 }
 
 // Two bytes as one number, the first lowest.

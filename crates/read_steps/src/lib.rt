@@ -161,7 +161,8 @@ pub fn word(s: &[u8], st: Step, x: &[u8]) -> Step
 pub fn is_blank(b: u8) -> bool
     ensures { result ≡ is_blank b }
 {
-    b <= b' ' && (b == b' ' || b == b'\t' || b == b'\r' || b == b'\n')
+    // One test of a bit: comparisons joined by `||` put the blank that is met most last.
+    matches!(b, b' ' | b'\t' | b'\r' | b'\n')
 }
 
 // Any blanks.

@@ -20,7 +20,7 @@ use Rattle.value_words.proofs.Tests.{spread}
 abbrev value : ℕ → ℕ → ℕ
 value a b = (a - code "0") * 10 + (b - code "0")
 
-two_value : (a b : ℕ) → is_digit a ≡ true → is_digit b ≡ true → two_digits a b ≡ Some (value a b)
+pub two_value : (a b : ℕ) → is_digit a ≡ true → is_digit b ≡ true → two_digits a b ≡ Some (value a b)
 two_value a b p q = rw (p, q) refl
 
 two_some : (a b : ℕ) {n : ℕ} → two_digits a b ≡ Some n → (is_digit a ≡ true) × (is_digit b ≡ true) × (n ≡ value a b)

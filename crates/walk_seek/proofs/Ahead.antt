@@ -1,5 +1,5 @@
 -- The item of a number: what is left of the list at the place that the loop has reached, and how many of it are still to be passed.
-use Prim.Native.Nat.{ℕ, zero, suc}
+use Prim.Native.Nat.{ℕ, zero, suc, ◌≤◌}
 use native.Mathlib.Omega.{arith}
 use mathlib.Core.Path.{◌≡◌, refl, subst}
 use mathlib.Core.Bool.{Bool, true, false}
@@ -114,4 +114,14 @@ module _ (item : Item) {s : List ℕ} {first k : ℕ} where
                 stands = from (over.is i.item i.end i.here i.follows) i.behind;
                 same = λ x. let f = further i.is less x in (λ y. f.0 ((r.same x).0 y), λ y. (r.same x).1 (f.1 y));
               };
+        }
+
+    -- an item is never empty
+    pub ahead_stuck : {n : ℕ} → t ≡ true → Over (form_of item) (Not is_blank) s at n → n ≤ at → Seeks item s first k None
+    ahead_stuck h over stuck =
+        record {
+          says =
+              λ l e d fol.
+              let i = first_item h l e d fol in
+              absurd (omega (arith, stuck, i.onward, over.is i.item i.end i.here i.follows));
         }

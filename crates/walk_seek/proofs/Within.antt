@@ -20,7 +20,7 @@ use Rattle.walk_seek.specs.Items.{PlaceIs, SeeksIn}
 use Rattle.walk_seek.specs.Within.{FeatureFound, QualifierFound}
 
 -- what is promised of a place, of the variant that it is
-placed : {A : Type 0} {F : A → Form} {s : List ℕ} {first k : ℕ} {r p : rust.Option ℕ} → r ≡ p → SeeksIn F s first k r → SeeksIn F s first k p
+pub placed : {A : Type 0} {F : A → Form} {s : List ℕ} {first k : ℕ} {r p : rust.Option ℕ} → r ≡ p → SeeksIn F s first k r → SeeksIn F s first k p
 placed {F = F} {s} {first} {k} h x = subst (SeeksIn F s first k) h x
 
 -- ---- a feature

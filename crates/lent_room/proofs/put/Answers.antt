@@ -1,21 +1,32 @@
--- What the room's part was copied over is the room with the text stored in it.
-use Prim.Native.Nat.{◌+◌, ◌-◌}
+use Prim.Native.Nat.{ℕ, ◌+◌}
 use native.Mathlib.Omega.{arith}
-use mathlib.Core.Path.{◌≡◌, sym, ap, ◌∙◌}
-use mathlib.Core.List.{List, ◌++◌, append_assoc}
-use Prim.Native.Nat.{ℕ}
-use lib.ListN.{length, take, drop}
-use lib.Seq.{sets-eq, drop-drop}
+use mathlib.Core.Path.{refl, ap, ◌∙◌}
+use mathlib.Core.List.{List}
+use lib.ListN.{length, take, set, get_or}
+use lib.Seq.{sets, length-sets, take_all}
+use Rattle.lent_room.proofs.Leaves.{sets_more}
 use Rattle.lent_room.proofs.put.Goals as goal
 
-pub returns-then-n-gt0 : goal.returns-then-n-gt0
-returns-then-n-gt0 c =
+pub loop-i-init : goal.loop-i-init
+loop-i-init c = (omega arith, refl)
+
+pub overflow_add-room : goal.overflow_add-room
+overflow_add-room c = omega (arith, c.requires)
+
+pub bounds-room-at : goal.bounds-room-at
+bounds-room-at c =
+    omega
+    (arith, ap length c.loop-i.invariant.1, length-sets c.args.room.now c.args.at (take c.loop-i.i c.args.text.now), c.requires)
+
+pub loop-i-preserved : goal.loop-i-preserved
+loop-i-preserved c =
     let text = c.args.text.now in
-    let room = c.args.room.now in
-    let at = c.args.at in
-    let n : at + length text - at ≡ length text = omega arith in
-    ap (λ (z : List ℕ). take at room ++ (z ++ drop (at + length text - at) (drop at room))) c.copy_from_slice.ensures.after
-    ∙ ap (λ (k : ℕ). take at room ++ (text ++ drop k (drop at room))) n
-    ∙ ap (λ (z : List ℕ). take at room ++ (text ++ z)) (drop-drop (length text) at room)
-    ∙ sym (append_assoc (take at room) text (drop (at + length text) room))
-    ∙ sym (sets-eq text room at (omega (arith, c.requires, c.if-n-gt0.true)))
+    (omega arith, ap (λ (z : List ℕ). set z (c.args.at + c.loop-i.i) (get_or text c.loop-i.i 0)) c.loop-i.invariant.1 ∙ sets_more text c.args.room.now c.args.at c.loop-i.i c.loop-i-test.true)
+
+pub shape_of-room : goal.shape_of-room
+shape_of-room c =
+    ap length c.loop-i.invariant.1 ∙ length-sets c.args.room.now c.args.at (take c.loop-i.i c.args.text.now)
+
+pub returns : goal.returns
+returns c =
+    c.loop-i.invariant.1 ∙ ap (sets c.args.room.now c.args.at) (take_all c.loop-i.i c.args.text.now c.loop-i-test.false)

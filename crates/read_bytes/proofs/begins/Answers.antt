@@ -1,21 +1,23 @@
 -- `read_bytes::begins` meets its contract.
-use mathlib.Core.Path.{sym, ap, ◌∙◌}
-use mathlib.Core.Bool.{true≢false}
-use lib.ListN.{length, take, drop, length-drop}
-use lib.Seq.{take-length}
 use native.Mathlib.Omega.{arith}
-use Rattle.std.proofs.lemmas.Bool.Decides.{Decides-eqb}
-use Rattle.std.proofs.lemmas.Slice.Eq.{starts_is}
-use Rattle.read_bytes.proofs.Words.{stands_here}
+use mathlib.Core.Path.{subst}
+use Rattle.read_bytes.proofs.Words.{Alike, alike_none, alike_next, alike_stands, stands_alike, is_there_lem, not_there}
 use Rattle.read_bytes.proofs.begins.Goals as goal
 
-pub returns-then-at-s : goal.returns-then-at-s
-returns-then-at-s c =
-    let x = c.args.x.now in
-    let t = drop c.args.at c.args.s.now in
-    let whole = ap (λ n. take n t) (sym (length-drop c.args.at c.args.s.now)) ∙ take-length t in
-    let k = starts_is Decides-eqb t x _ (rw whole at c.starts_with.ensures.value) in
-    record {
-      yes = λ e. stands_here (omega arith) (drop (length x) t) (k.0 e);
-      no = λ e h. absurd (true≢false (sym (k.1 _ h.here) ∙ e));
-    }
+pub returns-then-s-at : goal.returns-then-s-at
+returns-then-s-at c = not_there (λ h. absurd (omega (arith, h.inside)))
+
+pub loop-i-init : goal.loop-i-init
+loop-i-init c = (omega arith, alike_none c.args.x.now c.args.s.now c.args.at)
+
+pub returns-then-s-at-3 : goal.returns-then-s-at-3
+returns-then-s-at-3 c = not_there (λ h. c.if-s-at-3.true (stands_alike h c.loop-i.i (omega arith)))
+
+pub loop-i-preserved : goal.loop-i-preserved
+loop-i-preserved c = (omega arith, alike_next c.args.x.now c.args.s.now c.args.at c.loop-i.invariant.1 c.if-s-at-3.false)
+
+pub returns : goal.returns
+returns c =
+    let X = c.args.x.now in
+    let S = c.args.s.now in
+    is_there_lem (alike_stands X S c.args.at (omega arith) (subst (Alike X S c.args.at) (omega arith) c.loop-i.invariant.1))
