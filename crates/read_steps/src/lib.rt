@@ -161,8 +161,14 @@ pub fn word(s: &[u8], st: Step, x: &[u8]) -> Step
 pub fn is_blank(b: u8) -> bool
     ensures { result ≡ is_blank b }
 {
-    // One test of a bit: comparisons joined by `||` put the blank that is met most last.
-    matches!(b, b' ' | b'\t' | b'\r' | b'\n')
+    // An arm for each, which is compiled to one test of a bit; joined by `|` or `||` they are compared in turn.
+    match b {
+        b' ' => true,
+        b'\t' => true,
+        b'\r' => true,
+        b'\n' => true,
+        _ => false,
+    }
 }
 
 // Any blanks.
